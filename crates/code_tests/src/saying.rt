@@ -1,10 +1,10 @@
 //! What is said of each code, and of what is none.
 
 use std::alloc::Global;
-use ycodes::{
+use ybase_output::Cut;
+use ysay_codes::{
     all_explanations, explain, explanations, first_unknown, write_explanation, write_reason,
 };
-use youtput::Cut;
 
 // Whether that is written of a code, through a sink that takes so many bytes a call.
 fn says(alloc: Global, code: &str, bytes_per_call: usize, wanted: &str) -> Option<bool> {

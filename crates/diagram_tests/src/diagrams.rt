@@ -1,10 +1,10 @@
 //! Diagrams of modules.
 
 use std::alloc::Global;
+use ybase_output::Cut;
 use ydiagram::{DiagramFault, write};
-use ymodel::Schema;
-use youtput::Cut;
 use yschema::compile;
+use yschema_model::Schema;
 use ytext::parse;
 
 const NETWORK: &str = "module ex-net {

@@ -2,8 +2,8 @@
 
 use crate::diagrams::schema_of;
 use std::alloc::Global;
+use ybase_output::Cut;
 use ydiagram::write;
-use youtput::Cut;
 
 const BEGINNING: &str = "module m {
   yang-version 1.1;

@@ -4,7 +4,7 @@ use crate::building::{schema_of, with_line_feeds};
 use crate::compiling::comes_of;
 use crate::telling::number_of;
 use std::alloc::{AllocError, Global};
-use ymodel::Schema;
+use yschema_model::Schema;
 
 // A module of these statements, the first of which stands in line 3, after an import of another one where that is named.
 fn module_of(

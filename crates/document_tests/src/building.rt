@@ -1,8 +1,8 @@
 //! Modules from their texts, and their schema; nothing where memory runs out or one of them is refused.
 
 use std::alloc::{AllocError, Global};
-use ymodel::Schema;
 use yschema::compile;
+use yschema_model::Schema;
 use ytext::{Module, TextFault, parse};
 
 /// The modules of texts, without those that are refused. Nothing for want of memory.

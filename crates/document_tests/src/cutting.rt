@@ -5,7 +5,7 @@ use crate::telling::{is_refusal, is_refusal_of_document, is_text};
 use std::alloc::{AllocError, Global};
 use test_modules::NETWORK;
 use yinst::{Edit, EditFault, Tree, apply, read};
-use ymodel::Schema;
+use yschema_model::Schema;
 use ytext::{TextFault, parse};
 
 // Whether the text of a module isn't closed: a string in it (L3), or a statement (L6).

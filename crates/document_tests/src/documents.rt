@@ -5,7 +5,7 @@ use crate::telling::is_text;
 use std::alloc::Global;
 use test_modules::{MODULE, NETWORK};
 use yinst::{DocFault, read, write};
-use ymodel::Schema;
+use yschema_model::Schema;
 
 fn is_text_of(alloc: Global, schema: &Schema, document: &str, text: &str) -> Option<bool> {
     match read(alloc, schema, document.as_bytes()) {

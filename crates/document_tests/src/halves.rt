@@ -5,7 +5,7 @@ use crate::telling::{is_refusal, is_text, number_of};
 use std::alloc::{AllocError, Global};
 use test_modules::{MODULE, NETWORK};
 use yinst::{Bound, Edit, part};
-use ymodel::{Schema, SchemaId};
+use yschema_model::{Schema, SchemaId};
 
 // The numbers of the schema nodes that a path means, from the top on.
 fn numbers_text(alloc: Global, bound: &Bound<'_>) -> Result<String, AllocError> {

@@ -4,7 +4,7 @@ use crate::building::schema_of;
 use crate::telling::is_text;
 use std::alloc::{AllocError, Global};
 use test_modules::{DEFAULT_CASE, ENTRIES, NETWORK, STATE};
-use ymodel::{Absence, Amount, Kind, LeafType, Schema, SchemaId, SchemaNode, Tuples};
+use yschema_model::{Absence, Amount, Kind, LeafType, Schema, SchemaId, SchemaNode, Tuples};
 
 // Nodes of state that ask for something, beside a mandatory leaf of configuration.
 const ASKING: &str = "module s {

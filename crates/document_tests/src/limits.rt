@@ -5,7 +5,7 @@ use crate::telling::{is_refusal, is_refusal_of_document, number_of};
 use std::alloc::{AllocError, Global};
 use test_modules::STATE;
 use yinst::{Edit, EditFault, Tree, apply, read};
-use ymodel::Schema;
+use yschema_model::Schema;
 
 // A container with an item, and with so many more of the same value.
 fn document(alloc: Global, more: u32) -> Result<String, AllocError> {

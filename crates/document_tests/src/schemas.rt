@@ -4,7 +4,7 @@ use crate::building::schema_of;
 use crate::telling::number_of;
 use std::alloc::Global;
 use test_modules::{FIRST, SECOND};
-use ymodel::{Absence, Child, Children, Kind, Schema, SchemaId};
+use yschema_model::{Absence, Child, Children, Kind, Schema, SchemaId};
 
 // Whether that is the node of a number, or none for `-`.
 fn is_node(found: Option<SchemaId>, wanted: &str) -> Option<bool> {

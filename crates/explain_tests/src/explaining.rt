@@ -3,11 +3,11 @@
 use crate::module::{ADDED, NET};
 use std::alloc::{AllocError, Global};
 use ycheck::{Fault, faults};
-use yexplain::explanation_of;
-use ymodel::Schema;
+use yinst_tree::{Tree, read};
+use ysay_fault::explanation_of;
 use yschema::compile;
+use yschema_model::Schema;
 use ytext::{Module, parse};
-use ytree::{Tree, read};
 
 fn modules_of(alloc: Global) -> Option<Vec<Module>> {
     let mut modules = Vec::new(alloc);

@@ -3,9 +3,9 @@
 use crate::explaining::schema_of;
 use std::alloc::{AllocError, Global};
 use ycheck::{Fault, faults};
-use yformat::{json_count, json_line};
-use ymodel::Schema;
-use ytree::{Tree, read};
+use yinst_tree::{Tree, read};
+use ysay_json::{json_count, json_line};
+use yschema_model::Schema;
 
 fn all_lines(
     alloc: Global,

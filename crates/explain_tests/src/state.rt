@@ -2,12 +2,12 @@
 
 use crate::explaining::schema_of;
 use std::alloc::Global;
+use ybase_output::Cut;
 use ycheck::{Fault, FaultCode, Info, write_line};
-use yexplain::explanation_of;
-use yformat::json_line;
-use ymodel::{Schema, SchemaId};
-use youtput::Cut;
-use ytree::{Step, read};
+use yinst_tree::{Step, read};
+use ysay_fault::explanation_of;
+use ysay_json::json_line;
+use yschema_model::{Schema, SchemaId};
 
 // `NAME` as it is written there, or `NAME[POSITION]`.
 fn step_of(schema: &Schema, parent: Option<SchemaId>, word: &str) -> Option<Step> {

@@ -3,10 +3,10 @@
 use crate::explaining::all_explained;
 use std::alloc::Global;
 use ycheck::faults;
-use ymodel::Schema;
+use yinst_tree::read;
 use yschema::compile;
+use yschema_model::Schema;
 use ytext::parse;
-use ytree::read;
 
 const FRONT: &str = "module t {
   yang-version 1.1; namespace \"urn:t\"; prefix t;

@@ -2,10 +2,10 @@
 
 use crate::explaining::schema_of;
 use std::alloc::Global;
+use ybase_output::Cut;
 use ycheck::faults;
-use yexplain::{ExplanationFault, write_fault_explanation};
-use youtput::Cut;
-use ytree::read;
+use yinst_tree::read;
+use ysay_fault::{ExplanationFault, write_fault_explanation};
 
 const DOCUMENT: &str = r#"{"net:host":[{"name":"b"}]}"#;
 

@@ -2,15 +2,15 @@
 
 use std::alloc::Global;
 use test_modules::{DEFAULT_CASE, ENTRIES, MODULE, NETWORK, STATE};
-use yfacts::{
+use yinst_tree::read;
+use ylive_facts::{
     InPlay, child_over, flag_count, in_play, in_play_over, judged_of, keys_of, own_value_of,
 };
-use ymodel::{Schema, SchemaId};
 use yschema::compile;
-use yshape::{copy_part, store_of_tree};
+use yschema_model::{Schema, SchemaId};
 use ystore::{Counted, Judged, Key, NodeId, Nodes, Row};
+use ystore_tree::{copy_part, store_of_tree};
 use ytext::parse;
-use ytree::read;
 
 // A `leafref` with its target; an `item` with its leaf-list; a `tuple` with its list, its number and its length; `texts` with
 // their list, and each of them.

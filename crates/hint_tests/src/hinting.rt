@@ -1,7 +1,7 @@
 //! The lines that are told, which words are near to one another, and what is said of statements.
 
 use std::alloc::Global;
-use yhint::{is_near, is_unread, line_sentence, nearest, nearest_word, shown_line};
+use ysay_text::{is_near, is_unread, line_sentence, nearest, nearest_word, shown_line};
 use ytext::parse;
 
 // `WORD|WORD|DISTANCE`: so many edits lead from the first to the second, and no fewer; 3 stands for any more

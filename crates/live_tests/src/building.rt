@@ -4,8 +4,8 @@ use std::alloc::Global;
 use test_modules::MODULE;
 use yinst::read;
 use ylive::Live;
-use ymodel::Schema;
 use yschema::compile;
+use yschema_model::Schema;
 use ytext::{Module, TextFault, parse};
 
 /// The modules of texts, without those that are refused. Nothing for want of memory.

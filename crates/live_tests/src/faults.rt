@@ -6,7 +6,7 @@ use std::alloc::{AllocError, Global};
 use test_modules::{MODULE, STATE};
 use ycheck::{Fault, faults};
 use yinst::{Tree, read};
-use ymodel::Schema;
+use yschema_model::Schema;
 
 fn are_lines_of(alloc: Global, schema: &Schema, tree: &Tree, lines: &str) -> Option<bool> {
     match faults(alloc, schema, tree) {

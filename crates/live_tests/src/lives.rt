@@ -5,9 +5,9 @@ use crate::telling::{have_lines, is_refusal, is_text, number_of};
 use std::alloc::Global;
 use test_modules::MODULE;
 use ycheck::Fault;
-use yedits::{CheckFault, check_edits};
 use yinst::{DocFault, Edit, EditFault, NamedStep, Path, Predicate, write};
 use ylive::{Applied, ListFault, Live, Outcome, Refused};
+use ylive_whole::{CheckFault, check_edits};
 use yschema::CompileFault;
 
 /// A document with one fault.

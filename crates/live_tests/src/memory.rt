@@ -14,7 +14,7 @@ use std::alloc::Global;
 use test_modules::{MODULE, NETWORK};
 use yinst::{Edit, read, write};
 use ylive::{ListFault, Live, Refused, StopCode, Stopped};
-use ymodel::Schema;
+use yschema_model::Schema;
 
 // `text => faults`: whether a document has both.
 fn is_in(alloc: Global, live: &Live, state: &str) -> Option<bool> {

@@ -3,7 +3,7 @@
 use std::alloc::{AllocError, Global};
 use ycheck::{Fault, write_line};
 use yinst::EditFault;
-use ymodel::Schema;
+use yschema_model::Schema;
 use ytext::Cut;
 
 pub(crate) fn number_of(digits: &str) -> Option<u32> {

@@ -2,9 +2,9 @@
 
 use crate::modules::{LINES, schema_of};
 use std::alloc::Global;
-use ymember::{said_of_edit, said_of_line};
-use ymodel::Schema;
-use ypath::{Edit, EditCode, EditFault};
+use yinst_path::{Edit, EditCode, EditFault};
+use ysay_refusal::{said_of_edit, said_of_line};
+use yschema_model::Schema;
 
 // `LINE => SENTENCE`, with no sentence where nothing is said; each line spells an edit, which is refused with this code.
 fn is_said(alloc: Global, schema: &Schema, code: EditCode, row: &str) -> Option<bool> {

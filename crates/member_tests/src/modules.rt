@@ -1,8 +1,8 @@
 //! The modules of the documents and edits, and their schemas.
 
 use std::alloc::Global;
-use ymodel::Schema;
 use yschema::compile;
+use yschema_model::Schema;
 use ytext::parse;
 
 /// A host with items, entries and a choice, and links.

@@ -2,9 +2,9 @@
 
 use crate::modules::host_schema;
 use std::alloc::Global;
+use ybase_output::Cut;
 use ycheck::write_path;
-use youtput::Cut;
-use yrepeated::{first_repeated, has_repeated};
+use ysay_repeated::{first_repeated, has_repeated};
 
 // `DOCUMENT => PATH` with the path of the first member that the document gives twice, or `-`.
 fn is_told(alloc: Global, row: &str) -> Option<bool> {

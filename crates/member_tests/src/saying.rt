@@ -2,8 +2,8 @@
 
 use crate::modules::host_schema;
 use std::alloc::Global;
-use ymember::said_of_refusal;
-use ytree::{DocFault, read};
+use yinst_tree::{DocFault, read};
+use ysay_refusal::said_of_refusal;
 
 // `DOCUMENT => SENTENCE`, with no sentence where nothing is said.
 fn is_said(alloc: Global, row: &str) -> Option<bool> {

@@ -1,10 +1,10 @@
 -- From the run of any files to that of known ones.
 use Rattle.std.proofs.Common.{◌≡◌, inl, inr, Bool, false, ℕ, List, [], ◌∷◌, codes, Some, None, refl, sym, subst, ap, ◌∙◌, arith}
-use Rattle.yprogram.specs.Output.{Besides, Outcome, Request, files_of, outcome, plainly, printed_with, validate}
-use Rattle.youtput.specs.Writing.{Side}
+use Rattle.yspec_run.specs.Output.{Besides, Outcome, Request, files_of, outcome, plainly, printed_with, validate}
+use Rattle.ybase_output.specs.Writing.{Side}
 use Rattle.clap.proofs.OnLiterals.{clap_on_literals}
-use Rattle.ycommand.specs.Command.{asks_reasons, refusals, request_of}
-use Rattle.ycommand.specs.Running.{Brings, End}
+use Rattle.yapp_words.specs.Command.{asks_reasons, refusals, request_of}
+use Rattle.yapp_words.specs.Running.{Brings, End}
 use Rattle.yapp.specs.Files.{Answered, Contents, FileAnswers, IsOutcome, Store, WereRead, unread_in}
 use Rattle.program_tests.specs.Known.{IsKnown, contents_in, told_in, validate_words}
 use Rattle.yspec.specs.text.Text.{Text}

@@ -1,9 +1,9 @@
 -- Files whose contents are known, and what checking a document of them comes to.
 use Rattle.std.specs.Prelude.{◌≡◌, ◌⊎◌, ℕ, List, [], ◌∷◌, codes, Option, Some, if◌then◌else◌}
 use Rattle.std.specs.Str.{bytes_eq}
-use Rattle.yprogram.specs.Output.{Outcome, outcome, plainly, validate}
+use Rattle.yspec_run.specs.Output.{Outcome, outcome, plainly, validate}
 use Rattle.yspec.specs.text.Text.{Text}
-use Rattle.ycommand.specs.Running.{without_memory}
+use Rattle.yapp_words.specs.Running.{without_memory}
 
 -- what the first file of a name contains, of files with these names and contents
 abbrev pub contents_in : List Text → List (List ℕ) → Text → List ℕ

@@ -4,7 +4,7 @@
 use crate::modules::module_of;
 use crate::running::{NamedFile, file, shown_of};
 use std::alloc::Global;
-use ycodes::explain;
+use ysay_codes::explain;
 
 /// Whether something is said of a code.
 fn is_known(code: &str) -> bool {

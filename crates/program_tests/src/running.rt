@@ -1,9 +1,9 @@
 //! One run of the program, and what it left.
 
 ghost use Rattle.std.specs.Prelude.{◌≡◌, IfOk, false, map, string_bytes};
-ghost use Rattle.yprogram.specs.Output.{Besides, Outcome, printed_with};
-ghost use Rattle.youtput.specs.Writing.{side};
-ghost use Rattle.ycommand.specs.Running.{Brings};
+ghost use Rattle.yspec_run.specs.Output.{Besides, Outcome, printed_with};
+ghost use Rattle.ybase_output.specs.Writing.{side};
+ghost use Rattle.yapp_words.specs.Running.{Brings};
 ghost use Rattle.yapp.specs.Saving.{end_of};
 ghost use Rattle.program_tests.specs.Known.{IsKnown, contents_in, told_in, validate_words};
 

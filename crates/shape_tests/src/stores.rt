@@ -2,12 +2,12 @@
 
 use std::alloc::Global;
 use test_modules::{ENTRIES, MODULE, NETWORK, STATE};
-use ymodel::{Schema, SchemaId};
+use yinst_tree::{Tree, read, write};
 use yschema::compile;
-use yshape::{copy_tree, insert_part, remove_nodes, store_of_tree};
+use yschema_model::{Schema, SchemaId};
 use ystore::{Counted, NodeId, Nodes, Row};
+use ystore_tree::{copy_tree, insert_part, remove_nodes, store_of_tree};
 use ytext::parse;
-use ytree::{Tree, read, write};
 
 pub(crate) fn schema_of(alloc: Global, text: &str) -> Option<Schema> {
     let mut modules = Vec::new(alloc);

@@ -2,7 +2,7 @@
 
 use std::alloc::Global;
 use ycheck::FaultCode;
-use ymodel::SchemaId;
+use yschema_model::SchemaId;
 use ystore::{Counted, Judged, Key, Label, NodeId, Nodes, Row, Told, kept_loans, same_keys};
 use ytype::{Raw, Val, YType};
 

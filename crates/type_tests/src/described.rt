@@ -5,10 +5,10 @@
 use std::alloc::Global;
 use std::collections::BTreeSet;
 use std::rc::Rc;
-use ynumber::enum_names;
 use ytype::{
     Bound, ErrorText, FractionDigits, Identities, Naming, NarrowFault, Restriction, Span, YType,
 };
+use ytype_numbers::enum_names;
 
 /// A type, or why there is none.
 pub(crate) type Narrowed = Result<YType, NarrowFault>;

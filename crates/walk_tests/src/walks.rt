@@ -3,12 +3,12 @@
 use std::alloc::Global;
 use test_modules::{DEFAULT_CASE, ENTRIES, MODULE, NETWORK, STATE};
 use ycheck::{Fault, Info, LentInfo};
-use ylist::{Seen, Walk};
+use yinst_path::Edit;
+use yinst_tree::{Step, read};
 use ylive::Live;
-use ypath::Edit;
+use ylive_list::{Seen, Walk};
 use yschema::compile;
 use ytext::parse;
-use ytree::{Step, read};
 
 fn is_app_tag(seen: Option<&str>, app_tag: &Option<String>) -> bool {
     match (seen, app_tag) {

@@ -7,7 +7,7 @@ use Rattle.std.proofs.lemmas.List.{append-nil, length-append, length-map, map-ap
 use Rattle.yspec.specs.Forest.{Forest, end, node, join}
 use Rattle.yspec.specs.text.Statement.{Statement, Slip, module_of}
 use Rattle.yspec.specs.text.Text.{Text}
-use Rattle.yprogram.specs.Output.{Outcome, Request, files_of, found_of, performed, with_files, with_module, with_modules}
+use Rattle.yspec_run.specs.Output.{Outcome, Request, files_of, found_of, performed, with_files, with_module, with_modules}
 use Rattle.yspec.proofs.ForestLemmas.{join_end, join_assoc}
 use Rattle.ytext.specs.View.{view, modules_view}
 use Rattle.ytext.specs.declared.statement.Module.{Module}

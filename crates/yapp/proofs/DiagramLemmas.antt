@@ -1,7 +1,7 @@
 -- The diagrams that are left behind one.
 use Rattle.std.proofs.Common.{◌≡◌, ℕ, suc, ◌+◌, ◌-◌, ◌<◌, ◌++◌, ap, ◌∙◌, arith}
 use Rattle.yspec.specs.schema.Schema.{Schema}
-use Rattle.yprogram.specs.Output.{diagrams_from, placed_diagram}
+use Rattle.yspec_run.specs.Output.{diagrams_from, placed_diagram}
 
 pub one_left : (s : Schema) (k n : ℕ) → k < n → diagrams_from s k (n - k) ≡ placed_diagram s k ++ diagrams_from s (k + 1) (n - (k + 1))
 one_left s k n less =

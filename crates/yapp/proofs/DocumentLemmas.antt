@@ -14,16 +14,16 @@ use Rattle.yspec.specs.edit.Editing as editing
 use Rattle.yspec.specs.edit.Editing.{Decision, after}
 use Rattle.yspec.specs.edit.Live as live
 use Rattle.yspec.specs.document.StateData.{Inspected, inspected}
-use Rattle.yrepeated.specs.Repeated.{repeated_in}
-use Rattle.yprogram.specs.Output.{Options, Outcome, SavedFile, left, nothing, plainly, repeated_document, report, saved_by, text_instead, text_parts, unless_repeated}
-use Rattle.yprogram.specs.Part.{Part}
+use Rattle.ysay_repeated.specs.Repeated.{repeated_in}
+use Rattle.yspec_run.specs.Output.{Options, Outcome, SavedFile, left, nothing, plainly, repeated_document, report, saved_by, text_instead, text_parts, unless_repeated}
+use Rattle.yspec_run.specs.Part.{Part}
 use Rattle.yspec.proofs.EditProofs.FittingEditLemmas.{edits_whole}
 use Rattle.yspec.proofs.EditProofs.LimitLemmas.{edits_within}
 use Rattle.ycheck.specs.View.{view, views}
 use Rattle.ycheck.specs.declared.fault.Fault.{Fault}
-use Rattle.ymodel.specs.View as schema_view
-use Rattle.ymodel.specs.declared.schema.Schema.{Schema}
-use Rattle.ymodel.proofs.CallerLemmas.{names_differ, numbered}
+use Rattle.yschema_model.specs.View as schema_view
+use Rattle.yschema_model.specs.declared.schema.Schema.{Schema}
+use Rattle.yschema_model.proofs.CallerLemmas.{names_differ, numbered}
 use Rattle.yapp.specs.Asked.{IsScript, Line, refused_part, refused_parts, told_from}
 use Rattle.ylive.specs.Answers.{after_edits}
 use Rattle.yapp.specs.Edited.{IsEdited, IsOf, IsRun, IsSound, IsWhole, live_of, refused_in, refused_of, schema_of, tree_of}

@@ -9,14 +9,14 @@ use Rattle.yspec.specs.schema.Schema.{Schema}
 use Rattle.yspec.specs.document.Document.{Tree}
 use Rattle.yspec.specs.document.Fault.{Fault}
 use Rattle.yspec.specs.document.Faults.{line_of}
-use Rattle.yexplain.specs.Sentences.{explained_fault}
-use Rattle.ymodel.specs.View as schema_view
-use Rattle.ytree.specs.View.{tree_view}
+use Rattle.ysay_fault.specs.Sentences.{explained_fault}
+use Rattle.yschema_model.specs.View as schema_view
+use Rattle.yinst_tree.specs.View.{tree_view}
 use Rattle.ycheck.specs.View.{views}
-use Rattle.youtput.specs.Writing.{Side, Writes}
-use Rattle.youtput.proofs.WritingLemmas.{writes_same}
-use Rattle.yprogram.specs.Output.{fault_part, printed, report}
-use Rattle.yprogram.specs.Part.{count_part, plain, spelled, spelled_part}
+use Rattle.ybase_output.specs.Writing.{Side, Writes}
+use Rattle.ybase_output.proofs.WritingLemmas.{writes_same}
+use Rattle.yspec_run.specs.Output.{fault_part, printed, report}
+use Rattle.yspec_run.specs.Part.{count_part, plain, spelled, spelled_part}
 use Rattle.yspec.specs.edit.Live.{fault_count, faults_in}
 use Rattle.yapp.specs.Edited.{live_of}
 use Rattle.yapp.specs.Explained.{HasNoDocument, IsExplained, explained_line, explained_lines, explanations_due, explanations_in, fault_lines}

@@ -4,8 +4,8 @@ use Rattle.std.specs.Prelude.{◌==◌, if◌then◌else◌, slice_get, unwrap_o
 use Rattle.yspec.specs.Forest.{end}
 use Rattle.ytext.specs.View.{modules_view}
 use Rattle.ytext.specs.declared.statement.Module.{Module}
-use Rattle.yhint.specs.Sentence.{of_line}
-use Rattle.yprogram.specs.Hint.{module_at, statement_hint}
+use Rattle.ysay_text.specs.Sentence.{of_line}
+use Rattle.yspec_run.specs.Hint.{module_at, statement_hint}
 
 pub module_found : (ms : List Module) (n : ℕ) (m : Module) → slice_get ms n ≡ Some m → module_at n (modules_view ms) ≡ modules_view (m ∷ [])
 module_found [] n m e = absurd cc

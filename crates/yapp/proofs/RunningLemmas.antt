@@ -1,16 +1,16 @@
 -- A run that writes to one side alone.
 use Rattle.std.proofs.Common.{◌≡◌, inl, inr, codes, ℕ, Bool, true, false, List, [], ◌∷◌, ◌++◌, ap, ap₂, sym, ◌∙◌, refl, subst, append_assoc, length, take}
-use Rattle.yprogram.specs.Output.{Aside, Besides, Outcome, Printed, Request, SavedFile, as_json_of, aside_where, found_of, nothing, object_parts, outcome, printed, printed_with, told_too}
+use Rattle.yspec_run.specs.Output.{Aside, Besides, Outcome, Printed, Request, SavedFile, as_json_of, aside_where, found_of, nothing, object_parts, outcome, printed, printed_with, told_too}
 use Rattle.std.proofs.lemmas.List.{append-nil}
-use Rattle.yprogram.specs.Part.{Part, plain, spelled, spelled_part}
+use Rattle.yspec_run.specs.Part.{Part, plain, spelled, spelled_part}
 use Rattle.std.specs.Prelude.{Result, Ok, Err, IsErr, is_ok, if◌then◌else◌}
-use Rattle.youtput.specs.Writing.{Broke, Side, Writes, Wrote}
-use Rattle.ycommand.specs.Running.{Brings, End, Ends, WritesBoth, broken, ended, memory_told, well, with_status, without_memory}
+use Rattle.ybase_output.specs.Writing.{Broke, Side, Writes, Wrote}
+use Rattle.yapp_words.specs.Running.{Brings, End, Ends, WritesBoth, broken, ended, memory_told, well, with_status, without_memory}
 use Rattle.std.specs.Prelude.{Option, Some, None, decimal, option_map}
 use Rattle.std.specs.Option.{option_map_or}
-use Rattle.yprogram.specs.Script.{telling_code}
-use Rattle.yprogram.specs.RefusalData.{object_line}
-use Rattle.yformat.specs.RefusalData.{Refused, refused_text}
+use Rattle.yspec_run.specs.Script.{telling_code}
+use Rattle.yspec_run.specs.RefusalData.{object_line}
+use Rattle.ysay_json.specs.RefusalData.{Refused, refused_text}
 use Rattle.yspec.specs.text.Text.{Text}
 use Rattle.yapp.specs.Asked.{refusal_of, value_number}
 use Rattle.yapp.specs.declared.script.Refusal.{Refusal}
@@ -23,7 +23,7 @@ use Rattle.yapp.specs.declared.report.Report.{Report}
 use Rattle.yapp.specs.declared.report.Report.TheVariants as reports
 use Rattle.yapp.specs.declared.failure.Failure.TheVariants as failures
 use Rattle.std.proofs.Math.Seq.{take-length}
-use Rattle.youtput.proofs.WritingLemmas.{wrote_none, wrote_same}
+use Rattle.ybase_output.proofs.WritingLemmas.{wrote_none, wrote_same}
 
 -- a status alone ends a run well that writes no file
 well_by : (o : Printed) (result : ℕ) → o.saved ≡ None → result ≡ o.status → with_status result ≡ well o

@@ -12,9 +12,9 @@ use Rattle.yspec.specs.schema.Schema.{Schema}
 use Rattle.yspec.specs.document.Document.{Tree}
 use Rattle.yspec.specs.edit.EditText.{Edit, is_passed_over}
 use Rattle.yspec.specs.edit.Editing.{EditRefusal, after, applied, decision, decisions, edit_asked, refused, tree_or}
-use Rattle.yprogram.specs.Hint.{hinted}
-use Rattle.yprogram.specs.Part.{Part}
-use Rattle.yprogram.specs.Script.{after_lines, asked_in, edit_in, line_parts, refused_hint, refused_line, refused_lines, spelled_in, without_return, without_returns}
+use Rattle.yspec_run.specs.Hint.{hinted}
+use Rattle.yspec_run.specs.Part.{Part}
+use Rattle.yspec_run.specs.Script.{after_lines, asked_in, edit_in, line_parts, refused_hint, refused_line, refused_lines, spelled_in, without_return, without_returns}
 use Rattle.yapp.specs.Asked.{IsScript, Line, an_edit, decision_parts, edit_of, edits_of, hint_in, kinds_of, line_of, told_from}
 
 -- ---- edits in place of lines

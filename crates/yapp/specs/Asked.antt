@@ -5,11 +5,11 @@ use Rattle.yspec.specs.text.Text.{Text}
 use Rattle.yspec.specs.schema.Schema.{Schema}
 use Rattle.yspec.specs.edit.EditText.{Edit}
 use Rattle.yspec.specs.edit.Editing.{Decision, EditRefusal}
-use Rattle.yprogram.specs.Hint.{hinted}
-use Rattle.yprogram.specs.Part.{Part}
-use Rattle.yprogram.specs.Script.{asked_in, line_parts, refused_hint, refused_line}
-use Rattle.ypath.specs.Applying.{edit_number}
-use Rattle.ytree.specs.Told.{code_number}
+use Rattle.yspec_run.specs.Hint.{hinted}
+use Rattle.yspec_run.specs.Part.{Part}
+use Rattle.yspec_run.specs.Script.{asked_in, line_parts, refused_hint, refused_line}
+use Rattle.yinst_path.specs.Applying.{edit_number}
+use Rattle.yinst_tree.specs.Told.{code_number}
 use Rattle.ylive.specs.View.{edits_view}
 use Rattle.yapp.specs.declared.script.Asked.{Asked}
 use Rattle.yapp.specs.declared.script.Asked.TheVariants as asked

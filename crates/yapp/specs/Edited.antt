@@ -8,12 +8,12 @@ use Rattle.yspec.specs.document.Fitting.{Fits}
 use Rattle.yspec.specs.document.Writing.{IsDocument}
 use Rattle.yspec.specs.edit.EditText.{Edit}
 use Rattle.yspec.specs.edit.Editing.{after, decisions}
-use Rattle.yprogram.specs.Part.{Part}
-use Rattle.yprogram.specs.Script.{after_lines, refused_lines}
+use Rattle.yspec_run.specs.Part.{Part}
+use Rattle.yspec_run.specs.Script.{after_lines, refused_lines}
 use Rattle.yspec.specs.edit.Live.{Live}
 use Rattle.ylive.specs.View as live_view
-use Rattle.ymodel.specs.View as schema_view
-use Rattle.ytree.specs.View.{tree_view}
+use Rattle.yschema_model.specs.View as schema_view
+use Rattle.yinst_tree.specs.View.{tree_view}
 use Rattle.yapp.specs.Asked.{Line, refused_parts, told_from}
 use Rattle.yapp.specs.declared.document.Document.{Document}
 use Rattle.yapp.specs.declared.edited.EditedDocument.{EditedDocument}

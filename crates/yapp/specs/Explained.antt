@@ -1,11 +1,11 @@
 -- What is said of each fault of a report, and the lines that say it.
 use Rattle.std.specs.Prelude.{◌≡◌, ◌++◌, ◌&&◌, Bool, false, List, [], ◌∷◌, map, codes, decimal, string_bytes, Option, Some, None, option_map, is_none, if◌then◌else◌}
 use Rattle.std.specs.List.{flat_map}
-use Rattle.ymodel.specs.View as schema_view
-use Rattle.ytree.specs.View.{tree_view}
+use Rattle.yschema_model.specs.View as schema_view
+use Rattle.yinst_tree.specs.View.{tree_view}
 use Rattle.ycheck.specs.View.{views}
-use Rattle.ycodes.specs.Codes.{reason_of}
-use Rattle.yexplain.specs.Sentences.{explained_fault}
+use Rattle.ysay_codes.specs.Codes.{reason_of}
+use Rattle.ysay_fault.specs.Sentences.{explained_fault}
 use Rattle.yspec.specs.text.Text.{Text}
 use Rattle.yspec.specs.schema.Schema.{Schema}
 use Rattle.yspec.specs.document.Fault.{Fault}

@@ -4,23 +4,23 @@ use Rattle.std.specs.List.{flat_map}
 use Rattle.std.specs.Option.{option_map_or}
 use Rattle.ytext.specs.Told.{number_of}
 use Rattle.ylink.specs.Told.{code_number}
-use Rattle.ymodel.specs.View as schema_view
-use Rattle.ytree.specs.Told as document
-use Rattle.ytree.specs.View.{place_view, tree_view}
+use Rattle.yschema_model.specs.View as schema_view
+use Rattle.yinst_tree.specs.Told as document
+use Rattle.yinst_tree.specs.View.{place_view, tree_view}
 use Rattle.ycheck.specs.View.{views}
 use Rattle.yspec.specs.schema.Diagram.{diagram}
-use Rattle.yprogram.specs.Output.{Besides, Outcome, all_diagrams, another_cause, failed, failed_with, found, left, nothing, plainly, refusal_part, refused_document, report, unread, with_object}
-use Rattle.yprogram.specs.Hint.{hinted}
-use Rattle.yprogram.specs.Part.{Part, plain}
-use Rattle.yprogram.specs.RefusalData.{module_object, module_tag, text_tag}
-use Rattle.ycodes.specs.Codes.{explained}
-use Rattle.ycodes.specs.View.{explanation_view}
+use Rattle.yspec_run.specs.Output.{Besides, Outcome, all_diagrams, another_cause, failed, failed_with, found, left, nothing, plainly, refusal_part, refused_document, report, unread, with_object}
+use Rattle.yspec_run.specs.Hint.{hinted}
+use Rattle.yspec_run.specs.Part.{Part, plain}
+use Rattle.yspec_run.specs.RefusalData.{module_object, module_tag, text_tag}
+use Rattle.ysay_codes.specs.Codes.{explained}
+use Rattle.ysay_codes.specs.View.{explanation_view}
 use Rattle.yspec.specs.text.Text.{Text}
 use Rattle.yapp.specs.Asked.{refused_parts}
 use Rattle.yapp.specs.Edited.{live_of, refused_in}
 use Rattle.yapp.specs.Saving.{saved_view}
 use Rattle.yapp.specs.Unread.{unreadable_view}
-use Rattle.ycommand.specs.Running.{without_memory}
+use Rattle.yapp_words.specs.Running.{without_memory}
 use Rattle.yapp.specs.declared.failure.Failure.{Failure}
 use Rattle.yapp.specs.declared.failure.Stop as declared
 use Rattle.yapp.specs.declared.failure.Failure.TheVariants as failures

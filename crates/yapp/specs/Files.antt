@@ -1,9 +1,9 @@
 -- What files contain, as far as that is told, how often one was read, and how often that failed.
 use Rattle.std.specs.Prelude.{◌≡◌, ◌⊎◌, ℕ, ◌+◌, ◌≤◌, true, List, [], ◌∷◌, length, map, Option, Some, None, Result, Ok, Err}
-use Rattle.yprogram.specs.Output.{Besides, Outcome, Request, as_json_of, files_of, found_of, outcome, with_files}
+use Rattle.yspec_run.specs.Output.{Besides, Outcome, Request, as_json_of, files_of, found_of, outcome, with_files}
 use Rattle.yspec.specs.text.Text.{Text}
 use Rattle.yapp.specs.Failing.{besides_in, outcome_of, reported, unsaid}
-use Rattle.ycommand.specs.Running.{without_memory}
+use Rattle.yapp_words.specs.Running.{without_memory}
 use Rattle.yapp.specs.declared.failure.Failure.{Failure}
 use Rattle.yapp.specs.declared.failure.Failure.TheVariants.{Memory}
 use Rattle.yapp.specs.declared.files.FileFault.{FileFault}

@@ -1,8 +1,8 @@
 -- Files that are written, and what comes of one that is due.
 use Rattle.std.specs.Prelude.{◌≡◌, ◌⊎◌, ℕ, ◌+◌, ◌++◌, Bool, true, false, List, [], ◌∷◌, codes, Option, Some, None, Result, Ok, Err, option_map, string_bytes, if◌then◌else◌}
-use Rattle.yprogram.specs.Output as spec
-use Rattle.youtput.specs.Writing.{Side, Wrote}
-use Rattle.ycommand.specs.Running.{End, Ends, ended}
+use Rattle.yspec_run.specs.Output as spec
+use Rattle.ybase_output.specs.Writing.{Side, Wrote}
+use Rattle.yapp_words.specs.Running.{End, Ends, ended}
 use Rattle.yspec.specs.text.Text.{Text}
 use Rattle.yapp.specs.declared.saving.SavedFile.{SavedFile}
 use Rattle.yapp.specs.declared.saving.Ended.{Ended}

@@ -1,9 +1,9 @@
 -- What is told of a failure besides its line, and what of it goes out on the two sides.
 use Rattle.std.specs.Prelude.{◌≡◌, ◌⊎◌, ◌++◌, Bool, true, List, ℕ, [], codes, Option, Some, None}
 use Rattle.yspec.specs.text.Text.{Text}
-use Rattle.yprogram.specs.Output.{Besides, Outcome, Printed, printed_with, told_too}
-use Rattle.youtput.specs.Writing.{Side}
-use Rattle.ycommand.specs.Running.{Brings, End, memory_told}
+use Rattle.yspec_run.specs.Output.{Besides, Outcome, Printed, printed_with, told_too}
+use Rattle.ybase_output.specs.Writing.{Side}
+use Rattle.yapp_words.specs.Running.{Brings, End, memory_told}
 use Rattle.yapp.specs.Failing.{besides_in, outcome_of}
 use Rattle.yapp.specs.declared.failure.Failure.{Failure}
 

@@ -1,5 +1,5 @@
 -- Why files can't be read, as the definition's causes.
-use Rattle.yprogram.specs.Output as spec
+use Rattle.yspec_run.specs.Output as spec
 use Rattle.yapp.specs.declared.files.Unreadable.{Unreadable}
 use Rattle.yapp.specs.declared.files.Unreadable.TheVariants.{NoFile, NoPermission, Directory, Other}
 

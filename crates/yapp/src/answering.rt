@@ -2,9 +2,9 @@
 
 ghost use Rattle.std.specs.Prelude.{IfOk, map, position};
 ghost use Rattle.yspec.specs.text.Text.{is_text};
-ghost use Rattle.yprogram.specs.Output.{compilation, drawing, drawing_all, drawn, edition, explanation, performed, validation};
-ghost use Rattle.ymodel.specs.View as schema_view;
-ghost use Rattle.ycommand.specs.Command.{options_view, view};
+ghost use Rattle.yspec_run.specs.Output.{compilation, drawing, drawing_all, drawn, edition, explanation, performed, validation};
+ghost use Rattle.yschema_model.specs.View as schema_view;
+ghost use Rattle.yapp_words.specs.Command.{options_view, view};
 ghost use Rattle.yapp.specs.Explained.{HasNoDocument, IsExplained};
 ghost use Rattle.yapp.specs.Failing.{LeadsTo, reported};
 ghost use Rattle.yapp.specs.Files.{IsFound, came_to, store};
@@ -16,9 +16,9 @@ use crate::files::Files;
 use crate::modules::compile_contents;
 use crate::report::Report;
 use std::alloc::Global;
-use ycodes::{all_explanations, explanations, first_unknown};
-use ycommand::{Options, Request};
-use ymodel::Schema;
+use yapp_words::{Options, Request};
+use ysay_codes::{all_explanations, explanations, first_unknown};
+use yschema_model::Schema;
 
 /// What is said of codes; of all where none is named.
 fn explain<'a>(alloc: Global, codes: &[&'a str]) -> Result<Report, Failure<'a>>

@@ -1,14 +1,14 @@
 //! The files of a request, and what they contain.
 
 ghost use Rattle.std.specs.Prelude.{◌≡◌, ◌++◌, IfOk, map};
-ghost use Rattle.yprogram.specs.Output.{files_of, first_file, other_files};
-ghost use Rattle.ycommand.specs.Command.{view};
+ghost use Rattle.yspec_run.specs.Output.{files_of, first_file, other_files};
+ghost use Rattle.yapp_words.specs.Command.{view};
 ghost use Rattle.yapp.specs.Files.{ReadsAll, store};
 
 use crate::failure::Failure;
 use crate::files::Files;
 use std::alloc::{AllocError, Global};
-use ycommand::Request;
+use yapp_words::Request;
 
 /// What the first of some files came to, and the contents of those behind them.
 #[derive(Drop)]

@@ -4,24 +4,24 @@ ghost use Rattle.std.specs.Prelude.{◌≡◌, ◌++◌, [], ℕ, List, IfOk, ma
 ghost use Rattle.yspec.specs.document.Document as document_spec;
 ghost use Rattle.yspec.specs.document.Reading.{document_of};
 ghost use Rattle.yspec.specs.document.Writing.{written_text};
-ghost use Rattle.yprogram.specs.Output.{Outcome, dump, first_file, left, not_read, plainly, repeated_document, saved_by, text_instead, unless_repeated, with_document, with_tree};
-ghost use Rattle.yprogram.specs.Part.{Part, objects};
-ghost use Rattle.yprogram.specs.Script.{after_lines, lines_of, refused_lines};
+ghost use Rattle.yspec_run.specs.Output.{Outcome, dump, first_file, left, not_read, plainly, repeated_document, saved_by, text_instead, unless_repeated, with_document, with_tree};
+ghost use Rattle.yspec_run.specs.Part.{Part, objects};
+ghost use Rattle.yspec_run.specs.Script.{after_lines, lines_of, refused_lines};
 ghost use Rattle.yspec.specs.schema.Schema as schema_spec;
-ghost use Rattle.yexplain.specs.Sentences.{explained_fault};
-ghost use Rattle.yformat.specs.FaultData as format;
+ghost use Rattle.ysay_fault.specs.Sentences.{explained_fault};
+ghost use Rattle.ysay_json.specs.FaultData as format;
 ghost use Rattle.ycheck.specs.View.{view, views};
-ghost use Rattle.ymodel.specs.View as schema_view;
-ghost use Rattle.ytree.specs.Told.{code_number};
-ghost use Rattle.ytree.specs.View.{place_view};
+ghost use Rattle.yschema_model.specs.View as schema_view;
+ghost use Rattle.yinst_tree.specs.Told.{code_number};
+ghost use Rattle.yinst_tree.specs.View.{place_view};
 ghost use Rattle.ylive.specs.View as live_view;
 ghost use Rattle.yapp.specs.Asked.{edits_in, kinds_in, refused_parts};
-ghost use Rattle.yconfig.specs.Inspecting.{inspection_view};
+ghost use Rattle.ycheck_config.specs.Inspecting.{inspection_view};
 ghost use Rattle.yapp.specs.Edited.{IsEdited, IsOf, IsRun, IsSound, IsWhole, live_of, refused_in, refused_of, schema_of, tree_of};
 ghost use Rattle.yapp.specs.Explained.{IsExplained};
 ghost use Rattle.yapp.specs.Failing.{FailsWith, LeadsTo, reported};
 ghost use Rattle.yapp.specs.Saving.{saved_view};
-ghost use Rattle.ycommand.specs.Command.{options_view};
+ghost use Rattle.yapp_words.specs.Command.{options_view};
 
 use crate::contents::{Taken, behind_first, first_of};
 use crate::edited::EditedDocument;
@@ -34,15 +34,15 @@ use crate::saving::SavedFile;
 use crate::script::{RefusedLine, Script};
 use serde_json::Value;
 use std::alloc::{AllocError, Global};
+use yapp_words::Options;
 use ycheck::Fault;
-use ycommand::Options;
-use yconfig::{Inspection, inspect};
-use yexplain::explanation_of;
-use yformat::json_text;
+use ycheck_config::{Inspection, inspect};
+use yinst_tree::{DocCode, DocFault, Step, Tree, read, write};
 use ylive::Live;
-use ymodel::Schema;
-use yrepeated::first_repeated;
-use ytree::{DocCode, DocFault, Step, Tree, read, write};
+use ysay_fault::explanation_of;
+use ysay_json::json_text;
+use ysay_repeated::first_repeated;
+use yschema_model::Schema;
 
 /// A document under its schema, with the lines of a script that were refused on the way to it.
 #[derive(Drop)]

@@ -17,7 +17,7 @@ pub struct EditedDocument {
 impl EditedDocument {
     ghost use Rattle.std.specs.Prelude.{◌≡◌};
     ghost use Rattle.yspec.specs.edit.Live.{fault_count, faults_in};
-    ghost use Rattle.ylist.specs.Walked.{left};
+    ghost use Rattle.ylive_list.specs.Walked.{left};
     ghost use Rattle.yapp.specs.Edited.{live_of};
 
     /// How many faults it has.

@@ -1,12 +1,12 @@
 //! Why there is no report, and the line that says so.
 
 ghost use Rattle.std.specs.Prelude.{◌≡◌, ◌++◌, codes, decimal};
-ghost use Rattle.yprogram.specs.Output.{aside_of, aside_text, document_part, printed, printed_with, refusal_part, stop_line};
-ghost use Rattle.yprogram.specs.Hint.{hinted};
-ghost use Rattle.yprogram.specs.Part.{spelled_part};
-ghost use Rattle.youtput.specs.Writing.{Writes, side};
-ghost use Rattle.ymodel.specs.View as schema_view;
-ghost use Rattle.ytree.specs.View.{place_view};
+ghost use Rattle.yspec_run.specs.Output.{aside_of, aside_text, document_part, printed, printed_with, refusal_part, stop_line};
+ghost use Rattle.yspec_run.specs.Hint.{hinted};
+ghost use Rattle.yspec_run.specs.Part.{spelled_part};
+ghost use Rattle.ybase_output.specs.Writing.{Writes, side};
+ghost use Rattle.yschema_model.specs.View as schema_view;
+ghost use Rattle.yinst_tree.specs.View.{place_view};
 ghost use Rattle.yapp.specs.Failing.{FromFile, besides_in, outcome_of, stop_view};
 ghost use Rattle.yapp.specs.declared.failure.Failure.TheVariants.{Memory};
 
@@ -17,12 +17,12 @@ use itoa::Buffer;
 use std::alloc::{AllocError, AllocFailed};
 use std::fmt;
 use thiserror::Error;
+use ybase_output::{Sink, SinkFault, write_texts};
 use ycheck::write_path;
-use ymodel::Schema;
-use youtput::{Sink, SinkFault, write_texts};
+use yinst_tree::{DocCode, Step};
 use yschema::CompileCode;
+use yschema_model::Schema;
 use ytext::TextCode;
-use ytree::{DocCode, Step};
 
 /// Where the kit's reader of JSON stops in a text, by line and column.
 #[derive(Clone, Copy, Debug)]

@@ -19,7 +19,7 @@ pub enum Unreadable {
 
 impl Unreadable {
     ghost use Rattle.std.specs.Prelude.{◌≡◌};
-    ghost use Rattle.yprogram.specs.Output.{words_of};
+    ghost use Rattle.yspec_run.specs.Output.{words_of};
     ghost use Rattle.yapp.specs.Unread.{unreadable_view};
 
     /// The cause in words.

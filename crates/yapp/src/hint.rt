@@ -3,25 +3,25 @@
 
 ghost use Rattle.std.specs.Prelude.{◌≡◌, ◌++◌, ◌∷◌, [], codes, IfOk, map, option_map, slice_get, string_bytes, unwrap_or};
 ghost use Rattle.std.specs.Option.{option_map_or};
-ghost use Rattle.yhint.specs.Line as line_spec;
-ghost use Rattle.ygrammar.specs.BreakView.{break_view, code_number};
+ghost use Rattle.ysay_text.specs.Line as line_spec;
+ghost use Rattle.ylink_grammar.specs.BreakView.{break_view, code_number};
 ghost use Rattle.ytext.specs.View.{modules_view};
-ghost use Rattle.ymodel.specs.View as schema_view;
-ghost use Rattle.ypath.specs.Applying.{edit_number};
-ghost use Rattle.ypath.specs.EditView.{edit_view};
-ghost use Rattle.ytree.specs.Told as document;
-ghost use Rattle.ytree.specs.View.{place_view};
-ghost use Rattle.yprogram.specs.Hint as spec;
+ghost use Rattle.yschema_model.specs.View as schema_view;
+ghost use Rattle.yinst_path.specs.Applying.{edit_number};
+ghost use Rattle.yinst_path.specs.EditView.{edit_view};
+ghost use Rattle.yinst_tree.specs.Told as document;
+ghost use Rattle.yinst_tree.specs.View.{place_view};
+ghost use Rattle.yspec_run.specs.Hint as spec;
 
 use std::alloc::{AllocError, Global};
-use ygrammar::{BrokenRule, CompileCode};
-use yhint::{line_sentence, shown, shown_line};
 use yinst::{Edit, EditCode};
-use ymember::{said_of_edit, said_of_line, said_of_refusal};
-use ymodel::Schema;
-use yrepeated::said_of_repeated;
+use yinst_tree::{DocCode, Step};
+use ylink_grammar::{BrokenRule, CompileCode};
+use ysay_refusal::{said_of_edit, said_of_line, said_of_refusal};
+use ysay_repeated::said_of_repeated;
+use ysay_text::{line_sentence, shown, shown_line};
+use yschema_model::Schema;
 use ytext::Module;
-use ytree::{DocCode, Step};
 
 /// A text as a line, behind its front; nothing of an empty one.
 fn as_line(alloc: Global, front: &str, text: &str) -> Result<String, AllocError>

@@ -27,4 +27,4 @@ pub use report::{DocumentReport, Report};
 pub use saving::{Ended, SavedFile, Shelf, Unsaved, save, tell_unwritten};
 pub use script::{Refusal, RefusedLine, ValueCode};
 pub use status::{FAILED, FAULTY, GOOD, MISUSED, REFUSED};
-pub use ycommand::{CommandLine, NoRequest, Options, Request, read_words};
+pub use yapp_words::{CommandLine, NoRequest, Options, Request, read_words};

@@ -3,23 +3,23 @@
 ghost use Rattle.std.specs.Prelude.{◌∷◌, [], ℕ, List, map};
 ghost use Rattle.yspec.specs.Forest.{Forest};
 ghost use Rattle.yspec.specs.linking.Compiling.{compiled};
-ghost use Rattle.yprogram.specs.Output as spec;
-ghost use Rattle.yprogram.specs.Output.{Outcome, with_compiled, with_modules, with_schema};
+ghost use Rattle.yspec_run.specs.Output as spec;
+ghost use Rattle.yspec_run.specs.Output.{Outcome, with_compiled, with_modules, with_schema};
 ghost use Rattle.yspec.specs.schema.Schema as schema_spec;
 ghost use Rattle.yspec.specs.text.Statement.{Statement, module_of};
 ghost use Rattle.ytext.specs.View.{modules_view};
-ghost use Rattle.ymodel.specs.View as schema_view;
+ghost use Rattle.yschema_model.specs.View as schema_view;
 ghost use Rattle.ytext.specs.Told.{number_of};
-ghost use Rattle.ygrammar.specs.BreakView.{break_view};
+ghost use Rattle.ylink_grammar.specs.BreakView.{break_view};
 ghost use Rattle.yapp.specs.Failing.{FailsWith, LeadsTo};
 
 use crate::contents::Taken;
 use crate::failure::Failure;
 use crate::hint::{break_hint, slip_hint};
 use std::alloc::Global;
-use ygrammar::BrokenRule;
-use ymodel::Schema;
+use ylink_grammar::BrokenRule;
 use yschema::{CompileFault, compile};
+use yschema_model::Schema;
 use ytext::{Module, TextCode, TextFault, parse};
 
 /// The statements of the modules of some names, in order, up to the first whose text is refused.

@@ -1,16 +1,16 @@
 //! What is refused, and files that can't be read, as objects of JSON: each a line without its line feed.
 
 ghost use Rattle.std.specs.Prelude.{◌≡◌, ◌++◌, IfOk, OnOk, Some, None, decimal, option_map, string_bytes};
-ghost use Rattle.yformat.specs.RefusalData as format;
-ghost use Rattle.yprogram.specs.RefusalData as spec;
-ghost use Rattle.yprogram.specs.Part.{objects};
-ghost use Rattle.yprogram.specs.Script as script;
+ghost use Rattle.ysay_json.specs.RefusalData as format;
+ghost use Rattle.yspec_run.specs.RefusalData as spec;
+ghost use Rattle.yspec_run.specs.Part.{objects};
+ghost use Rattle.yspec_run.specs.Script as script;
 ghost use Rattle.yspec.specs.document.Path.{path_text};
-ghost use Rattle.ymodel.specs.View as schema_view;
-ghost use Rattle.ytree.specs.Told as document;
-ghost use Rattle.ytree.specs.View.{place_view};
-ghost use Rattle.ypath.specs.Applying.{edit_number};
-ghost use Rattle.ygrammar.specs.BreakView as grammar;
+ghost use Rattle.yschema_model.specs.View as schema_view;
+ghost use Rattle.yinst_tree.specs.Told as document;
+ghost use Rattle.yinst_tree.specs.View.{place_view};
+ghost use Rattle.yinst_path.specs.Applying.{edit_number};
+ghost use Rattle.ylink_grammar.specs.BreakView as grammar;
 ghost use Rattle.yapp.specs.Asked.{refusal_of, refused_parts};
 ghost use Rattle.yapp.specs.Failing.{outcome_of};
 
@@ -18,13 +18,13 @@ use crate::failure::Failure;
 use crate::script::{Refusal, RefusedLine};
 use itoa::Buffer;
 use std::alloc::{AllocError, Global};
-use ycodes::explain;
-use yexplain::position_path;
-use yformat::{Refused, refused_text};
-use ygrammar::CompileCode;
 use yinst::{DocCode, EditCode};
-use ymodel::Schema;
-use ytree::Step;
+use yinst_tree::Step;
+use ylink_grammar::CompileCode;
+use ysay_codes::explain;
+use ysay_fault::position_path;
+use ysay_json::{Refused, refused_text};
+use yschema_model::Schema;
 
 // ---- codes
 

@@ -4,13 +4,13 @@ ghost use Rattle.std.specs.Prelude.{◌≡◌, ◌⊎◌, [], IfOk, OnErr, is_ok
 ghost use Rattle.yapp.specs.Failing.{besides_in, outcome_of};
 ghost use Rattle.yapp.specs.Saving.{end_of};
 ghost use Rattle.yapp.specs.Telling.{Tells, object_bytes, printed_so};
-ghost use Rattle.yformat.specs.RefusalData.{refused_text};
-ghost use Rattle.yprogram.specs.Output.{Besides, Outcome, Printed, as_json_of, printed_with};
-ghost use Rattle.ycommand.specs.Command.{asks_reasons, refusals, request_of, view};
+ghost use Rattle.ysay_json.specs.RefusalData.{refused_text};
+ghost use Rattle.yspec_run.specs.Output.{Besides, Outcome, Printed, as_json_of, printed_with};
+ghost use Rattle.yapp_words.specs.Command.{asks_reasons, refusals, request_of, view};
 ghost use Rattle.yapp.specs.Explained.{IsExplained};
 ghost use Rattle.yapp.specs.Files.{IsOutcome, came_to, said_besides, store};
-ghost use Rattle.ycommand.specs.Running.{AnswersWords, Brings, Ends, WritesBoth, memory_told, refused};
-ghost use Rattle.youtput.specs.Writing.{Writes, side};
+ghost use Rattle.yapp_words.specs.Running.{AnswersWords, Brings, Ends, WritesBoth, memory_told, refused};
+ghost use Rattle.ybase_output.specs.Writing.{Writes, side};
 
 use crate::answering::answer;
 use crate::failure::Failure;
@@ -20,8 +20,8 @@ use crate::report::Report;
 use crate::saving::{Ended, ended_after};
 use crate::status::{FAILED, GOOD, MISUSED};
 use std::alloc::{AllocError, Global};
-use ycommand::{NoRequest, Request, read_words};
-use youtput::{Sink, SinkFault, write_texts};
+use yapp_words::{NoRequest, Request, read_words};
+use ybase_output::{Sink, SinkFault, write_texts};
 
 /// The exit status after something was to be written: another one where a write failed.
 fn status_after(written: Result<(), SinkFault>, status: u8) -> u8

@@ -1,12 +1,12 @@
 //! What stands below a line that tells a code.
 
 ghost use Rattle.std.specs.Prelude.{◌++◌, [], decimal, if◌then◌else◌};
-ghost use Rattle.ycodes.specs.Codes.{reason_of};
-ghost use Rattle.youtput.specs.Writing.{Writes, side};
+ghost use Rattle.ysay_codes.specs.Codes.{reason_of};
+ghost use Rattle.ybase_output.specs.Writing.{Writes, side};
 
 use itoa::Buffer;
-use ycodes::write_reason;
-use youtput::{Sink, SinkFault, write_texts};
+use ybase_output::{Sink, SinkFault, write_texts};
+use ysay_codes::write_reason;
 
 /// Writes, where reasons are wanted, that of a code, which is given by its letter and its number.
 fn write_reason_where<S: Sink>(

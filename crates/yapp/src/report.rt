@@ -4,21 +4,21 @@ ghost use Rattle.std.specs.Prelude.{◌≡◌, ◌++◌, codes, decimal, is_some
 ghost use Rattle.std.specs.List.{flat_map};
 ghost use Rattle.yspec.specs.schema.Diagram.{diagram};
 ghost use Rattle.yspec.specs.document.Faults.{line_of};
-ghost use Rattle.yprogram.specs.Output.{all_diagrams, before_diagram, placed_diagram, printed};
-ghost use Rattle.yprogram.specs.Part.{count_part, spelled, spelled_part};
-ghost use Rattle.ycodes.specs.Codes.{explained};
-ghost use Rattle.ycodes.specs.View.{explanation_view};
-ghost use Rattle.youtput.specs.Writing.{Writes, side};
-ghost use Rattle.ymodel.specs.View as schema_view;
+ghost use Rattle.yspec_run.specs.Output.{all_diagrams, before_diagram, placed_diagram, printed};
+ghost use Rattle.yspec_run.specs.Part.{count_part, spelled, spelled_part};
+ghost use Rattle.ysay_codes.specs.Codes.{explained};
+ghost use Rattle.ysay_codes.specs.View.{explanation_view};
+ghost use Rattle.ybase_output.specs.Writing.{Writes, side};
+ghost use Rattle.yschema_model.specs.View as schema_view;
 ghost use Rattle.ycheck.specs.View.{view, views};
 ghost use Rattle.yapp.specs.Asked.{refused_part, refused_parts};
 ghost use Rattle.yapp.specs.Explained.{IsExplained, explained_line, explained_lines, explanations_in, fault_lines};
 ghost use Rattle.yapp.specs.Failing.{reported};
 ghost use Rattle.yapp.specs.Saving.{saved_view};
-ghost use Rattle.ycommand.specs.Running.{WritesBoth};
+ghost use Rattle.yapp_words.specs.Running.{WritesBoth};
 ghost use Rattle.yapp.specs.declared.report.Report.TheVariants.{Document, Edited};
-ghost use Rattle.ylist.specs.Seen.{seen_view};
-ghost use Rattle.ylist.specs.Walked.{left};
+ghost use Rattle.ylive_list.specs.Seen.{seen_view};
+ghost use Rattle.ylive_list.specs.Walked.{left};
 
 use crate::edited::EditedDocument;
 use crate::reason::write_hinted_where;
@@ -26,12 +26,12 @@ use crate::saving::SavedFile;
 use crate::script::RefusedLine;
 use crate::status::{FAULTY, GOOD};
 use itoa::Buffer;
+use ybase_output::{Sink, SinkFault, write_texts};
 use ycheck::{Fault, write_line, write_parts};
-use ycodes::{Explanation, write_explanation, write_reason};
+use yinst_tree::Tree;
 use ylive::{Seen, Walk};
-use ymodel::Schema;
-use youtput::{Sink, SinkFault, write_texts};
-use ytree::Tree;
+use ysay_codes::{Explanation, write_explanation, write_reason};
+use yschema_model::Schema;
 
 /// What a command found.
 #[derive(Drop)]

@@ -1,15 +1,15 @@
 //! The file to which a document is written at the end of a run.
 
 ghost use Rattle.std.specs.Prelude.{◌≡◌, ℕ, ◌+◌, List, Option, IfOk, OnErr, None, false, true, is_ok, option_map, if◌then◌else◌};
-ghost use Rattle.yprogram.specs.Output as spec;
-ghost use Rattle.youtput.specs.Writing.{Writes, side};
-ghost use Rattle.ycommand.specs.Running.{Ends, broken, ended};
+ghost use Rattle.yspec_run.specs.Output as spec;
+ghost use Rattle.ybase_output.specs.Writing.{Writes, side};
+ghost use Rattle.yapp_words.specs.Running.{Ends, broken, ended};
 ghost use Rattle.yapp.specs.Saving as view;
 ghost use Rattle.yapp.specs.Saving.{Saves, cause_line, end_of, saved_view, unsaved_text, unwritten_line, unwritten_text};
 
 use crate::status::FAILED;
 use thiserror::Error;
-use youtput::{Sink, SinkFault, write_texts};
+use ybase_output::{Sink, SinkFault, write_texts};
 
 /// A file with what it is to contain.
 #[derive(Debug, Drop)]
@@ -131,7 +131,7 @@ pub trait Shelf {
 
 impl Ended {
     ghost use Rattle.std.specs.Prelude.{◌≡◌, false};
-    ghost use Rattle.ycommand.specs.Running.{broken, with_status};
+    ghost use Rattle.yapp_words.specs.Running.{broken, with_status};
     ghost use Rattle.yapp.specs.Saving.{end_of};
 
     /// An end with a status alone.

@@ -4,12 +4,12 @@ ghost use Rattle.std.specs.Prelude.{◌≡◌, ◌++◌, ◌==◌, IfOk, OnOk, m
 ghost use Rattle.std.specs.List.{slice_split};
 ghost use Rattle.yspec.specs.Results.{Gives};
 ghost use Rattle.yspec.specs.edit.EditText as text;
-ghost use Rattle.yprogram.specs.Script as spec;
+ghost use Rattle.yspec_run.specs.Script as spec;
 ghost use Rattle.yspec.specs.text.Text.{line_feed};
-ghost use Rattle.ypath.specs.Applying.{told_by};
-ghost use Rattle.ypath.specs.EditView.{edit_view};
+ghost use Rattle.yinst_path.specs.Applying.{told_by};
+ghost use Rattle.yinst_path.specs.EditView.{edit_view};
 ghost use Rattle.ylive.specs.View.{edits_view, outcomes_view};
-ghost use Rattle.ymodel.specs.View as schema_view;
+ghost use Rattle.yschema_model.specs.View as schema_view;
 ghost use Rattle.yapp.specs.Asked as asked;
 ghost use Rattle.yapp.specs.Asked.{behind, decision_parts, hint_in, line_view, refusal_in, refusal_of, refused_parts};
 
@@ -17,8 +17,8 @@ use crate::hint::script_hint;
 use std::alloc::{AllocError, Global};
 use yinst::{DocCode, Edit, EditCode, EditFault};
 use ylive::Outcome;
-use ymodel::Schema;
-use yrepeated::has_repeated;
+use ysay_repeated::has_repeated;
+use yschema_model::Schema;
 
 /// Why the value of an edit doesn't fit its node.
 #[derive(Clone, Copy, Debug)]
@@ -53,7 +53,7 @@ pub struct Refusal {
 
 impl Refusal {
     ghost use Rattle.std.specs.Prelude.{◌≡◌};
-    ghost use Rattle.ypath.specs.Applying.{refusal_view};
+    ghost use Rattle.yinst_path.specs.Applying.{refusal_view};
     ghost use Rattle.yapp.specs.Asked.{refusal_of};
 
     /// That of an edit.
@@ -96,10 +96,10 @@ pub struct Script<'s> {
 
 impl<'s> Script<'s> {
     ghost use Rattle.std.specs.Prelude.{◌≡◌, ◌++◌, [], ◌∷◌, IfOk, OnOk, Some, map};
-    ghost use Rattle.yprogram.specs.Script.{asked_in, lines_of, unless_twice, without_return};
-    ghost use Rattle.ypath.specs.EditView.{edit_view};
+    ghost use Rattle.yspec_run.specs.Script.{asked_in, lines_of, unless_twice, without_return};
+    ghost use Rattle.yinst_path.specs.EditView.{edit_view};
     ghost use Rattle.ylive.specs.View.{edits_view, outcomes_view};
-    ghost use Rattle.ymodel.specs.View as schema_view;
+    ghost use Rattle.yschema_model.specs.View as schema_view;
     ghost use Rattle.yapp.specs.Asked.{IsScript, edit_of, edits_in, kinds_in, line_of, line_view, refused_parts, told_from};
 
     /// A script without lines.

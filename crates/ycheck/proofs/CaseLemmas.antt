@@ -11,15 +11,15 @@ use Rattle.yspec.specs.document.Play.{stored_among, stored_cases, or_default, is
 use Rattle.yspec.specs.document.Sorting.{StartsAt, IsSorted, from_number}
 use Rattle.yspec.proofs.DocumentProofs.CursorLemmas.{sorted_left}
 use Rattle.yspec.proofs.DocumentProofs.FittingLemmas.{eqb_other, instances-cons, none_of_others}
-use Rattle.ymodel.specs.declared.children.Slot.{Slot}
-use Rattle.ymodel.specs.declared.children.Children.{Children}
-use Rattle.ymodel.specs.declared.node.SchemaId.{SchemaId}
-use Rattle.ymodel.specs.Layout.{forest_within}
-use Rattle.ymodel.specs.View as schema_view
-use Rattle.ymodel.proofs.QueryLemmas.{size_of_forest}
-use Rattle.ytree.specs.View.{view, row_view}
-use Rattle.ytree.specs.Walk.{behind, others}
-use Rattle.ytree.specs.declared.tree.Stored as tree
+use Rattle.yschema_model.specs.declared.children.Slot.{Slot}
+use Rattle.yschema_model.specs.declared.children.Children.{Children}
+use Rattle.yschema_model.specs.declared.node.SchemaId.{SchemaId}
+use Rattle.yschema_model.specs.Layout.{forest_within}
+use Rattle.yschema_model.specs.View as schema_view
+use Rattle.yschema_model.proofs.QueryLemmas.{size_of_forest}
+use Rattle.yinst_tree.specs.View.{view, row_view}
+use Rattle.yinst_tree.specs.Walk.{behind, others}
+use Rattle.yinst_tree.specs.declared.tree.Stored as tree
 use Rattle.ycheck.specs.declared.cases.StoredCases.{StoredCases}
 use Rattle.ycheck.specs.declared.cases.StoredCases.TheVariants as count
 use Rattle.ycheck.specs.declared.cases.Chosen.TheVariants as chosen

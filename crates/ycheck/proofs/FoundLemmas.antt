@@ -6,8 +6,8 @@ use Rattle.yspec.specs.document.Fault.{Fault}
 use Rattle.yspec.specs.document.Faults.{under}
 use Rattle.yspec.specs.document.RowFaults.{prefixed}
 use Rattle.yspec.proofs.DocumentProofs.CheckingRowLemmas.{prefixed_twice}
-use Rattle.ytree.specs.declared.tree.Step as inst
-use Rattle.ytree.specs.View.{step_view, place_view}
+use Rattle.yinst_tree.specs.declared.tree.Step as inst
+use Rattle.yinst_tree.specs.View.{step_view, place_view}
 use Rattle.ycheck.specs.declared.fault.Fault as check
 use Rattle.ycheck.specs.declared.checking.Findings.{Findings}
 use Rattle.ycheck.specs.View.{view, views}

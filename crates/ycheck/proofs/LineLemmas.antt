@@ -9,8 +9,8 @@ use Rattle.yspec.specs.document.FaultCode.{fault_number}
 use Rattle.yspec.specs.document.Faults.{info_text, line_of, or_dash, printed_tag}
 use Rattle.yspec.specs.document.Path.{path_from, path_text, position_text, step_text}
 use Rattle.yspec.specs.text.Text.{Text}
-use Rattle.ytree.specs.View.{place_view}
-use Rattle.ytree.specs.declared.tree.Step as code
+use Rattle.yinst_tree.specs.View.{place_view}
+use Rattle.yinst_tree.specs.declared.tree.Step as code
 use Rattle.ycheck.specs.View.{code_view, lent_info_view, parts_view, tag_name}
 use Rattle.ycheck.specs.declared.fault.FaultParts.{FaultParts}
 

@@ -13,8 +13,8 @@ use Rattle.yspec.specs.document.FaultCode.{V1, V11}
 use Rattle.yspec.specs.document.Fault.{fault, plain_fault}
 use Rattle.yspec.specs.document.Instances.{same_tuple}
 use Rattle.yspec.specs.document.Faults.{Times, requires_instance, reference_faults, value_faults}
-use Rattle.ytree.specs.View.{view, row_view}
-use Rattle.ytree.specs.declared.tree.Stored as tree
+use Rattle.yinst_tree.specs.View.{view, row_view}
+use Rattle.yinst_tree.specs.declared.tree.Stored as tree
 use Rattle.ycheck.specs.Repeated.{times_among, repeats, marks, values_of, tuples_of}
 use Rattle.ycheck.specs.Walk.{lacks_instance, is_repeated, item_value, has_item_twice, entry_tuple, has_tuple_twice, tuples_twice, marks_of, tables_from, table_of, marks_at}
 

@@ -18,7 +18,7 @@ use Rattle.yspec.specs.document.Fitting.{IsNumbered}
 use Rattle.yspec.specs.document.Sorting.{IsSorted}
 use Rattle.yspec.proofs.DocumentProofs.CheckingRowLemmas.{rows_are_faults}
 use Rattle.yspec.proofs.DocumentProofs.HeldNodeLemmas.{schema_has_all}
-use Rattle.ytree.specs.View.{place_view}
+use Rattle.yinst_tree.specs.View.{place_view}
 use Rattle.ycheck.specs.declared.cases.Chosen.TheVariants as variant
 use Rattle.ycheck.specs.declared.checking.Findings.{Findings}
 use Rattle.ycheck.specs.declared.targets.Targets.{Targets}

@@ -8,7 +8,7 @@ use Rattle.std.specs.BTreeMap.{BTreeMap}
 use Rattle.std.specs.BTreeSet.{BTreeSet, contains}
 use Rattle.std.proofs.lemmas.Bool.Decides.{nat_tests}
 use Rattle.ytype.specs.Laws.{same_value_equiv}
-use Rattle.ymodel.specs.declared.node.SchemaId.{SchemaId}
+use Rattle.yschema_model.specs.declared.node.SchemaId.{SchemaId}
 use Rattle.std.proofs.lemmas.Bool.{lt-ltb, eqb-true}
 use Rattle.std.proofs.lemmas.List.{at_drop_more, at_drop_all, append-nil}
 use Rattle.std.proofs.lemmas.List.Sums.{sum_by-cons, sum_by-append}
@@ -22,17 +22,17 @@ use Rattle.yspec.specs.document.Fault.{plain_fault, fault_with, choice_name}
 use Rattle.yspec.specs.document.Faults.{Times}
 use Rattle.yspec.specs.document.Fitting.{IsNumbered}
 use Rattle.yspec.specs.document.Sorting.{IsSorted}
-use Rattle.ytree.specs.Walk.{others}
+use Rattle.yinst_tree.specs.Walk.{others}
 use Rattle.yspec.specs.document.Instances.{value_of, times_in_use, times_at}
 use Rattle.yspec.specs.document.Play.{Item, tell, in_use, visit, visit_each, cases, stored_cases, or_default, choice_faults, absent_leaf, absent_items, exceeds, amount_faults, is_among, node_items, stored_inside, steps_inside, items_in_play}
 use Rattle.std.proofs.Common.{Vec}
 use Rattle.std.specs.Global.{Global}
-use Rattle.ymodel.specs.declared.node.Kind as code
-use Rattle.ymodel.specs.declared.node.LeafType as code_type
-use Rattle.ymodel.specs.declared.node.Absence as code_absence
-use Rattle.ymodel.specs.declared.node.Amount as code_amount
-use Rattle.ymodel.specs.declared.node.Kind.TheVariants as kinds
-use Rattle.ymodel.specs.Layout.{kind_view}
+use Rattle.yschema_model.specs.declared.node.Kind as code
+use Rattle.yschema_model.specs.declared.node.LeafType as code_type
+use Rattle.yschema_model.specs.declared.node.Absence as code_absence
+use Rattle.yschema_model.specs.declared.node.Amount as code_amount
+use Rattle.yschema_model.specs.declared.node.Kind.TheVariants as kinds
+use Rattle.yschema_model.specs.Layout.{kind_view}
 use Rattle.ycheck.specs.Cases.{is_chosen, Chooses}
 use Rattle.ycheck.specs.Targets.{kept, is_kept, holds, Gathers, one_value, some_values, default_value, times_used, times_of_row, times_of_node, own_value}
 use Rattle.ycheck.specs.declared.cases.Chosen.{Chosen}

@@ -15,10 +15,10 @@ use Rattle.std.specs.Ordering.{is_eq, eq_by_cmp, ordering_then}
 use Rattle.std.specs.Cmp.Lexicographic.{slice_cmp, pointwise}
 use Rattle.std.proofs.lemmas.Option.{slice_get-map, slice_get_read, slice_get_past}
 use Rattle.yspec.specs.types.Order.{value_cmp, same_value}
-use Rattle.ymodel.specs.declared.node.SchemaId.{SchemaId}
-use Rattle.ymodel.specs.declared.node.Tuples as code
-use Rattle.ymodel.specs.Layout.{numbers_of, tuples_view}
-use Rattle.ytree.specs.declared.tree.Stored as tree
+use Rattle.yschema_model.specs.declared.node.SchemaId.{SchemaId}
+use Rattle.yschema_model.specs.declared.node.Tuples as code
+use Rattle.yschema_model.specs.Layout.{numbers_of, tuples_view}
+use Rattle.yinst_tree.specs.declared.tree.Stored as tree
 use Rattle.ycheck.specs.Repeated.{times_among, repeats, marks, tuples_of}
 
 -- ---- the first of a row

@@ -19,10 +19,10 @@ use Rattle.yspec.specs.document.Fitting.{IsNumbered}
 use Rattle.yspec.specs.document.Sorting.{StartsAt, IsSorted, from_number}
 use Rattle.yspec.proofs.DocumentProofs.CursorLemmas.{sorted_left}
 use Rattle.yspec.proofs.DocumentProofs.CheckingRowLemmas.{Has}
-use Rattle.ytree.specs.View.{row_view}
-use Rattle.ytree.specs.Walk.{front, mine, others}
-use Rattle.ytree.specs.declared.tree.Stored as tree
-use Rattle.ytree.proofs.WalkLemmas.{IsLeft, left_later, left_others, mine_left}
+use Rattle.yinst_tree.specs.View.{row_view}
+use Rattle.yinst_tree.specs.Walk.{front, mine, others}
+use Rattle.yinst_tree.specs.declared.tree.Stored as tree
+use Rattle.yinst_tree.proofs.WalkLemmas.{IsLeft, left_later, left_others, mine_left}
 use Rattle.ycheck.specs.declared.cases.StoredCases.{StoredCases}
 use Rattle.ycheck.specs.declared.cases.StoredCases.TheVariants as count
 use Rattle.ycheck.specs.declared.cases.Chosen.{Chosen}

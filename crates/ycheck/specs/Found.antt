@@ -4,7 +4,7 @@ use Rattle.yspec.specs.text.Text.{Text}
 use Rattle.yspec.specs.document.FaultCode.{FaultCode, tag_of}
 use Rattle.yspec.specs.document.Fault.{Fault, Info}
 use Rattle.yspec.specs.document.RowFaults.{prefixed}
-use Rattle.ytree.specs.View.{place_view}
+use Rattle.yinst_tree.specs.View.{place_view}
 use Rattle.ycheck.specs.View.{views}
 use Rattle.ycheck.specs.declared.checking.Findings.{Findings}
 

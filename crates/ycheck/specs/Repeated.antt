@@ -4,8 +4,8 @@ use Rattle.std.specs.Option.{option_map_or}
 use Rattle.yspec.specs.types.Types.{YangType, Val, taken}
 use Rattle.yspec.specs.schema.Schema.{Schema, Tuples}
 use Rattle.yspec.specs.document.Instances.{Tuple, paths_of, tuple_of_paths}
-use Rattle.ytree.specs.View.{view}
-use Rattle.ytree.specs.declared.tree.Stored.{Stored}
+use Rattle.yinst_tree.specs.View.{view}
+use Rattle.yinst_tree.specs.declared.tree.Stored.{Stored}
 
 -- how often one is among them
 abbrev pub times_among : {A : Type 0} → (A → A → Bool) → List (Option A) → A → ℕ

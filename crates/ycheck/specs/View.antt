@@ -4,7 +4,7 @@ use Rattle.yspec.specs.text.Text.{Text}
 use Rattle.yspec.specs.document.FaultCode as spec
 use Rattle.yspec.specs.document.Fault as faults
 use Rattle.yspec.specs.document.Fault.{no_info, choice_name, unique_number}
-use Rattle.ytree.specs.View.{place_view}
+use Rattle.yinst_tree.specs.View.{place_view}
 use Rattle.ycheck.specs.declared.fault.FaultCode.{FaultCode}
 use Rattle.ycheck.specs.declared.fault.FaultCode.TheVariants.{V1, V2, V3, V4, V5, V6, V7, V8, V9, V10, V11, V12}
 use Rattle.ycheck.specs.declared.fault.ErrorTag.{ErrorTag}

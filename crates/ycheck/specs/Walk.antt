@@ -14,8 +14,8 @@ use Rattle.yspec.specs.document.Play.{stored_cases}
 use Rattle.yspec.specs.document.Instances.{Tuple, is_value, is_tuple, paths_of, same_tuple, tuple_of_paths}
 use Rattle.yspec.specs.document.Faults.{Times, requires_instance, value_faults, tuple_info, tuple_code, under}
 use Rattle.yspec.specs.document.RowFaults.{absent_leaf_faults, wrong_amount}
-use Rattle.ytree.specs.Walk.{mine, others}
-use Rattle.ytree.specs.declared.tree.Stored as tree
+use Rattle.yinst_tree.specs.Walk.{mine, others}
+use Rattle.yinst_tree.specs.declared.tree.Stored as tree
 use Rattle.ycheck.specs.Cases.{chosen_from, how_many, is_chosen}
 use Rattle.ycheck.specs.Repeated.{marks, values_of, tuples_of}
 use Rattle.ycheck.specs.Targets.{holds}

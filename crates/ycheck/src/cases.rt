@@ -7,13 +7,13 @@ ghost use Rattle.yspec.specs.document.Document.{instances_in};
 ghost use Rattle.yspec.specs.document.Fitting.{IsNumbered};
 ghost use Rattle.yspec.specs.document.Play.{stored_among, stored_cases, or_default};
 ghost use Rattle.yspec.specs.document.Sorting.{IsSorted};
-ghost use Rattle.ymodel.specs.Layout.{number_of};
-ghost use Rattle.ymodel.specs.View as schema_view;
-ghost use Rattle.ytree.specs.View as document_view;
+ghost use Rattle.yschema_model.specs.Layout.{number_of};
+ghost use Rattle.yschema_model.specs.View as schema_view;
+ghost use Rattle.yinst_tree.specs.View as document_view;
 ghost use Rattle.ycheck.specs.Cases.{one_more, chosen_from, how_many, is_chosen, Chooses};
 
-use ymodel::{Child, Children, SchemaId};
-use ytree::{Stored, instances_of};
+use yinst_tree::{Stored, instances_of};
+use yschema_model::{Child, Children, SchemaId};
 
 /// How many cases of a choice have a stored data node.
 #[derive(Clone, Copy, Debug, PartialEq, Eq)]

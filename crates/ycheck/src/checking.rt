@@ -11,10 +11,10 @@ ghost use Rattle.yspec.specs.document.Faults.{faults_of, value_faults};
 ghost use Rattle.yspec.specs.document.RowFaults.{wrong_amount, absent_leaf_faults};
 ghost use Rattle.yspec.specs.document.Sorting.{IsSorted};
 ghost use Rattle.ytype.specs.View.{raw_of};
-ghost use Rattle.ymodel.specs.Layout.{leaf_type_view, absence_view, amount_view, tuples_view, kind_view};
-ghost use Rattle.ymodel.specs.View as schema_view;
-ghost use Rattle.ytree.specs.View as document_view;
-ghost use Rattle.ytree.specs.Walk.{others};
+ghost use Rattle.yschema_model.specs.Layout.{leaf_type_view, absence_view, amount_view, tuples_view, kind_view};
+ghost use Rattle.yschema_model.specs.View as schema_view;
+ghost use Rattle.yinst_tree.specs.View as document_view;
+ghost use Rattle.yinst_tree.specs.Walk.{others};
 ghost use Rattle.ycheck.specs.View.{code_view, info_view, views};
 ghost use Rattle.ycheck.specs.Found.{Adds, given_fault};
 ghost use Rattle.ycheck.specs.Walk.{times_of, lacks_instance, value_told, repetition, marks_told, entry_table, table_of, marks_at, amount_told, absent_told, position_at, instances_told, data_told, choice_told, inside_told, walked};
@@ -25,10 +25,10 @@ use crate::fault::{Fault, FaultCode, Info};
 use crate::repeated::{repeated_items, repeated_tuples};
 use crate::targets::Targets;
 use std::alloc::{AllocError, Global};
-use ymodel::{
+use yinst_tree::{Step, Stored, Tree, instances_of};
+use yschema_model::{
     Absence, Amount, Child, Children, Kind, LeafType, Schema, SchemaId, SchemaNode, Tuples,
 };
-use ytree::{Step, Stored, Tree, instances_of};
 use ytype::{BadValue, Raw, Val};
 
 /// The faults that are found, and the steps to the node at hand.

@@ -3,7 +3,7 @@
 ghost use Rattle.std.specs.Prelude.{◌≡◌, option_map, string_bytes};
 
 use std::fmt;
-use ytree::Step;
+use yinst_tree::Step;
 
 /// Which rule a document breaks.
 #[derive(Clone, Copy, Debug, PartialEq, Eq)]

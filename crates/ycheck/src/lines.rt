@@ -7,18 +7,18 @@ ghost use Rattle.yspec.specs.document.Faults.{info_text, line_of, or_dash, print
 ghost use Rattle.yspec.specs.document.Path as path;
 ghost use Rattle.yspec.specs.document.Path.{path_text};
 ghost use Rattle.yspec.specs.schema.Schema as spec;
-ghost use Rattle.youtput.specs.Writing.{Writes, side};
-ghost use Rattle.ymodel.specs.View as schema_view;
-ghost use Rattle.ymodel.specs.View.{node_view};
-ghost use Rattle.ytree.specs.View.{place_view, step_view};
+ghost use Rattle.ybase_output.specs.Writing.{Writes, side};
+ghost use Rattle.yschema_model.specs.View as schema_view;
+ghost use Rattle.yschema_model.specs.View.{node_view};
+ghost use Rattle.yinst_tree.specs.View.{place_view, step_view};
 ghost use Rattle.ycheck.specs.View.{code_view, lent_info_view, parts_view, tag_name, view};
 
 use crate::fault::{ErrorTag, Fault, FaultCode, FaultParts, LentInfo};
 use itoa::Buffer;
 use thiserror::Error;
-use ymodel::{Schema, SchemaNode};
-use youtput::{Sink, SinkFault, write_all, write_texts};
-use ytree::Step;
+use ybase_output::{Sink, SinkFault, write_all, write_texts};
+use yinst_tree::Step;
+use yschema_model::{Schema, SchemaNode};
 
 /// Why a line wasn't written.
 #[derive(Clone, Copy, Debug, PartialEq, Eq, Error)]

@@ -4,16 +4,16 @@ ghost use Rattle.std.specs.Prelude.{◌≡◌, IfOk, map, option_map};
 ghost use Rattle.std.specs.Ordering.{eq_by_cmp};
 ghost use Rattle.yspec.specs.types.Order.{same_value};
 ghost use Rattle.yspec.specs.document.Instances.{own_path, paths_of, tuple_of_paths, same_tuple};
-ghost use Rattle.ymodel.specs.Layout.{numbers_of, tuples_view};
-ghost use Rattle.ymodel.specs.View as schema_view;
-ghost use Rattle.ytree.specs.View as document_view;
+ghost use Rattle.yschema_model.specs.Layout.{numbers_of, tuples_view};
+ghost use Rattle.yschema_model.specs.View as schema_view;
+ghost use Rattle.yinst_tree.specs.View as document_view;
 ghost use Rattle.ycheck.specs.Repeated.{marks, values_of, tuples_of};
 
 use crate::values::{leaf_value, valid_value, value_at};
 use std::alloc::{AllocError, Global};
 use std::collections::BTreeMap;
-use ymodel::{Schema, SchemaId, Tuples};
-use ytree::Stored;
+use yinst_tree::Stored;
+use yschema_model::{Schema, SchemaId, Tuples};
 use ytype::{Val, YType};
 
 /// Of each of these keys, whether it is there and comes more than once.

@@ -5,9 +5,9 @@ ghost use Rattle.yspec.specs.Forest.{end, node};
 ghost use Rattle.yspec.specs.schema.Schema as spec;
 ghost use Rattle.yspec.specs.document.Document.{instances_in};
 ghost use Rattle.yspec.specs.document.Sorting.{IsSorted};
-ghost use Rattle.ymodel.specs.Layout.{number_of, absence_view};
-ghost use Rattle.ymodel.specs.View as schema_view;
-ghost use Rattle.ytree.specs.View as document_view;
+ghost use Rattle.yschema_model.specs.Layout.{number_of, absence_view};
+ghost use Rattle.yschema_model.specs.View as schema_view;
+ghost use Rattle.yinst_tree.specs.View as document_view;
 ghost use Rattle.ycheck.specs.Cases.{Chooses};
 ghost use Rattle.ycheck.specs.Targets as words;
 
@@ -15,8 +15,8 @@ use crate::cases::{Chosen, StoredCases, is_stored};
 use crate::values::value_of;
 use std::alloc::{AllocError, Global};
 use std::collections::{BTreeMap, BTreeSet};
-use ymodel::{Absence, Child, Children, Kind, Schema, SchemaId};
-use ytree::{Stored, Tree, instances_of};
+use yinst_tree::{Stored, Tree, instances_of};
+use yschema_model::{Absence, Child, Children, Kind, Schema, SchemaId};
 use ytype::Val;
 
 /// For each schema node that a leafref requires an instance of, the values that its instances have, defaults in use
@@ -29,8 +29,8 @@ pub(crate) struct Targets {
 impl Targets {
     ghost use Rattle.std.specs.Prelude.{◌≡◌, ◌||◌, ◌==◌, IfOk, OnOk};
     ghost use Rattle.yspec.specs.document.Sorting.{IsSorted};
-    ghost use Rattle.ymodel.specs.View as schema_view;
-    ghost use Rattle.ytree.specs.View as document_view;
+    ghost use Rattle.yschema_model.specs.View as schema_view;
+    ghost use Rattle.yinst_tree.specs.View as document_view;
     ghost use Rattle.ycheck.specs.Targets.{is_kept, holds, one_value, HasValues, Gathers};
 
     /// The values that a document has. Nothing is walked where no leafref requires an instance.

@@ -6,13 +6,13 @@ ghost use Rattle.yspec.specs.schema.Schema.{node_at};
 ghost use Rattle.yspec.specs.document.Document.{stored_in, row_in};
 ghost use Rattle.yspec.specs.document.Instances as spec;
 ghost use Rattle.ytype.specs.View.{raw_of};
-ghost use Rattle.ymodel.specs.Layout.{numbers_of};
-ghost use Rattle.ymodel.specs.View as schema_view;
-ghost use Rattle.ytree.specs.View as document_view;
+ghost use Rattle.yschema_model.specs.Layout.{numbers_of};
+ghost use Rattle.yschema_model.specs.View as schema_view;
+ghost use Rattle.yinst_tree.specs.View as document_view;
 
 use std::alloc::{AllocError, Global};
-use ymodel::{Absence, Kind, Schema, SchemaId};
-use ytree::Stored;
+use yinst_tree::Stored;
+use yschema_model::{Absence, Kind, Schema, SchemaId};
 use ytype::{BadValue, Raw, Val, YType};
 
 /// The value that a type takes, where it takes it.

@@ -9,9 +9,9 @@ use Rattle.std.proofs.lemmas.List.Elements.{filter-append}
 use Rattle.yspec.specs.text.Text.{Text}
 use Rattle.yspec.specs.schema.Schema.{Schema, SchemaNode, LeafType, is_data, type_in, keys_in, node_at, way_to}
 use Rattle.yspec.specs.schema.Diagram.{prefixed_name, name_text, label, label_width, option_mark, key_name, key_names, path_to, referred, type_text, type_column, spaces}
-use Rattle.ymodel.specs.declared.node.SchemaId.{SchemaId}
-use Rattle.ymodel.specs.Layout.{numbers_of}
-use Rattle.ymodel.specs.Lookup.{alone, way_above}
+use Rattle.yschema_model.specs.declared.node.SchemaId.{SchemaId}
+use Rattle.yschema_model.specs.Layout.{numbers_of}
+use Rattle.yschema_model.specs.Lookup.{alone, way_above}
 use Rattle.ydiagram.specs.View.{step_by, step_text}
 
 -- ---- parts of labels

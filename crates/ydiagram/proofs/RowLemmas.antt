@@ -8,8 +8,8 @@ use Rattle.yspec.specs.Forest.{Forest, end, node, size}
 use Rattle.yspec.specs.text.Text.{Text}
 use Rattle.yspec.specs.schema.Schema.{Schema, SchemaNode}
 use Rattle.yspec.specs.schema.Diagram.{indented, line_text, row_lines, row_width, owned_by}
-use Rattle.ymodel.specs.View.{label_of, below_of}
-use Rattle.ymodel.specs.declared.children.Child.{Child}
+use Rattle.yschema_model.specs.View.{label_of, below_of}
+use Rattle.yschema_model.specs.declared.children.Child.{Child}
 use Rattle.ydiagram.specs.View.{column, shows, shown_in, line_written, rest_written, row_written, node_written, held_written}
 
 -- ---- the nodes that are shown

@@ -7,9 +7,9 @@ use Rattle.yspec.specs.text.Text.{Text}
 use Rattle.yspec.specs.schema.Schema.{Schema, SchemaNode, Augment, is_data, node_at, children_of, child_in, way_to}
 use Rattle.yspec.specs.schema.Diagram as spec
 use Rattle.yspec.specs.schema.Diagram.{prefixed_name, line_text, row_width, row_lines}
-use Rattle.ymodel.specs.View.{label_of, below_of, augment_view}
-use Rattle.ymodel.specs.declared.children.Child.{Child}
-use Rattle.ymodel.specs.declared.schema.Augment as held
+use Rattle.yschema_model.specs.View.{label_of, below_of, augment_view}
+use Rattle.yschema_model.specs.declared.children.Child.{Child}
+use Rattle.yschema_model.specs.declared.schema.Augment as held
 use Rattle.ydiagram.specs.declared.indentation.Indentation.{Indentation, Top, Added, Below'}
 
 abbrev pub column : Bool → Text

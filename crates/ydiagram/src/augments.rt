@@ -4,18 +4,18 @@ ghost use Rattle.std.specs.Prelude.{◌≡◌, true, codes};
 ghost use Rattle.std.specs.List.{flat_map};
 ghost use Rattle.yspec.specs.schema.Schema.{way_to};
 ghost use Rattle.yspec.specs.schema.Diagram as spec;
-ghost use Rattle.youtput.specs.Writing.{Writes, side};
-ghost use Rattle.ymodel.specs.Ascending.{all_ascend, ascends_from};
-ghost use Rattle.ymodel.specs.Layout.{numbers_of};
-ghost use Rattle.ymodel.specs.View.{augment_view, view};
+ghost use Rattle.ybase_output.specs.Writing.{Writes, side};
+ghost use Rattle.yschema_model.specs.Ascending.{all_ascend, ascends_from};
+ghost use Rattle.yschema_model.specs.Layout.{numbers_of};
+ghost use Rattle.yschema_model.specs.View.{augment_view, view};
 ghost use Rattle.ydiagram.specs.View.{added_row, augments_seen, augments_written, row_written, starts_elsewhere, target_step};
 
 use crate::fault::{DiagramFault, put};
 use crate::indentation::Indentation;
 use crate::label::label_width;
 use crate::rows::write_held;
-use ymodel::{Augment, Schema, SchemaId};
-use youtput::Sink;
+use ybase_output::Sink;
+use yschema_model::{Augment, Schema, SchemaId};
 
 /// Whether the way to a node begins with a node of another module than the one that is shown.
 fn is_elsewhere(schema: &Schema, shown: usize, id: SchemaId) -> bool

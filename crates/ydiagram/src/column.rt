@@ -2,15 +2,15 @@
 
 ghost use Rattle.std.specs.Prelude.{◌≡◌};
 ghost use Rattle.yspec.specs.schema.Diagram as spec;
-ghost use Rattle.youtput.specs.Writing.{Writes, side};
-ghost use Rattle.ymodel.specs.Layout.{leaf_type_view, number_of};
-ghost use Rattle.ymodel.specs.View.{node_view, view};
+ghost use Rattle.ybase_output.specs.Writing.{Writes, side};
+ghost use Rattle.yschema_model.specs.Layout.{leaf_type_view, number_of};
+ghost use Rattle.yschema_model.specs.View.{node_view, view};
 ghost use Rattle.ydiagram.specs.View.{step_text};
 
 use crate::fault::{DiagramFault, put};
 use crate::label::{label_width, write_prefixed};
-use ymodel::{LeafType, Schema, SchemaId, SchemaNode};
-use youtput::Sink;
+use ybase_output::Sink;
+use yschema_model::{LeafType, Schema, SchemaId, SchemaNode};
 
 /// Writes so many spaces.
 fn write_spaces<W: Sink>(count: u128, sink: &mut W) -> Result<(), DiagramFault>

@@ -1,10 +1,10 @@
 //! Why a diagram wasn't written, and how texts of it are.
 
 ghost use Rattle.std.specs.List.{flat_map};
-ghost use Rattle.youtput.specs.Writing.{Writes, side};
+ghost use Rattle.ybase_output.specs.Writing.{Writes, side};
 
 use thiserror::Error;
-use youtput::{Sink, SinkFault, write_texts};
+use ybase_output::{Sink, SinkFault, write_texts};
 
 /// Why a diagram wasn't written.
 #[derive(Clone, Copy, Debug, PartialEq, Eq, Error)]

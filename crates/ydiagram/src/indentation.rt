@@ -1,11 +1,11 @@
 //! What stands in front of a line.
 
 ghost use Rattle.std.specs.Prelude.{◌≡◌};
-ghost use Rattle.youtput.specs.Writing.{Writes, side};
+ghost use Rattle.ybase_output.specs.Writing.{Writes, side};
 ghost use Rattle.ydiagram.specs.View.{column, indentation_text};
 
 use crate::fault::{DiagramFault, put};
-use youtput::Sink;
+use ybase_output::Sink;
 
 /// The indentation of a row: that of the row above it, and a column below its parent.
 #[derive(Clone, Copy)]

@@ -2,13 +2,13 @@
 
 ghost use Rattle.std.specs.Prelude.{◌≡◌, ◌<◌, ◌^◌, length};
 ghost use Rattle.yspec.specs.schema.Diagram as spec;
-ghost use Rattle.youtput.specs.Writing.{Writes, side};
-ghost use Rattle.ymodel.specs.Layout.{absence_view, numbers_of};
-ghost use Rattle.ymodel.specs.View.{kind_view, node_view, view};
+ghost use Rattle.ybase_output.specs.Writing.{Writes, side};
+ghost use Rattle.yschema_model.specs.Layout.{absence_view, numbers_of};
+ghost use Rattle.yschema_model.specs.View.{kind_view, node_view, view};
 
 use crate::fault::{DiagramFault, put};
-use ymodel::{Absence, Kind, Schema, SchemaId, SchemaNode};
-use youtput::Sink;
+use ybase_output::Sink;
+use yschema_model::{Absence, Kind, Schema, SchemaId, SchemaNode};
 
 /// Writes the name of a node, behind its module's prefix where that isn't the module that is shown.
 pub(crate) fn write_prefixed<W: Sink>(

@@ -2,13 +2,13 @@
 
 ghost use Rattle.std.specs.Prelude.{◌≡◌};
 ghost use Rattle.yspec.specs.schema.Diagram as spec;
-ghost use Rattle.youtput.specs.Writing.{Writes, side};
-ghost use Rattle.ymodel.specs.View.{kind_view, node_view, status_view};
+ghost use Rattle.ybase_output.specs.Writing.{Writes, side};
+ghost use Rattle.yschema_model.specs.View.{kind_view, node_view, status_view};
 
 use crate::fault::{DiagramFault, put};
-use ymodel::{Kind, SchemaNode};
-use youtput::Sink;
-use yword::Status;
+use ybase_output::Sink;
+use ybase_words::Status;
+use yschema_model::{Kind, SchemaNode};
 
 fn status_mark(status: Status) -> &'static str
     ensures { result.now ≡ spec.status_mark (status_view status) }

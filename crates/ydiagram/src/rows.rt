@@ -3,8 +3,8 @@
 ghost use Rattle.std.specs.Prelude.{◌≡◌};
 ghost use Rattle.yspec.specs.schema.Schema.{module_name};
 ghost use Rattle.yspec.specs.schema.Diagram as spec;
-ghost use Rattle.youtput.specs.Writing.{Writes, side};
-ghost use Rattle.ymodel.specs.View.{label_of, below_of, node_view, row_view, view};
+ghost use Rattle.ybase_output.specs.Writing.{Writes, side};
+ghost use Rattle.yschema_model.specs.View.{label_of, below_of, node_view, row_view, view};
 ghost use Rattle.ydiagram.specs.View.{held_written, indentation_text, line_written, node_written, row_written, shows, shown_in};
 
 use crate::augments::write_augments;
@@ -13,8 +13,8 @@ use crate::fault::{DiagramFault, put};
 use crate::indentation::{Indentation, write_indentation};
 use crate::label::{label_width, write_label};
 use crate::marks::write_marks;
-use ymodel::{Child, Children, Schema, SchemaNode};
-use youtput::Sink;
+use ybase_output::Sink;
+use yschema_model::{Child, Children, Schema, SchemaNode};
 
 /// Whether a row shows a node: one that shows the nodes of one module alone, or all.
 fn is_shown(owner: Option<usize>, node: &SchemaNode) -> bool

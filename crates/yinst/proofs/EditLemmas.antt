@@ -11,12 +11,12 @@ use Rattle.yspec.specs.edit.Editing.{EditRefusal, Branch, refused, value_refused
 use Rattle.yspec.specs.document.Document.{Tree}
 use Rattle.yspec.proofs.EditProofs.AnswerLemmas.{If}
 use Rattle.yspec.proofs.SchemaProofs.NumberLemmas.{number_at}
-use Rattle.ytree.specs.View.{Labelled, tree_view}
-use Rattle.ytree.specs.Told.{denoted_at, refused_at}
+use Rattle.yinst_tree.specs.View.{Labelled, tree_view}
+use Rattle.yinst_tree.specs.Told.{denoted_at, refused_at}
 use Rattle.yspec.specs.Results.{Gives}
-use Rattle.ypath.specs.Applying.{told_by}
-use Rattle.ytree.specs.declared.tree.Tree as tree
-use Rattle.ypath.specs.declared.edit.EditFault.{EditFault}
+use Rattle.yinst_path.specs.Applying.{told_by}
+use Rattle.yinst_tree.specs.declared.tree.Tree as tree
+use Rattle.yinst_path.specs.declared.edit.EditFault.{EditFault}
 
 pub branch_of_value : (s : Schema) (n : ℕ) (bytes text : List ℕ) (d : Data) → bytes ≡ text → json_of bytes ≡ Some d → branch_of s n text ≡ branch_at s n d
 branch_of_value s n bytes text d same is = ap (λ o. option_map_or (branch_at s n) o (refused 9)) (ap json_of (sym same) ∙ is)

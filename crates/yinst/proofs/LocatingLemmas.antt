@@ -8,7 +8,7 @@ use Rattle.yspec.specs.edit.Edit.{instance_index}
 use Rattle.yspec.specs.edit.EditText.{Predicate, unsaid, at_position, with_keys}
 use Rattle.yspec.specs.edit.Editing.{EditRefusal, BoundStep, Target, refused, instance_meant, the_one, positions_where, fits_keys, row_at, lower, target}
 use Rattle.yspec.proofs.SchemaProofs.NumberLemmas.{number_at}
-use Rattle.ypath.specs.Binding.{no_node, node_of}
+use Rattle.yinst_path.specs.Binding.{no_node, node_of}
 use Rattle.yinst.specs.Locating.{meant_in, target_on}
 
 pub number_is : (s : Schema) (i : ℕ) → (node_of s i).number ≡ i

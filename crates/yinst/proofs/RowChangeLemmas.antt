@@ -7,12 +7,12 @@ use Rattle.yspec.specs.document.Document as document
 use Rattle.yspec.specs.document.Document.{Tree}
 use Rattle.yspec.specs.edit.Edit.{is_of, change_below}
 use Rattle.yspec.specs.edit.Editing.{Branch, with_branch, goes_before, with_branch_behind}
-use Rattle.ytree.specs.View.{Labelled, view, row_view}
-use Rattle.ytree.specs.Walk.{before_first, from_first}
+use Rattle.yinst_tree.specs.View.{Labelled, view, row_view}
+use Rattle.yinst_tree.specs.Walk.{before_first, from_first}
 use Rattle.yinst.specs.Rows.{number_of, is_behind, nth_index, index_among, change_first, behind_first, branch_view}
-use Rattle.ytree.specs.declared.tree.Stored.{Stored}
+use Rattle.yinst_tree.specs.declared.tree.Stored.{Stored}
 use Rattle.yspec.proofs.ForestLemmas.{join_end}
-use Rattle.ytree.proofs.RowLemmas.{join_last}
+use Rattle.yinst_tree.proofs.RowLemmas.{join_last}
 
 -- a change of an instance is one of the first node from its place on
 pub nth_parts : (n k : ℕ) (change : document.Stored → Tree → Tree → Tree) (xs : List Stored) → change_nth (is_of n) k change (row_view xs)

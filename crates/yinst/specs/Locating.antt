@@ -7,8 +7,8 @@ use Rattle.yspec.specs.edit.Edit.{instance_index}
 use Rattle.yspec.specs.edit.EditText.{Key, Predicate, unsaid, at_position, with_keys}
 use Rattle.yspec.specs.edit.Editing as spec
 use Rattle.yspec.specs.edit.Editing.{EditRefusal, Target, refused}
-use Rattle.ytree.specs.View.{row_view}
-use Rattle.ypath.specs.Binding.{node_of, step_view}
+use Rattle.yinst_tree.specs.View.{row_view}
+use Rattle.yinst_path.specs.Binding.{node_of, step_view}
 use Rattle.yinst.specs.declared.locating.Spot.{Spot}
 use Rattle.yinst.specs.declared.locating.Located.{Located}
 

@@ -6,8 +6,8 @@ use Rattle.yspec.specs.document.Document as document
 use Rattle.yspec.specs.document.Document.{Tree, Step}
 use Rattle.yspec.specs.edit.Edit.{instance_index}
 use Rattle.yspec.specs.edit.Editing.{Branch, with_branch, with_instead, without, instance_branch, goes_before, with_branch_behind}
-use Rattle.ytree.specs.View.{view}
-use Rattle.ytree.specs.declared.tree.Stored.{Stored}
+use Rattle.yinst_tree.specs.View.{view}
+use Rattle.yinst_tree.specs.declared.tree.Stored.{Stored}
 use Rattle.yinst.specs.Locating.{spot_view}
 use Rattle.yinst.specs.declared.rows.Change.{Change}
 use Rattle.yinst.specs.declared.rows.Change.TheVariants.{Add, Put, TakeAway, Move}

@@ -7,12 +7,12 @@ ghost use Rattle.yspec.specs.document.Fitting.{Fits};
 ghost use Rattle.yspec.specs.document.Writing.{IsDocument};
 ghost use Rattle.yspec.specs.edit.Edit.{edit_at};
 ghost use Rattle.yspec.specs.edit.Editing as spec;
-ghost use Rattle.ymodel.specs.View as schema_view;
-ghost use Rattle.ytree.specs.View.{tree_view, row_view};
-ghost use Rattle.ypath.specs.EditView.{edit_view, path_view};
+ghost use Rattle.yschema_model.specs.View as schema_view;
+ghost use Rattle.yinst_tree.specs.View.{tree_view, row_view};
+ghost use Rattle.yinst_path.specs.EditView.{edit_view, path_view};
 ghost use Rattle.yspec.specs.Results.{Gives};
-ghost use Rattle.ypath.specs.Applying.{told_by};
-ghost use Rattle.ypath.specs.Binding.{node_of};
+ghost use Rattle.yinst_path.specs.Applying.{told_by};
+ghost use Rattle.yinst_path.specs.Binding.{node_of};
 ghost use Rattle.yinst.specs.Locating.{spot_view, spots_view, located_view};
 ghost use Rattle.yinst.specs.Rows.{branch_view, change_view};
 
@@ -20,9 +20,9 @@ use crate::branch::part;
 use crate::locating::{Located, Spot, count_of, instance_meant, locate};
 use crate::rows::{Change, changed_row, is_over};
 use std::alloc::{AllocError, Global};
-use ymodel::{Schema, SchemaId};
-use ypath::{Edit, EditCode, EditFault, Path, bind_path, bind_to_move, refused};
-use ytree::{DOCUMENT_LIMIT, Stored, Tree};
+use yinst_path::{Edit, EditCode, EditFault, Path, bind_path, bind_to_move, refused};
+use yinst_tree::{DOCUMENT_LIMIT, Stored, Tree};
+use yschema_model::{Schema, SchemaId};
 
 /// The document after an edit, or the first refusal: of the path's steps and the position to move to E1, of the path's
 /// names E2 and its predicates E3, of where it stands E4 to E8, of its value E9 and E10, and E11. The document that is given stays as it is.

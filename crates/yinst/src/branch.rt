@@ -2,16 +2,16 @@
 
 ghost use Rattle.serde_json.specs.View as json;
 ghost use Rattle.yspec.specs.edit.Editing as spec;
-ghost use Rattle.ymodel.specs.View as schema_view;
+ghost use Rattle.yschema_model.specs.View as schema_view;
 ghost use Rattle.yspec.specs.Results.{Gives};
-ghost use Rattle.ypath.specs.Applying.{told_by};
+ghost use Rattle.yinst_path.specs.Applying.{told_by};
 ghost use Rattle.yinst.specs.Rows.{branch_view};
 
 use serde_json::Value;
 use std::alloc::Global;
-use ymodel::{Schema, SchemaId};
-use ypath::{EditCode, EditFault, refused};
-use ytree::{DocFault, Stored, read_node};
+use yinst_path::{EditCode, EditFault, refused};
+use yinst_tree::{DocFault, Stored, read_node};
+use yschema_model::{Schema, SchemaId};
 
 /// The node that a JSON text denotes at a schema node, with what stands below it: E9 of a text that is no JSON, E10 with
 /// the first refusal of a document. Of a list or leaf-list the text is that of one entry or item.

@@ -8,5 +8,7 @@ mod rows;
 
 pub use applying::apply;
 pub use branch::part;
-pub use ypath::{Bound, BoundStep, Edit, EditCode, EditFault, Key, NamedStep, Path, Predicate};
-pub use ytree::{DocCode, DocFault, Step, Stored, Tree, read, write};
+pub use yinst_path::{
+    Bound, BoundStep, Edit, EditCode, EditFault, Key, NamedStep, Path, Predicate,
+};
+pub use yinst_tree::{DocCode, DocFault, Step, Stored, Tree, read, write};

@@ -9,21 +9,21 @@ ghost use Rattle.yspec.specs.document.Document as document;
 ghost use Rattle.yspec.specs.document.Document.{instances_in};
 ghost use Rattle.yspec.specs.edit.Edit.{instance_index};
 ghost use Rattle.yspec.specs.edit.Editing as spec;
-ghost use Rattle.ymodel.specs.Layout.{numbers_of};
-ghost use Rattle.ymodel.specs.View as schema_view;
-ghost use Rattle.ytree.specs.View.{view, row_view};
+ghost use Rattle.yschema_model.specs.Layout.{numbers_of};
+ghost use Rattle.yschema_model.specs.View as schema_view;
+ghost use Rattle.yinst_tree.specs.View.{view, row_view};
 ghost use Rattle.yspec.specs.Results.{Gives};
-ghost use Rattle.ypath.specs.Applying.{edit_number, told_by};
-ghost use Rattle.ypath.specs.Binding.{node_of};
-ghost use Rattle.ypath.specs.Binding as binding;
-ghost use Rattle.ypath.specs.EditView.{predicate_view, keys_view};
+ghost use Rattle.yinst_path.specs.Applying.{edit_number, told_by};
+ghost use Rattle.yinst_path.specs.Binding.{node_of};
+ghost use Rattle.yinst_path.specs.Binding as binding;
+ghost use Rattle.yinst_path.specs.EditView.{predicate_view, keys_view};
 ghost use Rattle.yinst.specs.Locating as locating;
 ghost use Rattle.yinst.specs.Locating.{spot_view, spots_view, located_view};
 
 use std::alloc::{AllocError, Global};
-use ymodel::{LeafType, Schema, SchemaId};
-use ypath::{BoundStep, EditCode, EditFault, Key, Predicate, has_name, refused};
-use ytree::Stored;
+use yinst_path::{BoundStep, EditCode, EditFault, Key, Predicate, has_name, refused};
+use yinst_tree::Stored;
+use yschema_model::{LeafType, Schema, SchemaId};
 use ytype::{BadValue, Raw};
 
 /// A step down, to the one instance of a schema node or to that at a position, from 1.

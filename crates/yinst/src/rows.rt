@@ -5,16 +5,16 @@ ghost use Rattle.yspec.specs.Forest.{node, join, size};
 ghost use Rattle.yspec.specs.edit.Edit.{change_below, edit_at};
 ghost use Rattle.yspec.specs.edit.Edit as edits;
 ghost use Rattle.yspec.specs.edit.Editing as spec;
-ghost use Rattle.ytree.specs.View.{view, row_view};
+ghost use Rattle.yinst_tree.specs.View.{view, row_view};
 ghost use Rattle.yinst.specs.Locating.{spot_view, spots_view};
-ghost use Rattle.ytree.specs.Walk.{before_first, from_first};
+ghost use Rattle.yinst_tree.specs.Walk.{before_first, from_first};
 ghost use Rattle.yinst.specs.Rows.{is_behind, branch_view, change_view, behind_first};
 ghost use Rattle.yinst.specs.Rows as rows;
 
 use crate::locating::{Spot, instance_index};
 use std::alloc::{AllocError, Global};
-use ymodel::SchemaId;
-use ytree::Stored;
+use yinst_tree::Stored;
+use yschema_model::SchemaId;
 
 /// What is done in a row.
 #[derive(Debug, Drop)]

@@ -22,12 +22,12 @@ use Rattle.yspec.specs.linking.Identities.{assigned_identity, identities_of, is_
 use Rattle.yspec.specs.linking.Keyword.{identity_word, type_word}
 use Rattle.yspec.specs.linking.Scopes.{Placed, placed, statements_of}
 use Rattle.yspec.specs.linking.Source.{Source, is_source_of, argument_in}
-use Rattle.ygraph.specs.Derivation.{derives}
-use Rattle.ypreorder.specs.Layout.{numbered_by, labels_by, forest_of}
-use Rattle.ypreorder.specs.declared.slot.Slot.{Slot}
-use Rattle.ypreorder.proofs.LabelLemmas.{preorder_by}
-use Rattle.ygrammar.specs.declared.source.Source as held
-use Rattle.ygrammar.specs.SourceView.{source_view}
+use Rattle.ybase_graph.specs.Derivation.{derives}
+use Rattle.ybase_preorder.specs.Layout.{numbered_by, labels_by, forest_of}
+use Rattle.ybase_preorder.specs.declared.slot.Slot.{Slot}
+use Rattle.ybase_preorder.proofs.LabelLemmas.{preorder_by}
+use Rattle.ylink_grammar.specs.declared.source.Source as held
+use Rattle.ylink_grammar.specs.SourceView.{source_view}
 use Rattle.ylink.specs.DerivedView.{base_by, type_bases, Ascend, common_among, derived_among, set_at, AreSets}
 use Rattle.ylink.specs.IdentityView.{home_view, listed, identity_view, number_of, name_among, assigned_by}
 use Rattle.ylink.specs.declared.identities.Identity.{Identity}

@@ -12,11 +12,11 @@ use Rattle.yspec.specs.linking.Scopes.{Placed, placed, statements_of, statement_
 use Rattle.yspec.specs.linking.Source.{Source, Stated, is_source_of, found_with, stated_with}
 use Rattle.yspec.specs.linking.TypeStatements.{wrong, verdict, verdicts, verdict_on, verdict_in_place, are_in_place, built_in_meant, derived}
 use Rattle.yspec.proofs.LinkingProofs.KeywordLemmas.{same_is}
-use Rattle.ygraph.specs.Reaching.{HasEdge}
-use Rattle.ypreorder.proofs.NumberLemmas.{AreFrom, found_again, found_among}
-use Rattle.ynames.specs.ReferringView.{innermost_of}
-use Rattle.ynames.specs.ScopeView.{placed_at}
-use Rattle.ynames.proofs.PlacedLemmas.{number_of, edge_among, below_them}
+use Rattle.ybase_graph.specs.Reaching.{HasEdge}
+use Rattle.ybase_preorder.proofs.NumberLemmas.{AreFrom, found_again, found_among}
+use Rattle.ylink_names.specs.ReferringView.{innermost_of}
+use Rattle.ylink_names.specs.ScopeView.{placed_at}
+use Rattle.ylink_names.proofs.PlacedLemmas.{number_of, edge_among, below_them}
 
 -- ---- verdicts
 

@@ -17,21 +17,21 @@ use Rattle.yspec.specs.linking.Graph.{is_on_circle}
 use Rattle.yspec.specs.linking.Scopes.{Placed, meaning, statements_of, statement_at}
 use Rattle.yspec.specs.linking.Source.{Source}
 use Rattle.yspec.proofs.LinkingProofs.BreakLemmas.{none_first, none_second, unbroken}
-use Rattle.ygraph.specs.Reaching.{leads, has_edge, HasEdge, StandsBefore}
-use Rattle.ypreorder.specs.Layout.{numbered_by}
-use Rattle.ypreorder.specs.View.{row_by}
-use Rattle.ypreorder.proofs.LabelLemmas.{size-by}
-use Rattle.ypreorder.specs.declared.siblings.Siblings.{Siblings}
-use Rattle.ygrammar.specs.declared.source.Source as held
-use Rattle.ygrammar.specs.SourceView.{source_view}
-use Rattle.ynames.specs.MeaningView.{meaning_at, AreMeanings}
-use Rattle.ynames.specs.Ordered.{IsNamed, AreInOrder}
-use Rattle.ynames.proofs.NumberedLemmas.{length_placed}
+use Rattle.ybase_graph.specs.Reaching.{leads, has_edge, HasEdge, StandsBefore}
+use Rattle.ybase_preorder.specs.Layout.{numbered_by}
+use Rattle.ybase_preorder.specs.View.{row_by}
+use Rattle.ybase_preorder.proofs.LabelLemmas.{size-by}
+use Rattle.ybase_preorder.specs.declared.siblings.Siblings.{Siblings}
+use Rattle.ylink_grammar.specs.declared.source.Source as held
+use Rattle.ylink_grammar.specs.SourceView.{source_view}
+use Rattle.ylink_names.specs.MeaningView.{meaning_at, AreMeanings}
+use Rattle.ylink_names.specs.Ordered.{IsNamed, AreInOrder}
+use Rattle.ylink_names.proofs.NumberedLemmas.{length_placed}
 use Rattle.ylink.specs.TypedefView.{known_at, known_view, row_at, AreRows}
 use Rattle.ylink.specs.declared.typedefs.Known as known_in_code
 use Rattle.ylink.proofs.KnownLemmas.{same_known}
-use Rattle.ynames.proofs.OrderedLemmas.{edge_named, place_of}
-use Rattle.ynames.proofs.PlacedLemmas.{are_from, among_them, number_named_at}
+use Rattle.ylink_names.proofs.OrderedLemmas.{edge_named, place_of}
+use Rattle.ylink_names.proofs.PlacedLemmas.{are_from, among_them, number_named_at}
 use Rattle.ylink.proofs.WithinLemmas.{meant_within}
 
 none_at : (meanings : List (Option ℕ)) (n : ℕ) → list_any is_some meanings ≡ false → meaning_at meanings n ≡ None

@@ -6,12 +6,12 @@ use Rattle.yspec.specs.Forest.{Forest}
 use Rattle.yspec.specs.linking.Source.{Source}
 use Rattle.yspec.specs.linking.Scopes.{Placed, statements_of}
 use Rattle.yspec.specs.linking.DerivedTypes.{typedef_row}
-use Rattle.ypreorder.specs.Layout.{numbered_by}
-use Rattle.ypreorder.specs.View.{row_by}
-use Rattle.ypreorder.specs.declared.siblings.Siblings.{Siblings}
-use Rattle.ygrammar.specs.declared.source.Source as held
-use Rattle.ygrammar.specs.SourceView.{source_view}
-use Rattle.ynames.proofs.PlacedLemmas.{found_at}
+use Rattle.ybase_preorder.specs.Layout.{numbered_by}
+use Rattle.ybase_preorder.specs.View.{row_by}
+use Rattle.ybase_preorder.specs.declared.siblings.Siblings.{Siblings}
+use Rattle.ylink_grammar.specs.declared.source.Source as held
+use Rattle.ylink_grammar.specs.SourceView.{source_view}
+use Rattle.ylink_names.proofs.PlacedLemmas.{found_at}
 use Rattle.ylink.specs.TypedefView.{row_at, AreRows}
 
 module _ (f : Forest held.Source) where

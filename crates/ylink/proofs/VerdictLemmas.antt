@@ -12,12 +12,12 @@ use Rattle.yspec.specs.linking.Scopes.{Placed, statements_of}
 use Rattle.yspec.specs.linking.TypeStatements as spec
 use Rattle.yspec.specs.linking.TypeStatements.{verdict, verdicts}
 use Rattle.yspec.specs.linking.DerivedTypes.{verdict_by, known_named, verdict_of, meant_by, type_meant, type_break, type_breaks}
-use Rattle.ypreorder.specs.Layout.{numbered_by}
-use Rattle.ygrammar.specs.declared.source.Source as held
-use Rattle.ygrammar.specs.SourceView.{source_view}
-use Rattle.ynames.proofs.NumberedLemmas.{by_number_from}
+use Rattle.ybase_preorder.specs.Layout.{numbered_by}
+use Rattle.ylink_grammar.specs.declared.source.Source as held
+use Rattle.ylink_grammar.specs.SourceView.{source_view}
+use Rattle.ylink_names.proofs.NumberedLemmas.{by_number_from}
 use Rattle.ylink.specs.VerdictView.{members_in, members_below, judged, verdict_held, told_by}
-use Rattle.ynames.proofs.PlacedLemmas.{found_at}
+use Rattle.ylink_names.proofs.PlacedLemmas.{found_at}
 use Rattle.ylink.proofs.TypeLemmas.{no_verdict, next_verdict, no_more_verdicts}
 
 -- what was pushed first is set once what stands below it is pushed

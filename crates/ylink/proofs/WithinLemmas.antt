@@ -11,11 +11,11 @@ use Rattle.yspec.specs.linking.Imports.{body_at, module_meant}
 use Rattle.yspec.specs.linking.Keyword.{Keyword}
 use Rattle.yspec.specs.linking.Scopes.{Placed, placed, statements_of, around, defines, defined_in, definition_named, meaning, kind_named, names_built_in}
 use Rattle.yspec.specs.linking.Source.{Source, is_source_of, argument_in}
-use Rattle.ygraph.specs.Edges.{edge_view, AreWithin, IsEdgeWithin}
-use Rattle.ygraph.specs.declared.circles.Edge.{Edge}
-use Rattle.ypreorder.specs.Layout.{numbered_by}
-use Rattle.ygrammar.specs.declared.source.Source as held
-use Rattle.ygrammar.specs.SourceView.{source_view}
+use Rattle.ybase_graph.specs.Edges.{edge_view, AreWithin, IsEdgeWithin}
+use Rattle.ybase_graph.specs.declared.circles.Edge.{Edge}
+use Rattle.ybase_preorder.specs.Layout.{numbered_by}
+use Rattle.ylink_grammar.specs.declared.source.Source as held
+use Rattle.ylink_grammar.specs.SourceView.{source_view}
 
 -- what holds of each of a list
 abbrev pub Each : {A : Type 0} → (A → Type 0) → List A → Type 0

@@ -9,7 +9,7 @@ use Rattle.yspec.specs.Forest.{Forest, end, node}
 use Rattle.yspec.specs.linking.Graph.{Edge}
 use Rattle.yspec.specs.linking.Keyword.{base_word, type_word}
 use Rattle.yspec.specs.linking.Source.{Source, is_source_of, all_with}
-use Rattle.ygraph.specs.Derivation.{derives}
+use Rattle.ybase_graph.specs.Derivation.{derives}
 
 -- each is one more than the one before it at least, and the first a number at least
 abbrev pub Ascend : ℕ → List ℕ → Type 0

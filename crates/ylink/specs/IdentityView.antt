@@ -12,8 +12,8 @@ use Rattle.yspec.specs.linking.Circles.{definition_edges}
 use Rattle.yspec.specs.linking.Identities.{assigned_identity, identities_of}
 use Rattle.yspec.specs.linking.Keyword.{identity_word}
 use Rattle.yspec.specs.linking.Source.{Source, is_source_of, argument_in}
-use Rattle.ygraph.specs.Derivations.{AreStraight}
-use Rattle.ygraph.specs.Edges.{edge_view}
+use Rattle.ybase_graph.specs.Derivations.{AreStraight}
+use Rattle.ybase_graph.specs.Edges.{edge_view}
 use Rattle.ylink.specs.DerivedView.{Ascend, AreSets}
 use Rattle.ylink.specs.declared.identities.Identity.{Identity}
 use Rattle.ylink.specs.declared.identities.Identities.{Identities}

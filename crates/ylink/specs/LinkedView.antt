@@ -3,7 +3,7 @@ use Rattle.std.specs.Prelude.{◌≡◌, List}
 use Rattle.yspec.specs.Forest.{Forest}
 use Rattle.yspec.specs.linking.Source.{Source}
 use Rattle.ytext.specs.View.{Labelled}
-use Rattle.ygrammar.specs.LinkView as statements
+use Rattle.ylink_grammar.specs.LinkView as statements
 use Rattle.ylink.specs.declared.linked.Linked.{Linked}
 
 abbrev pub view : Linked → Forest Source

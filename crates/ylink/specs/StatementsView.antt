@@ -2,8 +2,8 @@
 use Rattle.std.specs.Prelude.{ℕ, List, map}
 use Rattle.yspec.specs.Forest.{Forest, row}
 use Rattle.yspec.specs.linking.Source.{Source}
-use Rattle.ypreorder.specs.View.{row_by}
-use Rattle.ygrammar.specs.SourceView.{source_view}
+use Rattle.ybase_preorder.specs.View.{row_by}
+use Rattle.ylink_grammar.specs.SourceView.{source_view}
 use Rattle.ylink.specs.declared.linked.StmtId.{StmtId}
 use Rattle.ylink.specs.declared.statements.Statements.{Statements}
 

@@ -1,7 +1,7 @@
 -- Refusals of the compiler as the specification's.
 use Rattle.std.specs.Prelude.{Option, Some, None}
 use Rattle.yspec.specs.schema.Breaks as spec
-pub use Rattle.ygrammar.specs.BreakView.{code_number, break_view, seen}
+pub use Rattle.ylink_grammar.specs.BreakView.{code_number, break_view, seen}
 use Rattle.ylink.specs.declared.fault.CompileFault.{CompileFault}
 use Rattle.ylink.specs.declared.fault.CompileFault.TheVariants.{Refused, Memory}
 

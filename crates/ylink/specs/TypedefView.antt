@@ -7,11 +7,11 @@ use Rattle.yspec.specs.linking.Source.{Source, is_source_of}
 use Rattle.yspec.specs.linking.Scopes.{Placed, statements_of, number_named}
 use Rattle.yspec.specs.linking.TypeStatements.{Verdict}
 use Rattle.yspec.specs.linking.DerivedTypes as spec
-use Rattle.ypreorder.specs.View.{row_by}
-use Rattle.ypreorder.specs.declared.siblings.Siblings.{Siblings}
-use Rattle.ygrammar.specs.SourceView.{source_view, stated_view}
-use Rattle.ygrammar.specs.declared.source.Source as held
-use Rattle.ynames.specs.MeaningView.{meaning_at}
+use Rattle.ybase_preorder.specs.View.{row_by}
+use Rattle.ybase_preorder.specs.declared.siblings.Siblings.{Siblings}
+use Rattle.ylink_grammar.specs.SourceView.{source_view, stated_view}
+use Rattle.ylink_grammar.specs.declared.source.Source as held
+use Rattle.ylink_names.specs.MeaningView.{meaning_at}
 use Rattle.ylink.specs.IdentityView as identity
 use Rattle.ylink.specs.TypeView.{verdict_view}
 use Rattle.ylink.specs.declared.typedefs.Known.{Known}

@@ -4,21 +4,21 @@ ghost use Rattle.std.specs.Prelude.{◌≡◌, ◌++◌, ◌∷◌, ◌&&◌, []
 ghost use Rattle.std.specs.BTreeSet.{contains, insert_key};
 ghost use Rattle.std.specs.Ordering.{int_cmp};
 ghost use Rattle.yspec.specs.linking.Graph as graph;
-ghost use Rattle.ygraph.specs.Derivations as graphs;
-ghost use Rattle.ygraph.specs.Edges.{edge_view};
-ghost use Rattle.ypreorder.specs.View.{row_by, label_by};
-ghost use Rattle.ygrammar.specs.SourceView.{source_view};
-ghost use Rattle.ynames.specs.MeaningView.{meaning_at};
+ghost use Rattle.ybase_graph.specs.Derivations as graphs;
+ghost use Rattle.ybase_graph.specs.Edges.{edge_view};
+ghost use Rattle.ybase_preorder.specs.View.{row_by, label_by};
+ghost use Rattle.ylink_grammar.specs.SourceView.{source_view};
+ghost use Rattle.ylink_names.specs.MeaningView.{meaning_at};
 ghost use Rattle.ylink.specs.DerivedView.{Ascend, AreSets, base_by, bases_by, common_among, derived_among, set_at, type_bases};
 
 use std::alloc::{AllocError, Global};
 use std::collections::BTreeSet;
 use std::rc::Rc;
-use ygrammar::{Source, Sources};
-use ygraph::{Derivations, Edge};
-use ynames::meaning_at;
-use ypreorder::{Node, Siblings};
-use yword::Keyword;
+use ybase_graph::{Derivations, Edge};
+use ybase_preorder::{Node, Siblings};
+use ybase_words::Keyword;
+use ylink_grammar::{Source, Sources};
+use ylink_names::meaning_at;
 
 /// The numbers of the identities that derive from a base, shared by the types over it.
 pub(crate) type Derived = Rc<BTreeSet<i64>>;

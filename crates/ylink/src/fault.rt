@@ -4,7 +4,7 @@ ghost use Rattle.ylink.specs.declared.fault.CompileFault.TheVariants.{Memory, Re
 
 use std::alloc::AllocError;
 use thiserror::Error;
-use ygrammar::{BrokenRule, CompileCode};
+use ylink_grammar::{BrokenRule, CompileCode};
 
 /// Why a set of modules isn't compiled: the rule, the module by its number in the set, and the line, counted from 1.
 #[derive(Clone, Copy, Debug, PartialEq, Eq, Error)]

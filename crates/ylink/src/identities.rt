@@ -4,9 +4,9 @@ ghost use Rattle.std.specs.Prelude.{◌≡◌, ◌++◌, ◌∷◌, [], pos, int
 ghost use Rattle.std.specs.List.{flat_map, list_all};
 ghost use Rattle.yspec.specs.Forest.{preorder, row};
 ghost use Rattle.yspec.specs.linking.Source.{argument_in};
-ghost use Rattle.ypreorder.specs.View.{row_by, label_by};
-ghost use Rattle.ygrammar.specs.LinkView.{view};
-ghost use Rattle.ygrammar.specs.SourceView.{source_view};
+ghost use Rattle.ybase_preorder.specs.View.{row_by, label_by};
+ghost use Rattle.ylink_grammar.specs.LinkView.{view};
+ghost use Rattle.ylink_grammar.specs.SourceView.{source_view};
 ghost use Rattle.ylink.specs.DerivedView.{Ascend};
 ghost use Rattle.ylink.specs.IdentityView.{assigned_by, home_view, identity_view, listed, name_among, number_of};
 
@@ -14,12 +14,12 @@ use crate::derived::{Derived, common, derived_among, set_held, sets_of};
 use crate::limit::accepted_type;
 use std::alloc::{AllocError, Global};
 use std::rc::Rc;
-use ygrammar::{Source, Sources, argument_of};
-use ygraph::{Derivations, Edge};
-use ynames::definition_edges_of;
-use ypreorder::{Node, Siblings};
+use ybase_graph::{Derivations, Edge};
+use ybase_preorder::{Node, Siblings};
+use ybase_words::Keyword;
+use ylink_grammar::{Source, Sources, argument_of};
+use ylink_names::definition_edges_of;
 use ytype::{Names, YType, identity_name};
-use yword::Keyword;
 
 /// An identity: the numbers of its statement and of its module, and its name.
 #[derive(Clone, Copy)]
@@ -163,9 +163,9 @@ impl Identities {
     ghost use Rattle.yspec.specs.linking.Identities as spec;
     ghost use Rattle.yspec.specs.linking.Source as sources;
     ghost use Rattle.yspec.specs.linking.TypeStatements as types;
-    ghost use Rattle.ygrammar.specs.LinkView.{view};
-    ghost use Rattle.ynames.specs.MeaningView.{AreMeanings};
-    ghost use Rattle.ynames.specs.ReferringView.{AreReferring};
+    ghost use Rattle.ylink_grammar.specs.LinkView.{view};
+    ghost use Rattle.ylink_names.specs.MeaningView.{AreMeanings};
+    ghost use Rattle.ylink_names.specs.ReferringView.{AreReferring};
     ghost use Rattle.ylink.specs.IdentityView.{IsOf, home_view};
 
     /// The identities of a set, given the innermost definition around each statement and what each means. No definition of

@@ -3,15 +3,15 @@
 ghost use Rattle.std.specs.Prelude.{◌≡◌, ℕ, None, option_map};
 ghost use Rattle.yspec.specs.schema.Breaks.{least_from};
 ghost use Rattle.yspec.specs.linking.DerivedTypes.{type_breaks};
-ghost use Rattle.ygrammar.specs.BreakView.{seen};
-ghost use Rattle.ygrammar.specs.LinkView.{view};
-ghost use Rattle.ygrammar.specs.SourceView.{source_view};
+ghost use Rattle.ylink_grammar.specs.BreakView.{seen};
+ghost use Rattle.ylink_grammar.specs.LinkView.{view};
+ghost use Rattle.ylink_grammar.specs.SourceView.{source_view};
 ghost use Rattle.ylink.specs.TypeView.{verdict_view};
 ghost use Rattle.ylink.specs.VerdictView.{told_by, AreVerdicts};
 
 use crate::types::Verdict;
 use crate::verdicts::verdict_held;
-use ygrammar::{BrokenRule, CompileCode, Source, Sources, broken, least_when};
+use ylink_grammar::{BrokenRule, CompileCode, Source, Sources, broken, least_when};
 
 /// The lesser of one so far and of the rule that a statement breaks, by the verdict on it.
 fn judge_verdict(

@@ -22,4 +22,4 @@ pub use linked::{Linked, StmtId};
 pub use linking::link;
 pub use statements::Statements;
 pub use types::Meant;
-pub use ygrammar::CompileCode;
+pub use ylink_grammar::CompileCode;

@@ -6,20 +6,20 @@ ghost use Rattle.yspec.specs.types.Restriction as restrictions;
 ghost use Rattle.yspec.specs.types.Types.{YangType};
 ghost use Rattle.yspec.specs.linking.Arguments.{spans_of};
 ghost use Rattle.yspec.specs.linking.Keyword as word;
-ghost use Rattle.yword.specs.KeywordView.{keyword_view};
+ghost use Rattle.ybase_words.specs.KeywordView.{keyword_view};
 ghost use Rattle.yspec.specs.linking.Source as sources;
 ghost use Rattle.yspec.specs.linking.TypeStatements as spec;
-ghost use Rattle.ynumber.specs.View.{restriction_of, text_of};
-ghost use Rattle.ynumber.specs.Words.{narrow_refusal, same};
-ghost use Rattle.ypreorder.specs.View.{row_by, label_by};
-ghost use Rattle.ygrammar.specs.SourceView.{node_view, source_view};
+ghost use Rattle.ytype_numbers.specs.View.{restriction_of, text_of};
+ghost use Rattle.ytype_numbers.specs.Words.{narrow_refusal, same};
+ghost use Rattle.ybase_preorder.specs.View.{row_by, label_by};
+ghost use Rattle.ylink_grammar.specs.SourceView.{node_view, source_view};
 ghost use Rattle.ylink.specs.KindView.{word_of, restriction_by};
 
 use std::alloc::{AllocError, Global};
-use ygrammar::{Source, argument_of, argument_with, found_with, spans};
-use ypreorder::{Node, Siblings};
+use ybase_preorder::{Node, Siblings};
+use ybase_words::Keyword;
+use ylink_grammar::{Source, argument_of, argument_with, found_with, spans};
 use ytype::{ErrorText, NarrowFault, Restriction, Span, YType};
-use yword::Keyword;
 
 /// The restrictions that types have by spans of numbers.
 #[derive(Clone, Copy)]
@@ -32,8 +32,8 @@ enum SpanRestriction {
 
 impl SpanRestriction {
     ghost use Rattle.std.specs.Prelude.{◌≡◌};
-    ghost use Rattle.ynumber.specs.View.{restriction_of};
-    ghost use Rattle.yword.specs.KeywordView.{keyword_view};
+    ghost use Rattle.ytype_numbers.specs.View.{restriction_of};
+    ghost use Rattle.ybase_words.specs.KeywordView.{keyword_view};
     ghost use Rattle.ylink.specs.KindView.{word_of, restriction_by};
 
     /// The keyword of the statement that states one.

@@ -1,9 +1,9 @@
 //! The statements of a set of modules that links, and what can be asked of them.
 
-ghost use Rattle.ygrammar.specs.LinkView as statements;
-ghost use Rattle.ynames.specs.MeaningView.{AreMeanings};
-ghost use Rattle.ynames.specs.Ordered.{AreInOrder};
-ghost use Rattle.ynames.specs.PrefixView as prefix;
+ghost use Rattle.ylink_grammar.specs.LinkView as statements;
+ghost use Rattle.ylink_names.specs.MeaningView.{AreMeanings};
+ghost use Rattle.ylink_names.specs.Ordered.{AreInOrder};
+ghost use Rattle.ylink_names.specs.PrefixView as prefix;
 ghost use Rattle.ylink.specs.TypedefView as typedef;
 ghost use Rattle.ylink.specs.VerdictView.{AreVerdicts};
 
@@ -13,8 +13,8 @@ use crate::typedefs::Typedefs;
 use crate::types::{Meant, Verdict};
 use crate::verdicts::verdict_held;
 use std::alloc::{AllocError, Global};
-use ygrammar::{Source, Sources, Stated, argument_of};
-use ynames::Prefixes;
+use ylink_grammar::{Source, Sources, Stated, argument_of};
+use ylink_names::Prefixes;
 use ytext::Stmt;
 use ytype::YType;
 
@@ -48,11 +48,11 @@ impl<'t> Linked<'t> {
     ghost use Rattle.yspec.specs.linking.Imports as imports;
     ghost use Rattle.yspec.specs.linking.Scopes.{statement_at};
     ghost use Rattle.ytext.specs.View as text;
-    ghost use Rattle.ygrammar.specs.LinkView as statements;
-    ghost use Rattle.ygrammar.specs.SourceView.{source_view, stated_view};
-    ghost use Rattle.ynames.specs.MeaningView.{AreMeanings};
-    ghost use Rattle.ynames.specs.Ordered.{AreInOrder};
-    ghost use Rattle.ynames.specs.PrefixView as prefix;
+    ghost use Rattle.ylink_grammar.specs.LinkView as statements;
+    ghost use Rattle.ylink_grammar.specs.SourceView.{source_view, stated_view};
+    ghost use Rattle.ylink_names.specs.MeaningView.{AreMeanings};
+    ghost use Rattle.ylink_names.specs.Ordered.{AreInOrder};
+    ghost use Rattle.ylink_names.specs.PrefixView as prefix;
     ghost use Rattle.ytype.specs.Identities.{pair_view};
     ghost use Rattle.ylink.specs.TypedefView as typedef;
     ghost use Rattle.ylink.specs.TypeView.{meant_view};

@@ -7,12 +7,12 @@ ghost use Rattle.yspec.specs.linking.Compiling.{linked, names_phase, meanings_ph
 ghost use Rattle.yspec.specs.linking.Source.{sources_of};
 ghost use Rattle.yspec.specs.linking.StatementBreaks.{statement_phase};
 ghost use Rattle.ytext.specs.View.{modules_view};
-ghost use Rattle.ygrammar.specs.BreakView.{seen};
-ghost use Rattle.ygrammar.specs.LinkView as statements;
-ghost use Rattle.ygrammar.specs.Wholes.{wholes_of};
-ghost use Rattle.ynames.specs.MeaningView.{AreMeanings};
-ghost use Rattle.ynames.specs.Ordered.{AreInOrder};
-ghost use Rattle.ynames.specs.PrefixView as prefix;
+ghost use Rattle.ylink_grammar.specs.BreakView.{seen};
+ghost use Rattle.ylink_grammar.specs.LinkView as statements;
+ghost use Rattle.ylink_grammar.specs.Wholes.{wholes_of};
+ghost use Rattle.ylink_names.specs.MeaningView.{AreMeanings};
+ghost use Rattle.ylink_names.specs.Ordered.{AreInOrder};
+ghost use Rattle.ylink_names.specs.PrefixView as prefix;
 ghost use Rattle.ylink.specs.TypedefView as typedef;
 ghost use Rattle.ylink.specs.LinkedView.{view, wholes};
 ghost use Rattle.ylink.specs.Told.{told_by};
@@ -26,8 +26,8 @@ use crate::repeated::repeated_module;
 use crate::typedefs::Typedefs;
 use crate::verdicts::verdicts_of;
 use std::alloc::{AllocError, Global};
-use ygrammar::{BrokenRule, Sources, broken_statement_rule};
-use ynames::{
+use ylink_grammar::{BrokenRule, Sources, broken_statement_rule};
+use ylink_names::{
     Prefixes, broken_meaning_rule, broken_prefix_rule, broken_taken_rule, holders_of, meanings_of,
 };
 use ytext::Module;

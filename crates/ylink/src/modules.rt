@@ -2,16 +2,16 @@
 
 ghost use Rattle.std.specs.Prelude.{◌≡◌, ◌++◌, IfOk, OnOk, map, option_map};
 ghost use Rattle.yspec.specs.linking.Identities.{prefixed_in};
-ghost use Rattle.ypreorder.specs.View.{row_by, label_by};
-ghost use Rattle.ygrammar.specs.LinkView.{view};
-ghost use Rattle.ygrammar.specs.SourceView.{node_view, source_view};
+ghost use Rattle.ybase_preorder.specs.View.{row_by, label_by};
+ghost use Rattle.ylink_grammar.specs.LinkView.{view};
+ghost use Rattle.ylink_grammar.specs.SourceView.{node_view, source_view};
 ghost use Rattle.ytype.specs.Identities.{pair_view};
 ghost use Rattle.ylink.specs.ModuleView.{declared_by, module_in};
 
 use std::alloc::{AllocError, Global};
-use ygrammar::{Source, Sources, argument_of, argument_with};
-use ypreorder::{Node, Siblings};
-use yword::Keyword;
+use ybase_preorder::{Node, Siblings};
+use ybase_words::Keyword;
+use ylink_grammar::{Source, Sources, argument_of, argument_with};
 
 /// The `module` statement of a number in a set.
 pub(crate) fn module_at<'a, 't>(

@@ -6,16 +6,16 @@ ghost use Rattle.yspec.specs.types.Types.{enumeration_base, bits_base};
 ghost use Rattle.yspec.specs.linking.Keyword as word;
 ghost use Rattle.yspec.specs.linking.Source as sources;
 ghost use Rattle.yspec.specs.linking.TypeStatements as spec;
-ghost use Rattle.ypreorder.specs.View.{row_by, label_by};
-ghost use Rattle.ygrammar.specs.SourceView.{source_view};
+ghost use Rattle.ybase_preorder.specs.View.{row_by, label_by};
+ghost use Rattle.ylink_grammar.specs.SourceView.{source_view};
 ghost use Rattle.ylink.specs.KindView.{naming_word, number_by};
 
 use crate::limit::accepted_type;
 use std::alloc::{AllocError, Global};
-use ygrammar::{Source, argument_of, argument_with, count, enum_value};
-use ypreorder::{Node, Siblings};
+use ybase_preorder::{Node, Siblings};
+use ybase_words::Keyword;
+use ylink_grammar::{Source, argument_of, argument_with, count, enum_value};
 use ytype::{Naming, YType};
-use yword::Keyword;
 
 fn value_stated(below: Siblings<'_, Source<'_>>) -> Option<i64>
     ensures { result ≡ spec.value_stated (row_by source_view below.entry) }
@@ -38,9 +38,9 @@ enum NamingKind {
 
 impl NamingKind {
     ghost use Rattle.std.specs.Prelude.{◌≡◌};
-    ghost use Rattle.ypreorder.specs.View.{row_by};
-    ghost use Rattle.yword.specs.KeywordView.{keyword_view};
-    ghost use Rattle.ygrammar.specs.SourceView.{source_view};
+    ghost use Rattle.ybase_preorder.specs.View.{row_by};
+    ghost use Rattle.ybase_words.specs.KeywordView.{keyword_view};
+    ghost use Rattle.ylink_grammar.specs.SourceView.{source_view};
     ghost use Rattle.ylink.specs.KindView.{naming_word, number_by};
 
     /// Their keyword.

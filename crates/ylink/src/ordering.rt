@@ -3,15 +3,15 @@
 ghost use Rattle.std.specs.Prelude.{◌≡◌, [], IfOk, is_some};
 ghost use Rattle.std.specs.List.{list_any};
 ghost use Rattle.yspec.specs.linking.Circles.{definition_circles};
-ghost use Rattle.ygrammar.specs.LinkView.{view};
-ghost use Rattle.ynames.specs.MeaningView.{AreMeanings};
-ghost use Rattle.ynames.specs.Ordered.{AreInOrder};
-ghost use Rattle.ynames.specs.ReferringView.{AreReferring};
+ghost use Rattle.ylink_grammar.specs.LinkView.{view};
+ghost use Rattle.ylink_names.specs.MeaningView.{AreMeanings};
+ghost use Rattle.ylink_names.specs.Ordered.{AreInOrder};
+ghost use Rattle.ylink_names.specs.ReferringView.{AreReferring};
 
 use std::alloc::{AllocError, Global};
-use ygrammar::Sources;
-use ygraph::in_order;
-use ynames::definition_edges_of;
+use ybase_graph::in_order;
+use ylink_grammar::Sources;
+use ylink_names::definition_edges_of;
 
 /// Whether a statement names a definition.
 fn names_any(meanings: &[Option<u32>]) -> bool

@@ -4,11 +4,11 @@ ghost use Rattle.std.specs.Prelude.{◌≡◌, [], IfOk};
 ghost use Rattle.yspec.specs.schema.Schema.{argument_text};
 ghost use Rattle.yspec.specs.schema.Breaks.{least_from, module_breaks};
 ghost use Rattle.ytext.specs.View.{view, modules_view};
-ghost use Rattle.ygrammar.specs.BreakView.{seen};
+ghost use Rattle.ylink_grammar.specs.BreakView.{seen};
 
 use indexmap::IndexSet;
 use std::alloc::{AllocError, Global};
-use ygrammar::{BrokenRule, CompileCode, broken, least_when};
+use ylink_grammar::{BrokenRule, CompileCode, broken, least_when};
 use ytext::{Module, Stmt};
 
 /// The name of a module's statement.

@@ -1,8 +1,8 @@
 //! The statements of a row, one after another.
 
 use crate::linked::StmtId;
-use ygrammar::Source;
-use ypreorder::Siblings;
+use ybase_preorder::Siblings;
+use ylink_grammar::Source;
 
 /// The statements of a row, in order.
 #[derive(Clone, Copy)]
@@ -12,8 +12,8 @@ pub struct Statements<'a, 't> {
 
 impl<'a, 't> Statements<'a, 't> {
     ghost use Rattle.std.specs.Prelude.{◌≡◌};
-    ghost use Rattle.ypreorder.specs.View.{row_by};
-    ghost use Rattle.ygrammar.specs.SourceView.{source_view};
+    ghost use Rattle.ybase_preorder.specs.View.{row_by};
+    ghost use Rattle.ylink_grammar.specs.SourceView.{source_view};
     ghost use Rattle.ylink.specs.StatementsView.{left, numbers_of};
 
     /// Those of a row.

@@ -2,18 +2,18 @@
 
 ghost use Rattle.std.specs.Prelude.{◌≡◌, ◌++◌, List, IfOk, OnOk, length, map, option_map, option_and_then, slice_get};
 ghost use Rattle.yspec.specs.linking.Scopes.{placed};
-ghost use Rattle.ypreorder.specs.View.{row_by, label_by};
-ghost use Rattle.ygrammar.specs.LinkView.{view};
-ghost use Rattle.ygrammar.specs.SourceView.{source_view};
+ghost use Rattle.ybase_preorder.specs.View.{row_by, label_by};
+ghost use Rattle.ylink_grammar.specs.LinkView.{view};
+ghost use Rattle.ylink_grammar.specs.SourceView.{source_view};
 ghost use Rattle.ylink.specs.TypedefView.{row_at, rows_view, AreRows};
 
 use crate::identities::Identities;
 use crate::types::{Verdict, verdict_on};
 use std::alloc::{AllocError, Global};
-use ygrammar::{Source, Sources, Stated, first_with, found_with};
-use ynames::meaning_at;
-use ypreorder::{Node, Siblings};
-use yword::Keyword;
+use ybase_preorder::{Node, Siblings};
+use ybase_words::Keyword;
+use ylink_grammar::{Source, Sources, Stated, first_with, found_with};
+use ylink_names::meaning_at;
 
 /// What is known of a typedef.
 #[derive(Drop)]
@@ -106,11 +106,11 @@ impl<'t> Typedefs<'t> {
     ghost use Rattle.std.specs.Prelude.{◌≡◌, ◌==◌, ◌<◌, ℕ, IfOk, OnOk, length, option_map, if◌then◌else◌};
     ghost use Rattle.std.specs.Option.{option_map_or};
     ghost use Rattle.yspec.specs.linking.DerivedTypes as spec;
-    ghost use Rattle.ypreorder.specs.View.{row_by};
-    ghost use Rattle.ygrammar.specs.LinkView.{view};
-    ghost use Rattle.ygrammar.specs.SourceView.{node_view, source_view, stated_view};
-    ghost use Rattle.ynames.specs.MeaningView.{meaning_at, AreMeanings};
-    ghost use Rattle.ynames.specs.Ordered.{AreInOrder};
+    ghost use Rattle.ybase_preorder.specs.View.{row_by};
+    ghost use Rattle.ylink_grammar.specs.LinkView.{view};
+    ghost use Rattle.ylink_grammar.specs.SourceView.{node_view, source_view, stated_view};
+    ghost use Rattle.ylink_names.specs.MeaningView.{meaning_at, AreMeanings};
+    ghost use Rattle.ylink_names.specs.Ordered.{AreInOrder};
     ghost use Rattle.ylink.specs.IdentityView as identity;
     ghost use Rattle.ylink.specs.TypedefView.{known_at, known_view, names_in, IsOf, RestsOn};
 

@@ -8,12 +8,12 @@ ghost use Rattle.yspec.specs.linking.Identities.{bases_in};
 ghost use Rattle.yspec.specs.linking.Keyword as word;
 ghost use Rattle.yspec.specs.linking.Source as sources;
 ghost use Rattle.yspec.specs.linking.TypeStatements as spec;
-ghost use Rattle.ypreorder.specs.View.{row_by, label_by};
-ghost use Rattle.yword.specs.KeywordView.{keyword_view};
-ghost use Rattle.ygrammar.specs.LinkView.{view};
-ghost use Rattle.ygrammar.specs.NameView.{names_view};
-ghost use Rattle.ygrammar.specs.SourceView.{source_view};
-ghost use Rattle.yword.specs.BuiltInView.{built_in_view};
+ghost use Rattle.ybase_preorder.specs.View.{row_by, label_by};
+ghost use Rattle.ybase_words.specs.KeywordView.{keyword_view};
+ghost use Rattle.ylink_grammar.specs.LinkView.{view};
+ghost use Rattle.ylink_grammar.specs.NameView.{names_view};
+ghost use Rattle.ylink_grammar.specs.SourceView.{source_view};
+ghost use Rattle.ybase_words.specs.BuiltInView.{built_in_view};
 ghost use Rattle.yspec.specs.linking.DerivedTypes.{unknown};
 ghost use Rattle.ylink.specs.TypeView.{meant_view, verdict_view};
 ghost use Rattle.ylink.specs.TypedefView.{known_view, verdicts_in, RestsOn};
@@ -23,10 +23,12 @@ use crate::limit::{accepted_type, measured_type, narrowed_type, ranged_type};
 use crate::naming::{bits, enumeration};
 use crate::typedefs::{Known, Typedefs};
 use std::alloc::{AllocError, Global};
-use ygrammar::{Name, Source, Sources, argument_of, argument_with, fraction_digits, leafref_path};
-use ypreorder::{Node, Siblings};
+use ybase_preorder::{Node, Siblings};
+use ybase_words::{BuiltIn, Keyword};
+use ylink_grammar::{
+    Name, Source, Sources, argument_of, argument_with, fraction_digits, leafref_path,
+};
 use ytype::{FractionDigits, YType};
-use yword::{BuiltIn, Keyword};
 
 /// What a `type` statement means.
 #[derive(Drop)]

@@ -3,9 +3,9 @@
 ghost use Rattle.std.specs.Prelude.{◌≡◌, ◌++◌, List, Some, IfOk, OnOk, map, option_map, slice_set};
 ghost use Rattle.yspec.specs.linking.DerivedTypes.{is_member};
 ghost use Rattle.yspec.specs.linking.Scopes.{placed};
-ghost use Rattle.ypreorder.specs.View.{row_by};
-ghost use Rattle.ygrammar.specs.LinkView.{view};
-ghost use Rattle.ygrammar.specs.SourceView.{source_view};
+ghost use Rattle.ybase_preorder.specs.View.{row_by};
+ghost use Rattle.ylink_grammar.specs.LinkView.{view};
+ghost use Rattle.ylink_grammar.specs.SourceView.{source_view};
 ghost use Rattle.ylink.specs.TypeView.{verdict_view};
 ghost use Rattle.ylink.specs.TypedefView.{verdicts_in, IsOf, RestsOn};
 ghost use Rattle.ylink.specs.VerdictView.{judged, members_below, members_in, table_view, verdict_held, AreVerdicts};
@@ -13,9 +13,9 @@ ghost use Rattle.ylink.specs.VerdictView.{judged, members_below, members_in, tab
 use crate::typedefs::Typedefs;
 use crate::types::{Verdict, judge_type};
 use std::alloc::{AllocError, Global};
-use ygrammar::{Source, Sources};
-use ypreorder::Siblings;
-use yword::Keyword;
+use ybase_preorder::Siblings;
+use ybase_words::Keyword;
+use ylink_grammar::{Source, Sources};
 
 /// Sets what a table holds of the statement of a number.
 fn set_verdict<'t>(

@@ -15,32 +15,32 @@ use Rattle.yspec.specs.edit.Live.{faults_in, made_anew, made_stale, opened}
 use Rattle.yspec.proofs.DocumentProofs.SortingLemmas.{in_order}
 use Rattle.yspec.proofs.EditProofs.AnswerLemmas.{If}
 use Rattle.yspec.proofs.EditProofs.FittingEditLemmas.{edit_fits}
-use Rattle.ymodel.specs.View as schema_view
-use Rattle.ymodel.specs.declared.schema.Schema as rust
-use Rattle.ymodel.proofs.CallerLemmas.{numbered}
-use Rattle.ytree.specs.declared.fault.DocCode.{DocCode}
-use Rattle.ypath.specs.declared.edit.EditCode.{EditCode}
-use Rattle.ypath.specs.declared.edit.EditFault.{EditFault}
-use Rattle.ypath.specs.declared.edit.EditFault.TheVariants.{Refused, Memory}
-use Rattle.yreach.specs.Reach.{reach}
-use Rattle.yplay.proofs.PlacedLemmas.{cases_of}
-use Rattle.ylist.specs.Listed.{list_told}
+use Rattle.yschema_model.specs.View as schema_view
+use Rattle.yschema_model.specs.declared.schema.Schema as rust
+use Rattle.yschema_model.proofs.CallerLemmas.{numbered}
+use Rattle.yinst_tree.specs.declared.fault.DocCode.{DocCode}
+use Rattle.yinst_path.specs.declared.edit.EditCode.{EditCode}
+use Rattle.yinst_path.specs.declared.edit.EditFault.{EditFault}
+use Rattle.yinst_path.specs.declared.edit.EditFault.TheVariants.{Refused, Memory}
+use Rattle.yspec_reach.specs.Reach.{reach}
+use Rattle.yspec_play.proofs.PlacedLemmas.{cases_of}
+use Rattle.ylive_list.specs.Listed.{list_told}
 use Rattle.ystore.specs.Store.{CountsOne, Stays, loans, node_count, reads, total_at}
 use Rattle.ystore.specs.declared.row.Row.TheVariants.{Top}
 use Rattle.ystore.specs.declared.nodes.Nodes.{Nodes}
-use Rattle.yshape.specs.Copies.{listed_below}
-use Rattle.yshape.specs.Hanging.{Branches, Hangs, Keeps, tree_of}
-use Rattle.yshape.specs.Parts.{OnlyReads}
-use Rattle.yshape.proofs.CopyLemmas.{levels_within, listed}
-use Rattle.yshape.proofs.PartLemmas.{one_read}
-use Rattle.ytell.specs.Totals.{IsTree}
-use Rattle.ytell.proofs.AgreeLemmas.{entries_keys}
-use Rattle.ytold.proofs.PlanLemmas.{keeps_read}
-use Rattle.ytold.proofs.StillLemmas.{told_still}
-use Rattle.ylist.specs.Telling.{Tells}
-use Rattle.yjoin.proofs.JoinedLemmas.{count_is, faults_is, tells_is}
-use Rattle.ychange.specs.Places.{Amends, HoldsSorted, HoldsTold, Shows}
-use Rattle.ychange.specs.Reads.{ReadsWithin}
+use Rattle.ystore_tree.specs.Copies.{listed_below}
+use Rattle.ystore_tree.specs.Hanging.{Branches, Hangs, Keeps, tree_of}
+use Rattle.ystore_tree.specs.Parts.{OnlyReads}
+use Rattle.ystore_tree.proofs.CopyLemmas.{levels_within, listed}
+use Rattle.ystore_tree.proofs.PartLemmas.{one_read}
+use Rattle.ylive_marks.specs.Totals.{IsTree}
+use Rattle.ylive_marks.proofs.AgreeLemmas.{entries_keys}
+use Rattle.ylive_retell.proofs.PlanLemmas.{keeps_read}
+use Rattle.ylive_retell.proofs.StillLemmas.{told_still}
+use Rattle.ylive_list.specs.Telling.{Tells}
+use Rattle.ylive_join.proofs.JoinedLemmas.{count_is, faults_is, tells_is}
+use Rattle.ylive_edit.specs.Places.{Amends, HoldsSorted, HoldsTold, Shows}
+use Rattle.ylive_edit.specs.Reads.{ReadsWithin}
 use Rattle.ylive.specs.Kept.{AppliesIn, IsLive, Parts}
 use Rattle.ylive.specs.View.{view}
 use Rattle.ylive.specs.Answers.{Accepts, IsRefusal, RisesBy, answer_to, known_count}

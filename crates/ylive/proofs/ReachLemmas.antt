@@ -8,15 +8,15 @@ use Rattle.yspec.specs.schema.Schema.{Schema}
 use Rattle.yspec.specs.document.Document.{Tree}
 use Rattle.yspec.specs.edit.EditText.{Edit}
 use Rattle.yspec.specs.edit.Editing.{EditRefusal}
-use Rattle.yreach.specs.Parts.{Exchange, exchange_of}
-use Rattle.yreach.specs.Reach.{change_size, reach}
-use Rattle.yreach.specs.Shared.{value_pairs}
-use Rattle.yreach.specs.Sizes.{breadth, levels, most_defaults, part_size}
-use Rattle.ypath.specs.declared.edit.EditFault.{EditFault}
-use Rattle.ypath.specs.declared.edit.EditFault.TheVariants as faults
+use Rattle.yspec_reach.specs.Parts.{Exchange, exchange_of}
+use Rattle.yspec_reach.specs.Reach.{change_size, reach}
+use Rattle.yspec_reach.specs.Shared.{value_pairs}
+use Rattle.yspec_reach.specs.Sizes.{breadth, levels, most_defaults, part_size}
+use Rattle.yinst_path.specs.declared.edit.EditFault.{EditFault}
+use Rattle.yinst_path.specs.declared.edit.EditFault.TheVariants as faults
 use Rattle.ystore.specs.Store.{CountsOne, reads}
 use Rattle.ystore.specs.declared.nodes.Nodes.{Nodes}
-use Rattle.ychange.specs.Reads.{ReadsWithin, parts_reads}
+use Rattle.ylive_edit.specs.Reads.{ReadsWithin, parts_reads}
 
 accepted_sum : (deep most old new values others wide : ℕ) → 2 * deep + 4 + (4 * old + (deep + most + 2) * (8 * (old + (new + values)) + (16 * wide + 3))) + 2
     ≤ 16 * (deep + most + 2) * ((old + (new + (values + others))) + wide + 1)

@@ -7,8 +7,8 @@ use Rattle.yspec.specs.document.Document.{Tree}
 use Rattle.yspec.specs.edit.EditText.{Edit}
 use Rattle.yspec.specs.edit.Editing.{Decision, after, applied, decision, decisions, tree_or}
 use Rattle.yspec.specs.edit.Live.{Live, with_tree, made_stale}
-use Rattle.ypath.specs.declared.edit.Edit as edit
-use Rattle.ypath.specs.EditView.{edit_view}
+use Rattle.yinst_path.specs.declared.edit.Edit as edit
+use Rattle.yinst_path.specs.EditView.{edit_view}
 use Rattle.ylive.specs.View.{edits_view, outcome_view, outcomes_view}
 use Rattle.ylive.specs.Answers.{Stops, StopsAfter, after_edits, answer_to}
 use Rattle.ylive.specs.declared.outcome.Outcome.{Outcome}

@@ -6,14 +6,14 @@ use Rattle.yspec.specs.edit.Editing as editing
 use Rattle.yspec.specs.edit.Editing.{EditRefusal, applied, decision, decisions, tree_or}
 use Rattle.yspec.specs.edit.Live as spec
 use Rattle.yspec.specs.edit.Live.{fault_count, faults_in, made_stale, with_tree}
-use Rattle.yreach.specs.Reach.{reach}
-use Rattle.ypath.specs.Applying.{refusal_view}
-use Rattle.ypath.specs.declared.edit.EditFault.{EditFault}
-use Rattle.ypath.specs.declared.edit.EditFault.TheVariants as faults
+use Rattle.yspec_reach.specs.Reach.{reach}
+use Rattle.yinst_path.specs.Applying.{refusal_view}
+use Rattle.yinst_path.specs.declared.edit.EditFault.{EditFault}
+use Rattle.yinst_path.specs.declared.edit.EditFault.TheVariants as faults
 use Rattle.ycheck.specs.View.{views}
 use Rattle.ycheck.specs.declared.fault.Fault.{Fault}
-use Rattle.ylist.specs.Walked.{left}
-use Rattle.ylist.specs.declared.walk.Walk.{Walk}
+use Rattle.ylive_list.specs.Walked.{left}
+use Rattle.ylive_list.specs.declared.walk.Walk.{Walk}
 use Rattle.ylive.specs.View.{outcome_view, outcomes_view}
 use Rattle.ylive.specs.declared.outcome.Applied.{Applied}
 use Rattle.ylive.specs.declared.outcome.Refused.{Refused}

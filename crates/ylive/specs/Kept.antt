@@ -7,14 +7,14 @@ use Rattle.yspec.specs.document.Faults.{faults_of}
 use Rattle.yspec.specs.document.Fitting.{Fits}
 use Rattle.yspec.specs.edit.EditText.{Edit}
 use Rattle.yspec.specs.edit.Editing.{applied}
-use Rattle.ymodel.specs.declared.schema.Schema as rust
-use Rattle.ypath.specs.declared.edit.EditFault.{EditFault}
+use Rattle.yschema_model.specs.declared.schema.Schema as rust
+use Rattle.yinst_path.specs.declared.edit.EditFault.{EditFault}
 use Rattle.ystore.specs.declared.nodes.Nodes.{Nodes}
 use Rattle.ystore.specs.declared.row.Row.TheVariants.{Top}
 use Rattle.ystore.specs.Store.{node_count}
-use Rattle.yshape.specs.Hanging.{Branches, Hangs, Keeps, tree_of}
-use Rattle.ytold.specs.IsTold.{IsTold}
-use Rattle.ychange.specs.Places.{Amends, HoldsTold}
+use Rattle.ystore_tree.specs.Hanging.{Branches, Hangs, Keeps, tree_of}
+use Rattle.ylive_retell.specs.IsTold.{IsTold}
+use Rattle.ylive_edit.specs.Places.{Amends, HoldsTold}
 use Rattle.ylive.specs.declared.outcome.Applied.{Applied}
 
 pub record Parts : Type 0 where

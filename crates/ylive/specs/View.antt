@@ -3,13 +3,13 @@ use Rattle.std.specs.Prelude.{List, map, Some, None}
 use Rattle.yspec.specs.edit.Live as spec
 use Rattle.yspec.specs.edit.EditText as text
 use Rattle.yspec.specs.edit.Editing.{Decision}
-use Rattle.ymodel.specs.View as schema_view
-use Rattle.ypath.specs.EditView.{edit_view}
-use Rattle.ypath.specs.Applying.{refusal_view}
-use Rattle.ypath.specs.declared.edit.Edit.{Edit}
+use Rattle.yschema_model.specs.View as schema_view
+use Rattle.yinst_path.specs.EditView.{edit_view}
+use Rattle.yinst_path.specs.Applying.{refusal_view}
+use Rattle.yinst_path.specs.declared.edit.Edit.{Edit}
 use Rattle.ystore.specs.Store.{node_count}
 use Rattle.ystore.specs.declared.row.Row.TheVariants.{Top}
-use Rattle.yshape.specs.Copies.{listed_below}
+use Rattle.ystore_tree.specs.Copies.{listed_below}
 use Rattle.ylive.specs.Kept.{Parts}
 use Rattle.ylive.specs.declared.outcome.Outcome.{Outcome}
 use Rattle.ylive.specs.declared.outcome.Outcome.TheVariants.{Accepted, Refused}

@@ -7,4 +7,4 @@ mod running;
 
 pub use live::Live;
 pub use outcome::{Applied, ListFault, Outcome, Refused, StopCode, Stopped};
-pub use ylist::{Seen, Walk};
+pub use ylive_list::{Seen, Walk};

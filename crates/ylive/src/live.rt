@@ -3,24 +3,24 @@
 ghost use Rattle.std.specs.Prelude.{◌≡◌};
 ghost use Rattle.yspec.specs.document.Document as document;
 ghost use Rattle.yspec.specs.document.Fitting.{Fits};
-ghost use Rattle.ymodel.specs.View as schema_view;
-ghost use Rattle.yreach.specs.Reach.{reach};
-ghost use Rattle.ypath.specs.EditView.{edit_view};
+ghost use Rattle.yschema_model.specs.View as schema_view;
+ghost use Rattle.yspec_reach.specs.Reach.{reach};
+ghost use Rattle.yinst_path.specs.EditView.{edit_view};
 ghost use Rattle.ystore.specs.Views.{store_of, lent};
-ghost use Rattle.ychange.specs.Places.{HoldsTold};
-ghost use Rattle.ychange.specs.Reads.{ReadsWithin};
+ghost use Rattle.ylive_edit.specs.Places.{HoldsTold};
+ghost use Rattle.ylive_edit.specs.Reads.{ReadsWithin};
 ghost use Rattle.ylive.specs.Kept.{AppliesIn};
 
 use crate::outcome::{Applied, ListFault, Refused};
 use std::alloc::{AllocError, Global};
 use std::marker::Model;
-use ychange::{amend, told_store};
 use ycheck::Fault;
 use yinst::{Edit, EditFault, Tree};
-use ylist::{Walk, list};
-use ymodel::Schema;
-use yshape::copy_tree;
+use ylive_edit::{amend, told_store};
+use ylive_list::{Walk, list};
+use yschema_model::Schema;
 use ystore::{Counted, Nodes, Row};
+use ystore_tree::copy_tree;
 
 /// A document under a schema, which edits change. It knows its faults, unless it is stale: then memory ran out at an edit, and
 /// until it is rebuilt neither edits nor lists of faults are answered.
@@ -32,8 +32,8 @@ pub struct Live {
 }
 
 impl Model for Live {
-    ghost use Rattle.ymodel.specs.View as schema_view;
-    ghost use Rattle.ymodel.specs.contracts.schema.Schema as schemas;
+    ghost use Rattle.yschema_model.specs.View as schema_view;
+    ghost use Rattle.yschema_model.specs.contracts.schema.Schema as schemas;
     ghost use Rattle.ystore.specs.contracts.nodes.Nodes as stores;
     ghost use Rattle.ylive.specs.Kept.{Parts, IsLive};
     ghost use Rattle.std.specs.Coded.{codes};
@@ -51,8 +51,8 @@ impl Live {
     ghost use Rattle.std.specs.Prelude.{◌≡◌, true, IfOk, IfErr, OnOk, OnErr};
     ghost use Rattle.yspec.specs.document.Fitting.{Fits};
     ghost use Rattle.yspec.specs.edit.Live.{opened, made_stale, made_anew};
-    ghost use Rattle.ypath.specs.EditView.{edit_view};
-    ghost use Rattle.ytree.specs.View.{tree_view};
+    ghost use Rattle.yinst_path.specs.EditView.{edit_view};
+    ghost use Rattle.yinst_tree.specs.View.{tree_view};
     ghost use Rattle.ylive.specs.View.{view};
     ghost use Rattle.ystore.specs.Store as store;
     ghost use Rattle.ystore.specs.Store.{loans, reads};

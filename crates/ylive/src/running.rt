@@ -9,7 +9,7 @@ use yinst::{Edit, EditFault};
 
 impl Live {
     ghost use Rattle.std.specs.Prelude.{◌≡◌, ◌+◌, false};
-    ghost use Rattle.ypath.specs.EditView.{edit_view};
+    ghost use Rattle.yinst_path.specs.EditView.{edit_view};
     ghost use Rattle.ylive.specs.View.{view, edits_view};
     ghost use Rattle.ylive.specs.Answers.{Decides, Runs, Tries};
     ghost use Rattle.ystore.specs.Store.{loans};

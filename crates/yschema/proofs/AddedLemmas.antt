@@ -12,8 +12,8 @@ use Rattle.yspec.specs.linking.Compiling.{last}
 use Rattle.yspec.specs.linking.Planned.{Plan, Planned, child_called, way}
 use Rattle.yspec.specs.linking.Prefixes.{NodeName}
 use Rattle.yspec.specs.linking.SchemaNodes.{number_in}
-use Rattle.ymodel.specs.declared.node.SchemaId.{SchemaId}
-use Rattle.ymodel.specs.Layout.{numbers_of}
+use Rattle.yschema_model.specs.declared.node.SchemaId.{SchemaId}
+use Rattle.yschema_model.specs.Layout.{numbers_of}
 use Rattle.yschema.specs.Added.{leads}
 
 -- ---- what is held

@@ -12,27 +12,27 @@ use Rattle.yspec.specs.linking.Source.{Stated}
 use Rattle.yspec.specs.linking.Planned as spec
 use Rattle.yspec.specs.linking.SchemaNodes.{schema_node, schema_nodes, kind_by, absent_by, first_value, value_stated}
 use Rattle.yspec.proofs.LinkingProofs.LinkedLemmas.{relabelled-size}
-use Rattle.yword.specs.KeywordView.{keyword_view}
-use Rattle.yword.specs.declared.keyword.Keyword.{Keyword}
-use Rattle.yword.specs.declared.keyword.Keyword.TheVariants as words
-use Rattle.ypreorder.specs.Layout as preorder
-use Rattle.ypreorder.specs.Layout.{seen, numbered_by, labels_by}
-use Rattle.ypreorder.specs.View.{slots_in, forest_in}
-use Rattle.ypreorder.specs.declared.slot.Slot as plan_slots
-use Rattle.ypreorder.proofs.LayoutLemmas.{seen-append}
-use Rattle.ypreorder.proofs.LayoutLemmas as lying
-use Rattle.ypreorder.proofs.LabelLemmas.{size-by, label_at}
-use Rattle.yplan.specs.Finding.{name_of}
-use Rattle.yplan.specs.PlannedView.{planned_view}
-use Rattle.yplan.specs.PlanView.{view}
-use Rattle.yplan.specs.declared.plan.Plan.{Plan}
-use Rattle.yplan.specs.declared.planned.Planned as code
-use Rattle.yplan.proofs.PlanLemmas.{nodes_are}
-use Rattle.ymodel.specs.declared.children.Slot.{Slot}
-use Rattle.ymodel.specs.Layout.{Place, place_of, places, laid}
-use Rattle.ymodel.specs.Lookup.{names_in}
+use Rattle.ybase_words.specs.KeywordView.{keyword_view}
+use Rattle.ybase_words.specs.declared.keyword.Keyword.{Keyword}
+use Rattle.ybase_words.specs.declared.keyword.Keyword.TheVariants as words
+use Rattle.ybase_preorder.specs.Layout as preorder
+use Rattle.ybase_preorder.specs.Layout.{seen, numbered_by, labels_by}
+use Rattle.ybase_preorder.specs.View.{slots_in, forest_in}
+use Rattle.ybase_preorder.specs.declared.slot.Slot as plan_slots
+use Rattle.ybase_preorder.proofs.LayoutLemmas.{seen-append}
+use Rattle.ybase_preorder.proofs.LayoutLemmas as lying
+use Rattle.ybase_preorder.proofs.LabelLemmas.{size-by, label_at}
+use Rattle.yschema_plan.specs.Finding.{name_of}
+use Rattle.yschema_plan.specs.PlannedView.{planned_view}
+use Rattle.yschema_plan.specs.PlanView.{view}
+use Rattle.yschema_plan.specs.declared.plan.Plan.{Plan}
+use Rattle.yschema_plan.specs.declared.planned.Planned as code
+use Rattle.yschema_plan.proofs.PlanLemmas.{nodes_are}
+use Rattle.yschema_model.specs.declared.children.Slot.{Slot}
+use Rattle.yschema_model.specs.Layout.{Place, place_of, places, laid}
+use Rattle.yschema_model.specs.Lookup.{names_in}
 use Rattle.yschema.specs.Made.{place_made, planned_place}
-use Rattle.ymodel.proofs.LayoutLemmas.{laid_push}
+use Rattle.yschema_model.proofs.LayoutLemmas.{laid_push}
 
 -- ---- defaults
 

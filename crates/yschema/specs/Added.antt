@@ -5,7 +5,7 @@ use Rattle.std.specs.Map.{lookup}
 use Rattle.yspec.specs.linking.Prefixes.{NodeName}
 use Rattle.yspec.specs.linking.Planned.{Plan, Planned, same_number, child_called}
 use Rattle.yspec.specs.linking.SchemaNodes.{number_in}
-use Rattle.ymodel.specs.Layout.{numbers_of}
+use Rattle.yschema_model.specs.Layout.{numbers_of}
 use Rattle.yschema.specs.declared.augmenting.Added as code
 
 abbrev pub held : code.Added → ℕ → List ℕ

@@ -2,11 +2,11 @@
 use Rattle.std.specs.Prelude.{ℕ}
 use Rattle.yspec.specs.schema.Schema.{SchemaNode}
 use Rattle.yspec.specs.linking.Planned.{Planned}
-use Rattle.ypreorder.specs.Layout as preorder
-use Rattle.ypreorder.specs.declared.slot.Slot as rows
-use Rattle.yplan.specs.PlannedView.{planned_view}
-use Rattle.yplan.specs.declared.planned.Planned as code
-use Rattle.ymodel.specs.Layout.{Place}
+use Rattle.ybase_preorder.specs.Layout as preorder
+use Rattle.ybase_preorder.specs.declared.slot.Slot as rows
+use Rattle.yschema_plan.specs.PlannedView.{planned_view}
+use Rattle.yschema_plan.specs.declared.planned.Planned as code
+use Rattle.yschema_model.specs.Layout.{Place}
 
 -- the place of the schema node that a planned one stands for
 abbrev pub place_made : (Planned → SchemaNode) → preorder.Place Planned → Place

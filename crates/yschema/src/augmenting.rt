@@ -7,21 +7,21 @@ ghost use Rattle.yspec.specs.linking.Compiling as spec;
 ghost use Rattle.yspec.specs.linking.Planned.{nodes_of};
 ghost use Rattle.yspec.specs.linking.Prefixes.{node_name};
 ghost use Rattle.yspec.specs.linking.SchemaNodes.{number_in};
-ghost use Rattle.ypreorder.specs.View.{row_by};
-ghost use Rattle.ygrammar.specs.NameView.{names_view};
-ghost use Rattle.ygrammar.specs.SourceView.{source_view};
-ghost use Rattle.yexpand.specs.AugmentView as statements;
-ghost use Rattle.yplan.specs.PlanView as plans;
-ghost use Rattle.ymodel.specs.View.{augment_view};
+ghost use Rattle.ybase_preorder.specs.View.{row_by};
+ghost use Rattle.ylink_grammar.specs.NameView.{names_view};
+ghost use Rattle.ylink_grammar.specs.SourceView.{source_view};
+ghost use Rattle.yschema_expand.specs.AugmentView as statements;
+ghost use Rattle.yschema_plan.specs.PlanView as plans;
+ghost use Rattle.yschema_model.specs.View.{augment_view};
 ghost use Rattle.yschema.specs.Added.{HoldsThose, leads};
 
 use std::alloc::{AllocError, Global};
 use std::collections::BTreeMap;
-use ygrammar::{Name, Source, absolute_path, argument_of};
-use ymodel::{Augment, SchemaId};
-use yplan::Plan;
-use ypreorder::{Node, Siblings};
-use yword::Keyword;
+use ybase_preorder::{Node, Siblings};
+use ybase_words::Keyword;
+use ylink_grammar::{Name, Source, absolute_path, argument_of};
+use yschema_model::{Augment, SchemaId};
+use yschema_plan::Plan;
 
 /// The nodes that each `augment` adds below its target, in order of definition, by the number of its statement.
 #[derive(Drop)]
@@ -32,8 +32,8 @@ pub(crate) struct Added {
 impl Added {
     ghost use Rattle.std.specs.Prelude.{◌≡◌, ◌++◌, ◌∷◌, ◌==◌, [], if◌then◌else◌, IfOk, OnOk};
     ghost use Rattle.yspec.specs.linking.Planned.{nodes_of};
-    ghost use Rattle.ymodel.specs.Layout.{numbers_of};
-    ghost use Rattle.yplan.specs.PlanView as plans;
+    ghost use Rattle.yschema_model.specs.Layout.{numbers_of};
+    ghost use Rattle.yschema_plan.specs.PlanView as plans;
     ghost use Rattle.yschema.specs.Added.{held, HoldsThose};
 
     /// Those of a plan.

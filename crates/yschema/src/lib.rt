@@ -9,7 +9,7 @@ mod making;
 pub use building::compile;
 pub use limits::{LEVEL_LIMIT, NODE_LIMIT};
 pub use ylink::{CompileCode, CompileFault};
-pub use ymodel::{
+pub use yschema_model::{
     Absence, Amount, Augment, BuiltIn, Child, Children, Kind, LeafType, Schema, SchemaId,
     SchemaModule, SchemaNode, Status, Tuples, TypeName,
 };

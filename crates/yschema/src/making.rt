@@ -4,21 +4,21 @@ ghost use Rattle.std.specs.Prelude.{◌≡◌, Some, None, map, option_map, slic
 ghost use Rattle.yspec.specs.types.Types.{string_type};
 ghost use Rattle.yspec.specs.linking.Planned.{nodes_of};
 ghost use Rattle.yspec.specs.linking.SchemaNodes as spec;
-ghost use Rattle.yplan.specs.Finding.{name_of};
-ghost use Rattle.yplan.specs.NodesView as plans;
-ghost use Rattle.yplan.specs.PlannedView.{planned_view};
-ghost use Rattle.yplan.specs.PlanView as plan_view;
-ghost use Rattle.yresolve.specs.ResolvedView.{IsOf};
-ghost use Rattle.ymodel.specs.Layout.{absence_view, kind_view, laid, leaf_type_view, node_view, place_of, places};
-ghost use Rattle.ymodel.specs.Lookup.{names_in};
+ghost use Rattle.yschema_plan.specs.Finding.{name_of};
+ghost use Rattle.yschema_plan.specs.NodesView as plans;
+ghost use Rattle.yschema_plan.specs.PlannedView.{planned_view};
+ghost use Rattle.yschema_plan.specs.PlanView as plan_view;
+ghost use Rattle.yschema_resolve.specs.ResolvedView.{IsOf};
+ghost use Rattle.yschema_model.specs.Layout.{absence_view, kind_view, laid, leaf_type_view, node_view, place_of, places};
+ghost use Rattle.yschema_model.specs.Lookup.{names_in};
 ghost use Rattle.yschema.specs.Made.{place_made, planned_place};
 
 use std::alloc::{AllocError, Global};
-use ymodel::{Absence, Kind, LeafType, SchemaNode, Slot, TypeName, id_of};
-use yplan::{Plan, PlanNode, Planned};
-use yresolve::{Resolved, default_values, tuples_of};
+use ybase_words::Keyword;
+use yschema_model::{Absence, Kind, LeafType, SchemaNode, Slot, TypeName, id_of};
+use yschema_plan::{Plan, PlanNode, Planned};
+use yschema_resolve::{Resolved, default_values, tuples_of};
 use ytype::{Val, YType};
-use yword::Keyword;
 
 /// The values of the defaults of a leaf or leaf-list, in order.
 fn values_of<'a, 't>(
@@ -179,7 +179,7 @@ fn slot_of<'a, 't>(
     plan: &Plan<'a, 't>,
     resolved: &Resolved<'_, 't>,
     number: u32,
-    row: &ypreorder::Slot<Planned<'a, 't>>,
+    row: &ybase_preorder::Slot<Planned<'a, 't>>,
 ) -> Result<Slot, AllocError>
     requires of_plan { IsOf resolved.now (plan_view.view plan.now) }
     requires stands { slice_get (nodes_of (plan_view.view plan.now)) number

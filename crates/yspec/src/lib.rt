@@ -1,7 +1,7 @@
 //! Every definition that yanglive claims something about: what a module's text, a schema, a value, a document, a
 //! fault and a program's output are. They stand in `specs/`; the functions here have no code, and their contracts are
 //! laws of those definitions, and worked examples of texts, types, spelling and edits. Whole modules, documents and
-//! runs are worked out in `yexamples`.
+//! runs are worked out in `yspec_examples`.
 #![tactic(auto)]
 
 pub mod changes;

@@ -6,7 +6,7 @@ use Rattle.std.proofs.lemmas.Bool.{and_parts, and_from, leb-true, leb-false, ltb
 use Rattle.std.proofs.lemmas.List.Sums.{prefix_len_is, prefix_len-le-length, passes_at_first}
 use Rattle.std.proofs.lemmas.List.{length-take-le, length-map}
 use Rattle.std.proofs.lemmas.Option.{slice_get-map, slice_get_past, none-some, same_Some}
-use Rattle.ymodel.specs.declared.node.SchemaId.{SchemaId}
+use Rattle.yschema_model.specs.declared.node.SchemaId.{SchemaId}
 use Rattle.ystore.specs.Rows.{Child, ascends, first_place, end_place, of_schema, place_of, is_child, added, brought, put}
 use Rattle.ystore.specs.Entries as entries
 use Rattle.ystore.specs.declared.row.NodeId.{NodeId}

@@ -1,7 +1,7 @@
 -- What a store holds of a row, as contracts see it: three groups of facts, and room for children.
 use Rattle.std.specs.Prelude.{ℕ, Bool, List, [], Option, None, Some, option_map, slice_set}
 use Rattle.yspec.specs.types.Types as types
-use Rattle.ymodel.specs.declared.node.SchemaId.{SchemaId}
+use Rattle.yschema_model.specs.declared.node.SchemaId.{SchemaId}
 use Rattle.ytype.specs.View.{raw_of}
 use Rattle.ycheck.specs.declared.fault.FaultCode.{FaultCode}
 use Rattle.ystore.specs.Children.{nodes_of, room_of}

@@ -1,7 +1,7 @@
 -- Rows of nodes with their schema nodes, and what is made of one.
 use Rattle.std.specs.Prelude.{ℕ, ltb, leb, eqb, ◌+◌, ◌-◌, ◌&&◌, min, Bool, true, List, [], ◌∷◌, length, map, slice_set, if◌then◌else◌}
 use Rattle.std.specs.List.{list_all, prefix_len, position_or_len, filter, insert, remove}
-use Rattle.ymodel.specs.declared.node.SchemaId.{SchemaId}
+use Rattle.yschema_model.specs.declared.node.SchemaId.{SchemaId}
 use Rattle.ystore.specs.declared.row.NodeId.{NodeId}
 
 -- a node with its schema node

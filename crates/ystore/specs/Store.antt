@@ -7,7 +7,7 @@ use Rattle.std.specs.declared.cmp.Ordering.{Ordering}
 use Rattle.std.specs.BTreeMap as map
 use Rattle.slab.specs.Slab as slab
 use Rattle.ycheck.specs.declared.fault.FaultCode.{FaultCode}
-use Rattle.ymodel.specs.declared.node.SchemaId.{SchemaId}
+use Rattle.yschema_model.specs.declared.node.SchemaId.{SchemaId}
 use Rattle.ystore.specs.Rows.{Child}
 use Rattle.ystore.specs.Held.{Held, Label, held_of}
 pub use Rattle.ystore.specs.Held.{new_held, with_children, with_told, with_total, with_room, with_play, with_judged, with_same}

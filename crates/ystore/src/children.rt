@@ -5,7 +5,7 @@ ghost use Rattle.ystore.specs.Rows.{ascends};
 
 use crate::row::NodeId;
 use std::alloc::{AllocError, Global};
-use ymodel::SchemaId;
+use yschema_model::SchemaId;
 
 /// The nodes of a row, each with its schema node, by which they ascend.
 #[derive(Debug, Drop)]

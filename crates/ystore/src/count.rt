@@ -2,7 +2,7 @@
 
 ghost use Rattle.std.specs.Prelude.{◌≡◌, ◌≤◌};
 
-use youtput::CallCount;
+use ybase_output::CallCount;
 
 /// How often a store was lent to edits, how many reading calls there were, and how many of them when it was lent last.
 #[derive(Drop)]

@@ -1,7 +1,7 @@
 //! What nodes are found by.
 
 use crate::row::Row;
-use ymodel::SchemaId;
+use yschema_model::SchemaId;
 use ytype::Val;
 
 /// A key of an index. Keys are compared by what they hold.

@@ -4,7 +4,7 @@ use crate::children::Children;
 use crate::row::{NodeId, Row};
 use std::alloc::Global;
 use ycheck::FaultCode;
-use ymodel::SchemaId;
+use yschema_model::SchemaId;
 use ytype::Raw;
 
 /// What is told of the value of a leaf or item.

@@ -22,4 +22,4 @@ pub use scanner::Tokens;
 pub use statement::{Module, Stmt};
 pub use text::{parse, tokens};
 pub use token::{Token, TokenKind};
-pub use youtput::{CallCount, Cut, Sink, SinkFault, write_all, write_texts};
+pub use ybase_output::{CallCount, Cut, Sink, SinkFault, write_all, write_texts};

@@ -7,7 +7,7 @@ ghost use Rattle.yspec.specs.types.Names.{words_of};
 ghost use Rattle.yspec.specs.types.Values.{base_read, bool_of};
 ghost use Rattle.ytype.specs.View.{raw_of, integer_of, base_of, found_of, content_of};
 ghost use Rattle.ytype.specs.Identities.{is_identity, module_names_view};
-ghost use Rattle.ynumber.specs.Words.{IsNarrow};
+ghost use Rattle.ytype_numbers.specs.Words.{IsNarrow};
 ghost use Rattle.ytype.specs.Founds.{founds};
 
 use crate::identity::{Identities, ModuleNames};
@@ -15,7 +15,7 @@ use crate::raw::Raw;
 use crate::val::Content;
 use std::alloc::{AllocError, Global};
 use std::rc::Rc;
-use ynumber::{
+use ytype_numbers::{
     FractionDigits, Names, Part, decimal_in, default_integer_in, integer_in, positions_in,
 };
 

@@ -8,7 +8,7 @@ ghost use Rattle.ytype.specs.View.{base_of, content_of};
 use crate::base::Base;
 use crate::val::Content;
 use std::alloc::{AllocError, Global};
-use ynumber::{bits_text, decimal_text, integer_text, name_of_number};
+use ytype_numbers::{bits_text, decimal_text, integer_text, name_of_number};
 
 fn bool_text(flag: bool) -> &'static str
     ensures { result.now ≡ bool_text flag }

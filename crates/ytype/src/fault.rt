@@ -33,7 +33,7 @@ impl<'a> fmt::Display for TagBehind<'a> {
     ghost use Rattle.std.specs.Prelude.{Some, None, ◌∷◌, []};
     ghost use Rattle.std.specs.Option.{option_map_or};
     ghost use Rattle.yspec.specs.text.Text.{space};
-    ghost use Rattle.ynumber.specs.View.{text_of};
+    ghost use Rattle.ytype_numbers.specs.View.{text_of};
 
     ghost output = { λ tag. Some (option_map_or (λ t. space ∷ t) (text_of tag.0.now) []) };
 

@@ -11,7 +11,7 @@ ghost use Rattle.ytype.specs.Identities.{beside, identities_view, module_names_v
 use std::alloc::{AllocError, Global};
 use std::collections::BTreeSet;
 use std::rc::Rc;
-use ynumber::Names;
+use ytype_numbers::Names;
 
 /// What a module calls itself, and which modules its prefixes stand for, by name; its own prefix is among them.
 #[derive(Clone, Copy, Debug)]

@@ -16,7 +16,7 @@ pub use identity::{Identities, ModuleNames, cut_at_colon, identity_name};
 pub use raw::Raw;
 pub use simple::SimpleType;
 pub use val::Val;
-pub use ynumber::{
+pub use ytype::YType;
+pub use ytype_numbers::{
     Bound, ErrorText, FractionDigits, Names, Naming, NarrowFault, Part, Range, Restriction, Span,
 };
-pub use ytype::YType;

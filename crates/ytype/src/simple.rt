@@ -7,9 +7,9 @@ ghost use Rattle.yspec.specs.types.Ranges.{holds};
 ghost use Rattle.yspec.specs.types.Types.{excluding, limited, simple_taken, simple_excluding, simple_error, simple_in};
 ghost use Rattle.yspec.specs.types.Values.{simple_read, content_text};
 ghost use Rattle.yspec.specs.types.Restriction.{left_by, limited_by, with_limit, range_base, length_base, narrowed_simple};
-ghost use Rattle.ynumber.specs.View.{text_of, restriction_of};
+ghost use Rattle.ytype_numbers.specs.View.{text_of, restriction_of};
 ghost use Rattle.yspec.specs.Results.{Gives};
-ghost use Rattle.ynumber.specs.Words.{narrow_refusal, same};
+ghost use Rattle.ytype_numbers.specs.Words.{narrow_refusal, same};
 ghost use Rattle.ytype.specs.View.{raw_of, base_of, content_of};
 ghost use Rattle.ytype.specs.Identities.{is_identity, module_names_view};
 ghost use Rattle.ytype.specs.Founds.{founds, contents, now_of};
@@ -23,7 +23,7 @@ use std::alloc::{AllocError, Global};
 use std::marker::Model;
 use std::rc::Rc;
 use std::slice;
-use ynumber::{ErrorText, NarrowFault, Part, Range, Restriction, Span, restricted};
+use ytype_numbers::{ErrorText, NarrowFault, Part, Range, Restriction, Span, restricted};
 
 /// A range or length, with what it says of other values.
 #[derive(Debug, Drop)]

@@ -123,11 +123,16 @@ impl Content {
     fn compare(&self, other: &Content) -> Ordering
         ensures { result ≡ content_cmp (content_of self.now) (content_of other.now) }
     {
-        self.kind_number()
-            .cmp(&other.kind_number())
-            .then(self.text().cmp(other.text()))
-            .then(self.number().cmp(&other.number()))
-            .then(self.positions().cmp(other.positions()))
+        match self.kind_number().cmp(&other.kind_number()) {
+            Ordering::Equal => match self.text().cmp(other.text()) {
+                Ordering::Equal => match self.number().cmp(&other.number()) {
+                    Ordering::Equal => self.positions().cmp(other.positions()),
+                    order => order,
+                },
+                order => order,
+            },
+            order => order,
+        }
     }
 }
 
@@ -178,9 +183,10 @@ impl Ord for Val {
     ghost matches_eq = { λ v w. refl };
 
     fn cmp(&self, other: &Val) -> Ordering {
-        member_number(self.member)
-            .cmp(&member_number(other.member))
-            .then(self.content.compare(&other.content))
+        match member_number(self.member).cmp(&member_number(other.member)) {
+            Ordering::Equal => self.content.compare(&other.content),
+            order => order,
+        }
     }
 }
 

@@ -5,9 +5,9 @@ ghost use Rattle.yspec.specs.types.Types.{taken, error_text_of, app_tag_of, mess
 ghost use Rattle.yspec.specs.types.Values.{value_of_text, simple_read, taker};
 ghost use Rattle.yspec.specs.types.Names as names;
 ghost use Rattle.yspec.specs.types.Restriction.{members_of, union_type, leafref_type, narrowed};
-ghost use Rattle.ynumber.specs.View.{restriction_of, text_of};
+ghost use Rattle.ytype_numbers.specs.View.{restriction_of, text_of};
 ghost use Rattle.yspec.specs.Results.{Gives};
-ghost use Rattle.ynumber.specs.Words.{narrow_refusal, same};
+ghost use Rattle.ytype_numbers.specs.Words.{narrow_refusal, same};
 ghost use Rattle.ytype.specs.View.{raw_of, base_of, integer_of};
 ghost use Rattle.ytype.specs.Founds.{now_of};
 ghost use Rattle.ytype.specs.Shapes.{shape_of};
@@ -25,7 +25,9 @@ use std::alloc::{AllocError, Global};
 use std::marker::Model;
 use std::rc::Rc;
 use std::slice;
-use ynumber::{ErrorText, FractionDigits, Naming, NarrowFault, Restriction, bit_names, enum_names};
+use ytype_numbers::{
+    ErrorText, FractionDigits, Naming, NarrowFault, Restriction, bit_names, enum_names,
+};
 
 #[derive(Debug, Drop)]
 enum Shape {

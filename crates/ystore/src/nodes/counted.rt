@@ -8,7 +8,7 @@ use crate::key::Key;
 use crate::record::{Absence, Judged, Label, Record, Told};
 use crate::row::{NodeId, Row};
 use std::alloc::{AllocError, Global};
-use ymodel::SchemaId;
+use yschema_model::SchemaId;
 use ytype::Raw;
 
 /// A store whose reading calls are counted. Each is given a node or a row, or a key, perhaps with a place, and answers

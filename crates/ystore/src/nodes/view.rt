@@ -3,7 +3,7 @@
 use super::Nodes;
 use crate::record::{Absence, Judged};
 use crate::row::{NodeId, Row};
-use ymodel::SchemaId;
+use yschema_model::SchemaId;
 use ytype::Raw;
 
 /// A store that is only read. Its reads aren't counted.

@@ -1,5 +1,5 @@
 use Rattle.std.proofs.Common.{map, string_bytes, ap, refl, ◌∙◌}
-use Rattle.ycommand.specs.Command.{asks_reasons, refusals, request_of}
+use Rattle.yapp_words.specs.Command.{asks_reasons, refusals, request_of}
 use Rattle.program_tests.proofs.KnownLemmas.{are_taken, ask_for, ask_no_reasons, is_known, reasons_same}
 use Rattle.program_tests.proofs.running.validate_known.Goals as goal
 

@@ -1,6 +1,6 @@
 use Rattle.std.proofs.Common.{◌∙◌, ap, subst}
-use Rattle.yprogram.specs.Output.{performed}
-use Rattle.ycommand.specs.Command.{view}
+use Rattle.yspec_run.specs.Output.{performed}
+use Rattle.yapp_words.specs.Command.{view}
 use Rattle.yapp.specs.Failing.{LeadsTo, reported}
 use Rattle.yapp.proofs.ContentsLemmas.{came_of_reading, came_of_texts, names_in, texts_in}
 use Rattle.yapp.proofs.answering.answer.Goals as goal

@@ -1,7 +1,7 @@
 use Rattle.std.proofs.Common.{sym, subst}
 use Rattle.std.specs.Prelude.{position}
 use Rattle.yspec.specs.text.Text.{is_text}
-use Rattle.yprogram.specs.Output.{drawn}
+use Rattle.yspec_run.specs.Output.{drawn}
 use Rattle.yapp.specs.Failing.{LeadsTo, reported}
 use Rattle.yapp.proofs.answering.draw.Goals as goal
 

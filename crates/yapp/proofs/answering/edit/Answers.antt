@@ -1,6 +1,6 @@
 use Rattle.std.proofs.Common.{sym, ◌∙◌}
-use Rattle.yprogram.specs.Output.{left}
-use Rattle.ycommand.specs.Command.{options_view}
+use Rattle.yspec_run.specs.Output.{left}
+use Rattle.yapp_words.specs.Command.{options_view}
 use Rattle.yapp.proofs.answering.edit.Goals as goal
 
 pub returns-in_ok-report_on_edited-in-Ok-clause-leads : goal.returns-in_ok-report_on_edited-in-Ok-clause-leads

@@ -1,7 +1,7 @@
 use Rattle.std.proofs.Common.{◌≡◌, ◌++◌, drop, map, string_bytes}
 use Rattle.ycheck.specs.View.{views}
-use Rattle.yexplain.specs.Sentences.{explained_fault}
-use Rattle.yconfig.specs.Inspecting.{inspection_view}
+use Rattle.ysay_fault.specs.Sentences.{explained_fault}
+use Rattle.ycheck_config.specs.Inspecting.{inspection_view}
 use Rattle.yapp.proofs.document.all_explained.Given as goal
 
 abbrev pub invariant-loop-fault : goal.invariant-loop-fault

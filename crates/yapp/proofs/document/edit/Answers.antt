@@ -1,7 +1,7 @@
 use Rattle.std.proofs.Common.{subst}
 use Rattle.std.proofs.lemmas.Result.{IfOk-weaker}
 use Rattle.yspec.specs.edit.Live as live
-use Rattle.yprogram.specs.Script.{lines_of}
+use Rattle.yspec_run.specs.Script.{lines_of}
 use Rattle.yapp.specs.Asked.{edits_in, kinds_in}
 use Rattle.yapp.specs.Edited.{IsRun, tree_of}
 use Rattle.yapp.proofs.DocumentLemmas.{edited_by}

@@ -1,5 +1,5 @@
 use Rattle.yspec.proofs.DocumentProofs.SortingLemmas.{in_order}
-use Rattle.yconfig.specs.Inspecting.{inspection_view}
+use Rattle.ycheck_config.specs.Inspecting.{inspection_view}
 use Rattle.yapp.proofs.document.explained.Goals as goal
 
 pub returns : goal.returns

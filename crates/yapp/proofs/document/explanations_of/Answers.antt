@@ -1,7 +1,7 @@
 use Rattle.std.proofs.Common.{Bool, Some, None, map, ap, sym, ◌∙◌}
 use Rattle.std.specs.Prelude.{if◌then◌else◌}
-use Rattle.yexplain.specs.Sentences.{explained_fault}
-use Rattle.yconfig.specs.Inspecting.{inspection_view}
+use Rattle.ysay_fault.specs.Sentences.{explained_fault}
+use Rattle.ycheck_config.specs.Inspecting.{inspection_view}
 use Rattle.yapp.proofs.document.explanations_of.Goals as goal
 
 pub returns-in_ok-all_explained : goal.returns-in_ok-all_explained

@@ -1,10 +1,10 @@
 use Rattle.std.proofs.Common.{List, ◌++◌, ap, ap₂, ◌∙◌}
 use Rattle.yspec.specs.text.Text.{Text}
 use Rattle.yspec.proofs.DocumentProofs.SortingLemmas.{in_order}
-use Rattle.yformat.specs.FaultData.{json_text}
+use Rattle.ysay_json.specs.FaultData.{json_text}
 use Rattle.ycheck.specs.View.{views}
 use Rattle.ycheck.specs.declared.fault.Fault.{Fault}
-use Rattle.yconfig.specs.Inspecting.{inspection_view}
+use Rattle.ycheck_config.specs.Inspecting.{inspection_view}
 use Rattle.yapp.proofs.document.json_of.Goals as goal
 
 pub returns : goal.returns

@@ -1,7 +1,7 @@
 use Rattle.std.proofs.Common.{◌∙◌}
 use Rattle.yspec.specs.document.Document.{Tree}
 use Rattle.yspec.specs.schema.Schema.{Schema}
-use Rattle.yprogram.specs.Output.{Outcome, unless_repeated}
+use Rattle.yspec_run.specs.Output.{Outcome, unless_repeated}
 use Rattle.yapp.specs.Edited.{schema_of, tree_of}
 use Rattle.yapp.proofs.DocumentLemmas.{strictly_leads, unless_unasked}
 use Rattle.yapp.proofs.document.read_by.Goals as goal

@@ -1,7 +1,7 @@
 use Rattle.std.proofs.Common.{List, ℕ, ap, subst, sym, ◌∙◌}
 use Rattle.yspec.specs.document.Reading.{document_of}
-use Rattle.yprogram.specs.Output.{other_files, unless_repeated, with_first, with_tree}
-use Rattle.ymodel.specs.View as schema_view
+use Rattle.yspec_run.specs.Output.{other_files, unless_repeated, with_first, with_tree}
+use Rattle.yschema_model.specs.View as schema_view
 use Rattle.yapp.specs.Edited.{schema_of, tree_of}
 use Rattle.yapp.specs.Failing.{FailsWith}
 use Rattle.yapp.proofs.ContentsLemmas.{texts_in}

@@ -1,11 +1,11 @@
 use Rattle.std.proofs.Common.{Bool, List, Some, None, map, ap, ◌∙◌}
 use Rattle.std.specs.Prelude.{if◌then◌else◌, ◌&&◌, option_map}
-use Rattle.ymodel.specs.View as schema_view
-use Rattle.ytree.specs.View.{tree_view}
-use Rattle.yexplain.specs.Sentences.{explained_fault}
-use Rattle.ycommand.specs.Command.{options_view}
-use Rattle.yconfig.specs.Inspecting.{inspection_view}
-use Rattle.yprogram.specs.Output.{text_instead}
+use Rattle.yschema_model.specs.View as schema_view
+use Rattle.yinst_tree.specs.View.{tree_view}
+use Rattle.ysay_fault.specs.Sentences.{explained_fault}
+use Rattle.yapp_words.specs.Command.{options_view}
+use Rattle.ycheck_config.specs.Inspecting.{inspection_view}
+use Rattle.yspec_run.specs.Output.{text_instead}
 use Rattle.yapp.specs.Asked.{refused_parts}
 use Rattle.yapp.specs.Edited.{schema_of, tree_of}
 use Rattle.yapp.specs.Saving.{saved_view}

@@ -1,9 +1,9 @@
 use Rattle.std.proofs.Common.{Bool, ◌++◌, Some, None, ap, ap₂, sym, ◌∙◌}
 use Rattle.std.specs.Prelude.{if◌then◌else◌}
 use Rattle.yspec.specs.document.Writing.{written_text}
-use Rattle.yformat.specs.FaultData.{json_text}
-use Rattle.yconfig.specs.Inspecting.{inspection_view}
-use Rattle.yprogram.specs.Part.{objects}
+use Rattle.ysay_json.specs.FaultData.{json_text}
+use Rattle.ycheck_config.specs.Inspecting.{inspection_view}
+use Rattle.yspec_run.specs.Part.{objects}
 use Rattle.yapp.specs.Asked.{refused_parts}
 use Rattle.yapp.proofs.document.text_instead.Goals as goal
 

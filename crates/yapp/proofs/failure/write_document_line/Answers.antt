@@ -1,8 +1,8 @@
 use Rattle.std.proofs.Common.{decimal}
 use Rattle.yspec.specs.document.Path.{path_text}
-use Rattle.ymodel.specs.View.{view}
-use Rattle.ytree.specs.View.{place_view}
-use Rattle.youtput.proofs.WritingLemmas.{left_all, left_after, left_broken, left_failed, left_last, left_same}
+use Rattle.yschema_model.specs.View.{view}
+use Rattle.yinst_tree.specs.View.{place_view}
+use Rattle.ybase_output.proofs.WritingLemmas.{left_all, left_after, left_broken, left_failed, left_last, left_same}
 use Rattle.yapp.proofs.RunningLemmas.{refusal_parts}
 use Rattle.yapp.proofs.failure.write_document_line.Goals as goal
 

@@ -1,4 +1,4 @@
-use Rattle.youtput.proofs.WritingLemmas.{left_all, left_after, left_failed, left_last}
+use Rattle.ybase_output.proofs.WritingLemmas.{left_all, left_after, left_failed, left_last}
 use Rattle.yapp.proofs.failure.write_document_refusal.Goals as goal
 
 pub returns-in_err-write_document_line : goal.returns-in_err-write_document_line

@@ -1,5 +1,5 @@
 use Rattle.std.proofs.Common.{List, ℕ, ◌++◌, codes, ap₂}
-use Rattle.youtput.proofs.WritingLemmas.{writes_same}
+use Rattle.ybase_output.proofs.WritingLemmas.{writes_same}
 use Rattle.yapp.proofs.failure.write_stop_line.Goals as goal
 
 pub returns : goal.returns

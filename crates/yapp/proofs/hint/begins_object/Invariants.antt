@@ -1,5 +1,5 @@
 use Rattle.std.proofs.Common.{◌≡◌, drop}
-use Rattle.yprogram.specs.Hint.{begins_object}
+use Rattle.yspec_run.specs.Hint.{begins_object}
 use Rattle.yapp.proofs.hint.begins_object.Given as goal
 
 abbrev pub invariant-loop-byte : goal.invariant-loop-byte

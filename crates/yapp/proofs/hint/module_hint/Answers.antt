@@ -1,8 +1,8 @@
 use Rattle.std.proofs.Common.{length, refl, sym, ap, ◌∙◌}
 use Rattle.std.proofs.lemmas.Option.{slice_get_past, slice_get_read}
 use Rattle.std.proofs.lemmas.Result.{IfOk-weaker}
-use Rattle.yprogram.specs.Hint.{statement_hint}
-use Rattle.ygrammar.specs.BreakView.{code_number}
+use Rattle.yspec_run.specs.Hint.{statement_hint}
+use Rattle.ylink_grammar.specs.BreakView.{code_number}
 use Rattle.yapp.proofs.HintLemmas.{module_found, none_found, nothing_said}
 use Rattle.yapp.proofs.hint.module_hint.Goals as goal
 

@@ -1,6 +1,6 @@
 use Rattle.std.proofs.Common.{ℕ, List, ◌+◌, ◌∙◌, ap, drop, get_or, refl, subst, sym}
 use Rattle.std.proofs.lemmas.List.{at_drop_all, at_drop_more, length-map}
-use Rattle.yprogram.specs.Output.{with_module}
+use Rattle.yspec_run.specs.Output.{with_module}
 use Rattle.yspec.specs.text.Statement.{module_of}
 use Rattle.ytext.specs.View.{modules_view}
 use Rattle.yapp.specs.Failing.{FailsWith}

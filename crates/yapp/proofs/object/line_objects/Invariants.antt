@@ -1,5 +1,5 @@
 use Rattle.std.proofs.Common.{◌≡◌, ◌++◌, drop, string_bytes}
-use Rattle.yprogram.specs.Part.{objects}
+use Rattle.yspec_run.specs.Part.{objects}
 use Rattle.yapp.specs.Asked.{refused_parts}
 use Rattle.yapp.proofs.object.line_objects.Given as goal
 

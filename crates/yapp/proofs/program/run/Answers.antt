@@ -1,10 +1,10 @@
 use Rattle.std.proofs.Common.{arith, inl, inr, refl, ap, ◌∙◌, map, string_bytes, false, true}
 use Rattle.yapp.specs.Failing.{unsaid}
 use Rattle.yapp.specs.Files.{came_to, said_besides}
-use Rattle.ycommand.specs.Command.{Declines, asks_reasons, refusals}
-use Rattle.ycommand.specs.declared.command.NoRequest.TheVariants as none
-use Rattle.ycommand.specs.Running.{End, memory_told, refused, shown, without_memory}
-use Rattle.ycommand.proofs.CommandLemmas.{asked_help, text_is}
+use Rattle.yapp_words.specs.Command.{Declines, asks_reasons, refusals}
+use Rattle.yapp_words.specs.declared.command.NoRequest.TheVariants as none
+use Rattle.yapp_words.specs.Running.{End, memory_told, refused, shown, without_memory}
+use Rattle.yapp_words.proofs.CommandLemmas.{asked_help, text_is}
 use Rattle.yapp.proofs.RunningLemmas.{four, memory_either, on_output, on_errors, run_comes}
 use Rattle.yapp.proofs.program.run.Goals as goal
 

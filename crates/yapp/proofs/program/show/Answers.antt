@@ -1,5 +1,5 @@
 use Rattle.std.proofs.lemmas.List.{append-nil}
-use Rattle.youtput.proofs.WritingLemmas.{writes_same}
+use Rattle.ybase_output.proofs.WritingLemmas.{writes_same}
 use Rattle.yapp.proofs.RunningLemmas.{ends}
 use Rattle.yapp.proofs.program.show.Goals as goal
 

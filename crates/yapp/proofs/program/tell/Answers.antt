@@ -1,4 +1,4 @@
-use Rattle.yprogram.specs.Output.{printed}
+use Rattle.yspec_run.specs.Output.{printed}
 use Rattle.std.specs.Prelude.{Ok}
 use Rattle.yapp.specs.Failing.{reported}
 use Rattle.yapp.specs.Files.{said_besides}

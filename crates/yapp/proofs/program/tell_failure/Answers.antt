@@ -1,5 +1,5 @@
 use Rattle.std.proofs.Common.{inr, refl}
-use Rattle.ycommand.specs.Running.{memory_told}
+use Rattle.yapp_words.specs.Running.{memory_told}
 use Rattle.yapp.proofs.RunningLemmas.{failure_tells, on_errors}
 use Rattle.yapp.proofs.program.tell_failure.Goals as goal
 

@@ -1,6 +1,6 @@
 use Rattle.std.proofs.Common.{length, arith}
-use Rattle.ymodel.specs.View as schema
-use Rattle.youtput.proofs.WritingLemmas.{left_same, left_after, left_failed}
+use Rattle.yschema_model.specs.View as schema
+use Rattle.ybase_output.proofs.WritingLemmas.{left_same, left_after, left_failed}
 use Rattle.yapp.proofs.DiagramLemmas.{one_left}
 use Rattle.yapp.proofs.report.write_diagrams.Goals as goal
 

@@ -1,8 +1,8 @@
 use Rattle.std.proofs.Common.{◌-◌, length}
-use Rattle.yprogram.specs.Output.{all_diagrams, diagrams_from}
-use Rattle.ymodel.specs.View as schema
-use Rattle.youtput.specs.Writing.{side}
-use Rattle.youtput.proofs.WritingLemmas.{Left}
+use Rattle.yspec_run.specs.Output.{all_diagrams, diagrams_from}
+use Rattle.yschema_model.specs.View as schema
+use Rattle.ybase_output.specs.Writing.{side}
+use Rattle.ybase_output.proofs.WritingLemmas.{Left}
 use Rattle.yapp.proofs.report.write_diagrams.Given as goal
 
 abbrev pub invariant-loop-module : goal.invariant-loop-module

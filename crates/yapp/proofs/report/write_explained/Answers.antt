@@ -1,7 +1,7 @@
 use Rattle.std.proofs.Common.{codes, decimal, ◌++◌, ◌∙◌, ap}
 use Rattle.std.proofs.lemmas.List.{append-nil}
-use Rattle.ycodes.specs.Codes.{reason_of}
-use Rattle.youtput.proofs.WritingLemmas.{left_all, left_after, left_failed, left_last, broke_same, wrote_same, writes_same}
+use Rattle.ysay_codes.specs.Codes.{reason_of}
+use Rattle.ybase_output.proofs.WritingLemmas.{left_all, left_after, left_failed, left_last, broke_same, wrote_same, writes_same}
 use Rattle.yapp.proofs.report.write_explained.Goals as goal
 
 pub returns-in_err-write_fault : goal.returns-in_err-write_fault

@@ -1,8 +1,8 @@
 use Rattle.std.proofs.Common.{◌+◌, ◌∙◌, ap, ap₂, drop, get_or, map, string_bytes}
 use Rattle.std.proofs.lemmas.List.{at_drop_all, at_drop_more, length-map}
-use Rattle.ymodel.specs.View as schema
+use Rattle.yschema_model.specs.View as schema
 use Rattle.ycheck.specs.View.{view, views}
-use Rattle.youtput.proofs.WritingLemmas.{left_all, left_same, left_after, left_none, left_failed, wrote_same, broke_same}
+use Rattle.ybase_output.proofs.WritingLemmas.{left_all, left_same, left_after, left_none, left_failed, wrote_same, broke_same}
 use Rattle.yapp.specs.Explained.{explained_line, explained_lines}
 use Rattle.yapp.proofs.ExplainedLemmas.{first_explained, none_explained}
 use Rattle.yapp.proofs.report.write_explained_lines.Goals as goal

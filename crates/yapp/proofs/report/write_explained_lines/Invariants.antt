@@ -1,8 +1,8 @@
 use Rattle.std.proofs.Common.{drop, map, string_bytes}
-use Rattle.ymodel.specs.View as schema
+use Rattle.yschema_model.specs.View as schema
 use Rattle.ycheck.specs.View.{views}
-use Rattle.youtput.specs.Writing.{side}
-use Rattle.youtput.proofs.WritingLemmas.{Left}
+use Rattle.ybase_output.specs.Writing.{side}
+use Rattle.ybase_output.proofs.WritingLemmas.{Left}
 use Rattle.yapp.specs.Explained.{explained_lines}
 use Rattle.yapp.proofs.report.write_explained_lines.Given as goal
 

@@ -1,9 +1,9 @@
 use Rattle.std.proofs.lemmas.List.{at_drop_all, at_drop_more}
-use Rattle.youtput.proofs.WritingLemmas.{left_all, left_same, left_after, left_none, left_failed}
+use Rattle.ybase_output.proofs.WritingLemmas.{left_all, left_same, left_after, left_none, left_failed}
 use Rattle.std.proofs.Common.{map}
 use Rattle.std.specs.List.{flat_map}
-use Rattle.ycodes.specs.Codes.{explained}
-use Rattle.ycodes.specs.View.{explanation_view}
+use Rattle.ysay_codes.specs.Codes.{explained}
+use Rattle.ysay_codes.specs.View.{explanation_view}
 use Rattle.yapp.proofs.report.write_explanations.Goals as goal
 
 pub loop-explanation-init : goal.loop-explanation-init

@@ -1,9 +1,9 @@
 use Rattle.std.proofs.Common.{drop, map}
 use Rattle.std.specs.List.{flat_map}
-use Rattle.ycodes.specs.Codes.{explained}
-use Rattle.ycodes.specs.View.{explanation_view}
-use Rattle.youtput.specs.Writing.{side}
-use Rattle.youtput.proofs.WritingLemmas.{Left}
+use Rattle.ysay_codes.specs.Codes.{explained}
+use Rattle.ysay_codes.specs.View.{explanation_view}
+use Rattle.ybase_output.specs.Writing.{side}
+use Rattle.ybase_output.proofs.WritingLemmas.{Left}
 use Rattle.yapp.proofs.report.write_explanations.Given as goal
 
 abbrev pub invariant-loop-explanation : goal.invariant-loop-explanation

@@ -2,9 +2,9 @@ use Rattle.std.proofs.Common.{ap}
 use Rattle.std.specs.List.{flat_map}
 use Rattle.std.proofs.lemmas.List.{at_drop_all, at_drop_more}
 use Rattle.yspec.specs.document.Faults.{line_of}
-use Rattle.ymodel.specs.View as schema
+use Rattle.yschema_model.specs.View as schema
 use Rattle.ycheck.specs.View.{view, views}
-use Rattle.youtput.proofs.WritingLemmas.{left_all, left_same, left_after, left_none, left_failed, wrote_same, broke_same}
+use Rattle.ybase_output.proofs.WritingLemmas.{left_all, left_same, left_after, left_none, left_failed, wrote_same, broke_same}
 use Rattle.yapp.proofs.report.write_lines.Goals as goal
 
 pub loop-fault-init : goal.loop-fault-init

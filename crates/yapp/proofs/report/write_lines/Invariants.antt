@@ -1,10 +1,10 @@
 use Rattle.std.proofs.Common.{drop}
 use Rattle.std.specs.List.{flat_map}
 use Rattle.yspec.specs.document.Faults.{line_of}
-use Rattle.ymodel.specs.View as schema
+use Rattle.yschema_model.specs.View as schema
 use Rattle.ycheck.specs.View.{views}
-use Rattle.youtput.specs.Writing.{side}
-use Rattle.youtput.proofs.WritingLemmas.{Left}
+use Rattle.ybase_output.specs.Writing.{side}
+use Rattle.ybase_output.proofs.WritingLemmas.{Left}
 use Rattle.yapp.proofs.report.write_lines.Given as goal
 
 abbrev pub invariant-loop-fault : goal.invariant-loop-fault

@@ -1,7 +1,7 @@
 use Rattle.std.proofs.Common.{ap}
 use Rattle.std.proofs.lemmas.List.{at_drop_all, at_drop_more}
-use Rattle.youtput.proofs.WritingLemmas.{left_all, left_same, left_after, left_none, left_failed, wrote_same, broke_same}
-use Rattle.yprogram.specs.Part.{spelled, spelled_part}
+use Rattle.ybase_output.proofs.WritingLemmas.{left_all, left_same, left_after, left_none, left_failed, wrote_same, broke_same}
+use Rattle.yspec_run.specs.Part.{spelled, spelled_part}
 use Rattle.yapp.specs.Asked.{refused_part, refused_parts}
 use Rattle.yapp.proofs.report.write_refused.Goals as goal
 

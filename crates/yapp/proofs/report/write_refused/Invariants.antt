@@ -1,7 +1,7 @@
 use Rattle.std.proofs.Common.{drop}
-use Rattle.yprogram.specs.Part.{spelled}
-use Rattle.youtput.specs.Writing.{side}
-use Rattle.youtput.proofs.WritingLemmas.{Left}
+use Rattle.yspec_run.specs.Part.{spelled}
+use Rattle.ybase_output.specs.Writing.{side}
+use Rattle.ybase_output.proofs.WritingLemmas.{Left}
 use Rattle.yapp.specs.Asked.{refused_parts}
 use Rattle.yapp.proofs.report.write_refused.Given as goal
 

@@ -1,8 +1,8 @@
 use Rattle.std.proofs.Common.{[], ◌++◌, ap₂}
 use Rattle.std.specs.Prelude.{if◌then◌else◌}
 use Rattle.yspec.specs.text.Text.{Text}
-use Rattle.ycodes.specs.Codes.{reason_of}
-use Rattle.youtput.proofs.WritingLemmas.{left_all, left_failed, writes_after, writes_same}
+use Rattle.ysay_codes.specs.Codes.{reason_of}
+use Rattle.ybase_output.proofs.WritingLemmas.{left_all, left_failed, writes_after, writes_same}
 use Rattle.yapp.proofs.RunningLemmas.{told_of_edit, told_of_value}
 use Rattle.yapp.proofs.report.write_refused_line.Goals as goal
 

@@ -1,9 +1,9 @@
 use Rattle.std.proofs.Common.{◌≡◌, ap, rules, sym}
 use Rattle.std.specs.List.{flat_map}
 use Rattle.yspec.specs.document.Faults.{line_of}
-use Rattle.ymodel.specs.View as schema
-use Rattle.youtput.proofs.WritingLemmas.{left_all, left_same, left_after, left_none, left_failed}
-use Rattle.ylist.specs.Walked.{left}
+use Rattle.yschema_model.specs.View as schema
+use Rattle.ybase_output.proofs.WritingLemmas.{left_all, left_same, left_after, left_none, left_failed}
+use Rattle.ylive_list.specs.Walked.{left}
 use Rattle.yapp.proofs.report.write_seen_lines.Goals as goal
 
 pub loop-seen-init : goal.loop-seen-init

@@ -1,9 +1,9 @@
 use Rattle.std.specs.List.{flat_map}
 use Rattle.yspec.specs.document.Faults.{line_of}
-use Rattle.ymodel.specs.View as schema
-use Rattle.youtput.specs.Writing.{side}
-use Rattle.youtput.proofs.WritingLemmas.{Left}
-use Rattle.ylist.specs.Walked.{left}
+use Rattle.yschema_model.specs.View as schema
+use Rattle.ybase_output.specs.Writing.{side}
+use Rattle.ybase_output.proofs.WritingLemmas.{Left}
+use Rattle.ylive_list.specs.Walked.{left}
 use Rattle.yapp.proofs.report.write_seen_lines.Given as goal
 
 abbrev pub invariant-loop-seen : goal.invariant-loop-seen

@@ -1,6 +1,6 @@
 use Rattle.std.proofs.Common.{option_map, inr, sym, subst}
-use Rattle.youtput.specs.Writing.{side}
-use Rattle.ycommand.specs.Running.{Ends}
+use Rattle.ybase_output.specs.Writing.{side}
+use Rattle.yapp_words.specs.Running.{Ends}
 use Rattle.yapp.specs.Saving as view
 use Rattle.yapp.specs.Saving.{Saves, saved_view, unsaved_text}
 use Rattle.yapp.proofs.saving.save.Goals as goal

@@ -1,5 +1,5 @@
 use Rattle.std.proofs.Common.{Bool, ap}
-use Rattle.youtput.proofs.WritingLemmas.{left_all, left_after, left_failed, left_last, left_none, left_same}
+use Rattle.ybase_output.proofs.WritingLemmas.{left_all, left_after, left_failed, left_last, left_none, left_same}
 use Rattle.yapp.specs.Saving.{cause_where}
 use Rattle.yapp.proofs.saving.write_unwritten.Goals as goal
 

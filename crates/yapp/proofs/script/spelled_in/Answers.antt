@@ -1,8 +1,8 @@
 use Rattle.std.proofs.Common.{subst, sym, ◌∙◌}
 use Rattle.std.specs.Prelude.{option_map}
 use Rattle.yspec.specs.Results.{Gives}
-use Rattle.ypath.specs.Applying.{told_by}
-use Rattle.ypath.specs.EditView.{edit_view}
+use Rattle.yinst_path.specs.Applying.{told_by}
+use Rattle.yinst_path.specs.EditView.{edit_view}
 use Rattle.yapp.proofs.ScriptLemmas.{asked_of_bytes, asked_of_text}
 use Rattle.yapp.proofs.script.spelled_in.Goals as goal
 

@@ -1,5 +1,5 @@
 use Rattle.std.proofs.Common.{ap, sym, ◌∙◌}
-use Rattle.yprogram.specs.Script.{without_return}
+use Rattle.yspec_run.specs.Script.{without_return}
 use Rattle.yapp.proofs.ScriptLemmas.{return_dropped, return_kept}
 use Rattle.yapp.proofs.script.without_return.Goals as goal
 

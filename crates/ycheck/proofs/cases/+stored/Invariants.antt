@@ -1,7 +1,7 @@
 use Rattle.std.proofs.Common.{◌+◌, ◌*◌, ◌≤◌}
 use Rattle.yspec.specs.Forest.{size}
-use Rattle.ymodel.specs.View.{row_view, below_of}
-use Rattle.ytree.specs.View as document_view
+use Rattle.yschema_model.specs.View.{row_view, below_of}
+use Rattle.yinst_tree.specs.View as document_view
 use Rattle.ycheck.proofs.CaseLemmas.{NoneYet}
 use Rattle.ycheck.proofs.cases.+stored.Given as goal
 

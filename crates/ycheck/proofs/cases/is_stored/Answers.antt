@@ -1,6 +1,6 @@
 use Rattle.std.proofs.Common.{◌+◌, ap, ◌∙◌, arith, drop}
 use Rattle.std.specs.Prelude.{◌==◌}
-use Rattle.ytree.specs.View.{view, row_view}
+use Rattle.yinst_tree.specs.View.{view, row_view}
 use Rattle.ycheck.proofs.CaseLemmas.{left_at, pass_found}
 use Rattle.ycheck.proofs.cases.is_stored.Goals as goal
 

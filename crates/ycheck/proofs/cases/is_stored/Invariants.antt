@@ -1,5 +1,5 @@
 use Rattle.std.proofs.Common.{drop}
-use Rattle.ytree.specs.View.{row_view}
+use Rattle.yinst_tree.specs.View.{row_view}
 use Rattle.ycheck.proofs.CaseLemmas.{IsPassed}
 use Rattle.ycheck.proofs.cases.is_stored.Given as goal
 

@@ -7,10 +7,10 @@ use Rattle.yspec.specs.document.Fault.{Fault}
 use Rattle.yspec.specs.document.Faults.{under}
 use Rattle.yspec.specs.document.Play.{stored_cases}
 use Rattle.yspec.specs.document.Sorting.{IsSorted}
-use Rattle.ymodel.specs.Layout.{number_of}
-use Rattle.ymodel.specs.View as schema_view
-use Rattle.ytree.specs.View.{view, row_view}
-use Rattle.ytree.specs.Walk.{mine, others}
+use Rattle.yschema_model.specs.Layout.{number_of}
+use Rattle.yschema_model.specs.View as schema_view
+use Rattle.yinst_tree.specs.View.{view, row_view}
+use Rattle.yinst_tree.specs.Walk.{mine, others}
 use Rattle.ycheck.specs.Cases.{chosen_from, how_many}
 use Rattle.ycheck.specs.declared.cases.Chosen.{Chosen}
 use Rattle.ycheck.specs.declared.cases.Chosen.TheVariants as variant

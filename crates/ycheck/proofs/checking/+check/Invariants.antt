@@ -4,8 +4,8 @@ use Rattle.yspec.specs.schema.Schema.{is_many}
 use Rattle.yspec.specs.document.Document.{Tree}
 use Rattle.yspec.specs.document.Fault.{Fault}
 use Rattle.yspec.specs.document.Sorting.{IsSorted}
-use Rattle.ymodel.specs.View as schema_view
-use Rattle.ytree.specs.View.{row_view}
+use Rattle.yschema_model.specs.View as schema_view
+use Rattle.yinst_tree.specs.View.{row_view}
 use Rattle.ycheck.specs.declared.cases.Chosen.TheVariants as variant
 use Rattle.ycheck.specs.Walk.{times_of, each_told, each_of, instance_told, instances_told, walked}
 use Rattle.ycheck.proofs.FoundLemmas.{Leaves}

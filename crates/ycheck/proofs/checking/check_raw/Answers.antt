@@ -1,5 +1,5 @@
 use Rattle.std.proofs.Common.{sym, ◌∙◌}
-use Rattle.ymodel.specs.Layout.{leaf_type_view}
+use Rattle.yschema_model.specs.Layout.{leaf_type_view}
 use Rattle.ytype.specs.View.{raw_of}
 use Rattle.ycheck.specs.Walk.{times_of}
 use Rattle.ycheck.proofs.FoundLemmas.{adds_same, adds_none}

@@ -1,8 +1,8 @@
 use Rattle.std.proofs.Common.{subst, sym}
 use Rattle.yspec.specs.document.Sorting.{IsSorted}
-use Rattle.ymodel.specs.View as schema_view
-use Rattle.ymodel.proofs.CallerLemmas.{numbered}
-use Rattle.ytree.specs.View as document_view
+use Rattle.yschema_model.specs.View as schema_view
+use Rattle.yschema_model.proofs.CallerLemmas.{numbered}
+use Rattle.yinst_tree.specs.View as document_view
 use Rattle.ycheck.proofs.ReferenceLemmas.{all_found}
 use Rattle.ycheck.proofs.checking.faults.Goals as goal
 

@@ -1,7 +1,7 @@
 use Rattle.std.proofs.Common.{arith, map}
 use Rattle.std.proofs.lemmas.List.{length-map}
-use Rattle.ymodel.specs.Layout.{tuples_view, numbers_of}
-use Rattle.ymodel.specs.View.{view}
+use Rattle.yschema_model.specs.Layout.{tuples_view, numbers_of}
+use Rattle.yschema_model.specs.View.{view}
 use Rattle.ycheck.proofs.MarkLemmas.{next_table}
 use Rattle.ycheck.proofs.checking.repeated_entries.Goals as goal
 

@@ -1,6 +1,6 @@
 use Rattle.std.proofs.Common.{◌≡◌, ◌++◌, ◌+◌, drop, map}
-use Rattle.ymodel.specs.Layout.{tuples_view}
-use Rattle.ymodel.specs.View.{view}
+use Rattle.yschema_model.specs.Layout.{tuples_view}
+use Rattle.yschema_model.specs.View.{view}
 use Rattle.ycheck.specs.Walk.{tables_from, entry_table}
 use Rattle.ycheck.proofs.checking.repeated_entries.Given as goal
 

@@ -1,5 +1,5 @@
 use Rattle.std.proofs.Common.{map, ◌++◌, ap, ap₂, sym, ◌∙◌, [], ◌∷◌, List, Bool}
-use Rattle.ymodel.specs.View as schema_view
+use Rattle.yschema_model.specs.View as schema_view
 use Rattle.ycheck.specs.Walk.{table_of}
 use Rattle.ycheck.proofs.checking.repeated_in.Goals as goal
 

@@ -1,7 +1,7 @@
 use Rattle.std.proofs.Common.{decimal, sym, arith, ◌∙◌}
 use Rattle.std.proofs.lemmas.Fmt.{decimal_nonempty}
 use Rattle.std.proofs.lemmas.List.{append-nil}
-use Rattle.youtput.proofs.WritingLemmas.{writes_same}
+use Rattle.ybase_output.proofs.WritingLemmas.{writes_same}
 use Rattle.ycheck.proofs.LineLemmas.{some_text}
 use Rattle.ycheck.proofs.lines.write_number.Goals as goal
 

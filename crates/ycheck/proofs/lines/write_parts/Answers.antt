@@ -1,5 +1,5 @@
-use Rattle.ymodel.specs.View as schema
-use Rattle.youtput.proofs.WritingLemmas.{left_all, left_same, left_after, left_failed, left_last}
+use Rattle.yschema_model.specs.View as schema
+use Rattle.ybase_output.proofs.WritingLemmas.{left_all, left_same, left_after, left_failed, left_last}
 use Rattle.ycheck.proofs.LineLemmas.{line_parts}
 use Rattle.ycheck.proofs.lines.write_parts.Goals as goal
 

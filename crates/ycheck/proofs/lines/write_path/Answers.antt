@@ -1,9 +1,9 @@
 use Rattle.std.proofs.Common.{ℕ, Option, drop, ◌+◌, ap, sym}
 use Rattle.std.proofs.lemmas.List.{at_drop_all, at_drop_more}
 use Rattle.yspec.specs.document.Path.{path_from}
-use Rattle.youtput.proofs.WritingLemmas.{left_all, left_same, left_after, left_none, left_failed, wrote_same, writes_same}
-use Rattle.ymodel.specs.View.{view}
-use Rattle.ytree.specs.View.{place_view}
+use Rattle.ybase_output.proofs.WritingLemmas.{left_all, left_same, left_after, left_none, left_failed, wrote_same, writes_same}
+use Rattle.yschema_model.specs.View.{view}
+use Rattle.yinst_tree.specs.View.{place_view}
 use Rattle.ycheck.proofs.LineLemmas.{path_of_some}
 use Rattle.ycheck.proofs.lines.write_path.Goals as goal
 

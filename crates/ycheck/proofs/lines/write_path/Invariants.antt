@@ -1,9 +1,9 @@
 use Rattle.std.proofs.Common.{drop, None}
 use Rattle.yspec.specs.document.Path.{path_from}
-use Rattle.youtput.specs.Writing.{side}
-use Rattle.youtput.proofs.WritingLemmas.{Left}
-use Rattle.ymodel.specs.View.{view}
-use Rattle.ytree.specs.View.{place_view}
+use Rattle.ybase_output.specs.Writing.{side}
+use Rattle.ybase_output.proofs.WritingLemmas.{Left}
+use Rattle.yschema_model.specs.View.{view}
+use Rattle.yinst_tree.specs.View.{place_view}
 use Rattle.ycheck.proofs.lines.write_path.Given as goal
 
 abbrev pub invariant-loop-step : goal.invariant-loop-step

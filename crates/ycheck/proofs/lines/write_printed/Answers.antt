@@ -1,7 +1,7 @@
 use Rattle.std.proofs.Common.{ℕ, ◌∷◌, [], ap}
 use Rattle.std.proofs.lemmas.List.{at_drop_all, at_drop_more}
 use Rattle.yspec.specs.document.Faults.{printed_tag}
-use Rattle.youtput.proofs.WritingLemmas.{left_all, left_same, left_after, left_none, left_broken, wrote_same, broke_same}
+use Rattle.ybase_output.proofs.WritingLemmas.{left_all, left_same, left_after, left_none, left_broken, wrote_same, broke_same}
 use Rattle.ycheck.proofs.lines.write_printed.Goals as goal
 
 pub loop-byte-init : goal.loop-byte-init

@@ -1,7 +1,7 @@
 use Rattle.std.proofs.Common.{drop}
 use Rattle.yspec.specs.document.Faults.{printed_tag}
-use Rattle.youtput.specs.Writing.{side}
-use Rattle.youtput.proofs.WritingLemmas.{Left}
+use Rattle.ybase_output.specs.Writing.{side}
+use Rattle.ybase_output.proofs.WritingLemmas.{Left}
 use Rattle.ycheck.proofs.lines.write_printed.Given as goal
 
 abbrev pub invariant-loop-byte : goal.invariant-loop-byte

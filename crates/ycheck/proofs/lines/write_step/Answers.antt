@@ -1,6 +1,6 @@
-use Rattle.ymodel.specs.View.{view, node_view}
-use Rattle.ytree.specs.View.{step_view}
-use Rattle.youtput.proofs.WritingLemmas.{writes_after, writes_same, left_failed, left_all}
+use Rattle.yschema_model.specs.View.{view, node_view}
+use Rattle.yinst_tree.specs.View.{step_view}
+use Rattle.ybase_output.proofs.WritingLemmas.{writes_after, writes_same, left_failed, left_all}
 use Rattle.ycheck.proofs.LineLemmas.{named_step}
 use Rattle.ycheck.proofs.lines.write_step.Goals as goal
 

@@ -3,8 +3,8 @@ use Rattle.std.proofs.lemmas.Result.{IfOk-weaker}
 use Rattle.std.specs.Cmp.Lexicographic.{slice_cmp}
 use Rattle.std.specs.Ordering.{eq_by_cmp}
 use Rattle.yspec.specs.types.Order.{value_cmp}
-use Rattle.ymodel.specs.Layout.{tuples_view}
-use Rattle.ymodel.specs.View as schema_view
+use Rattle.yschema_model.specs.Layout.{tuples_view}
+use Rattle.yschema_model.specs.View as schema_view
 use Rattle.ycheck.specs.Repeated.{marks}
 use Rattle.ycheck.proofs.ValueLemmas.{tuple_marks}
 use Rattle.ycheck.proofs.repeated.repeated_tuples.Goals as goal

@@ -1,7 +1,7 @@
 use Rattle.std.proofs.Common.{◌≡◌, ◌++◌, drop, map}
 use Rattle.std.specs.Prelude.{option_map}
-use Rattle.ymodel.specs.Layout.{tuples_view}
-use Rattle.ymodel.specs.View as schema_view
+use Rattle.yschema_model.specs.Layout.{tuples_view}
+use Rattle.yschema_model.specs.View as schema_view
 use Rattle.ycheck.specs.Repeated.{tuples_of}
 use Rattle.ycheck.proofs.repeated.repeated_tuples.Given as goal
 

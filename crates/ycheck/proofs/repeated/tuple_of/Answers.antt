@@ -2,9 +2,9 @@ use Rattle.std.proofs.Common.{◌∙◌, ap, map, sym}
 use Rattle.std.proofs.lemmas.Bool.{ltb-true, ltb-false}
 use Rattle.std.proofs.lemmas.Result.{IfOk-weaker}
 use Rattle.yspec.specs.document.Instances.{tuple_of_paths}
-use Rattle.ymodel.specs.Layout.{numbers_of}
-use Rattle.ymodel.specs.View as schema_view
-use Rattle.ytree.specs.View as document_view
+use Rattle.yschema_model.specs.Layout.{numbers_of}
+use Rattle.yschema_model.specs.View as schema_view
+use Rattle.yinst_tree.specs.View as document_view
 use Rattle.ycheck.proofs.ValueLemmas.{unique_some, unique_none}
 use Rattle.ycheck.proofs.repeated.tuple_of.Goals as goal
 

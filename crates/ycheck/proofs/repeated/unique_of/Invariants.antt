@@ -2,10 +2,10 @@ use Rattle.std.proofs.Common.{◌≡◌, drop, map, List, Option}
 use Rattle.std.specs.Global.{Global}
 use Rattle.std.proofs.Common.{Vec}
 use Rattle.yspec.specs.document.Instances.{Tuple, tuple_at}
-use Rattle.ymodel.specs.Layout.{numbers_of}
-use Rattle.ymodel.specs.declared.node.SchemaId.{SchemaId}
-use Rattle.ymodel.specs.View as schema_view
-use Rattle.ytree.specs.View as document_view
+use Rattle.yschema_model.specs.Layout.{numbers_of}
+use Rattle.yschema_model.specs.declared.node.SchemaId.{SchemaId}
+use Rattle.yschema_model.specs.View as schema_view
+use Rattle.yinst_tree.specs.View as document_view
 use Rattle.ycheck.proofs.ValueLemmas.{with_front}
 use Rattle.ycheck.proofs.repeated.unique_of.Given as goal
 

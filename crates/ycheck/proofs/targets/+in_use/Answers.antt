@@ -4,9 +4,9 @@ use Rattle.yspec.specs.Forest.{end, node, size}
 use Rattle.yspec.specs.schema.Schema as spec
 use Rattle.yspec.specs.document.Document.{instances_in}
 use Rattle.yspec.specs.document.Play.{stored_cases, or_default}
-use Rattle.ymodel.specs.Layout.{number_of, kind_view, leaf_type_view, absence_view, amount_view}
-use Rattle.ymodel.specs.View as schema_view
-use Rattle.ytree.specs.View as document_view
+use Rattle.yschema_model.specs.Layout.{number_of, kind_view, leaf_type_view, absence_view, amount_view}
+use Rattle.yschema_model.specs.View as schema_view
+use Rattle.yinst_tree.specs.View as document_view
 use Rattle.ycheck.specs.Targets.{times_used, default_value, some_values}
 use Rattle.ycheck.proofs.CaseLemmas.{numbered_row, no_case}
 use Rattle.ycheck.proofs.TargetLemmas.{gathers_none, gathers_same, implied_used, present_used, leaf_used, leaf_list_used, rest_unused, choice_used, case_used, case_unused, stored_unused, absent_used, data_kind, use_next, use_ended}

@@ -2,8 +2,8 @@ use Rattle.std.proofs.Common.{◌≤◌, ◌+◌, ◌*◌, List, ℕ}
 use Rattle.yspec.specs.Forest.{size}
 use Rattle.yspec.specs.document.Document.{instances_in}
 use Rattle.yspec.specs.document.Sorting.{IsSorted}
-use Rattle.ymodel.specs.View.{row_view, below_of}
-use Rattle.ytree.specs.View as document_view
+use Rattle.yschema_model.specs.View.{row_view, below_of}
+use Rattle.yinst_tree.specs.View as document_view
 use Rattle.ycheck.specs.Cases.{Chooses}
 use Rattle.ycheck.specs.Targets.{times_used}
 use Rattle.ycheck.proofs.TargetLemmas.{UsesLeft}

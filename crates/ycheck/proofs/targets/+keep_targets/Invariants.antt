@@ -1,7 +1,7 @@
 use Rattle.std.proofs.Common.{◌≡◌, ◌≤◌, ◌||◌, ℕ}
 use Rattle.yspec.specs.Forest.{size}
 use Rattle.yspec.specs.types.Types.{Val}
-use Rattle.ymodel.specs.View.{row_view}
+use Rattle.yschema_model.specs.View.{row_view}
 use Rattle.ycheck.specs.Targets.{is_kept, holds, is_target_in}
 use Rattle.ycheck.proofs.targets.+keep_targets.Given as goal
 

@@ -3,8 +3,8 @@ use Rattle.std.proofs.lemmas.Result.{on_ok_weaker}
 use Rattle.yspec.specs.document.Document.{instances_in}
 use Rattle.yspec.specs.document.Sorting.{IsSorted}
 use Rattle.yspec.specs.schema.Schema.{children_of}
-use Rattle.ymodel.specs.View as schema_view
-use Rattle.ytree.specs.View as document_view
+use Rattle.yschema_model.specs.View as schema_view
+use Rattle.yinst_tree.specs.View as document_view
 use Rattle.ycheck.specs.Targets.{times_of_row, times_of_node, times_used, own_value}
 use Rattle.ycheck.proofs.CaseLemmas.{no_case, left_at, left_ended}
 use Rattle.ycheck.proofs.TargetLemmas.{still_all_left, still_more, left_times, stored_next, stored_ended, gathers_both, node_parts}

@@ -1,7 +1,7 @@
 use Rattle.std.proofs.Common.{drop}
 use Rattle.yspec.specs.document.Sorting.{IsSorted}
-use Rattle.ymodel.specs.View as schema_view
-use Rattle.ytree.specs.View.{row_view}
+use Rattle.yschema_model.specs.View as schema_view
+use Rattle.yinst_tree.specs.View.{row_view}
 use Rattle.ycheck.specs.Targets.{times_of_row}
 use Rattle.ycheck.proofs.TargetLemmas.{Still, left_times}
 use Rattle.ycheck.proofs.targets.+rows.Given as goal

@@ -1,6 +1,6 @@
 use Rattle.std.proofs.Common.{subst, sym}
 use Rattle.std.proofs.lemmas.Result.{on_ok_weaker}
-use Rattle.ymodel.specs.Layout.{absence_view}
+use Rattle.yschema_model.specs.Layout.{absence_view}
 use Rattle.ycheck.specs.Targets.{Gathers, default_value}
 use Rattle.ycheck.proofs.targets.add_default.Goals as goal
 

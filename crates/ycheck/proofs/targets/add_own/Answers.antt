@@ -1,7 +1,7 @@
 use Rattle.std.proofs.Common.{sym, ◌∙◌}
 use Rattle.std.proofs.lemmas.Result.{on_ok_weaker}
-use Rattle.ymodel.specs.View as schema_view
-use Rattle.ytree.specs.View as document_view
+use Rattle.yschema_model.specs.View as schema_view
+use Rattle.yinst_tree.specs.View as document_view
 use Rattle.ycheck.specs.Targets.{one_value, own_value}
 use Rattle.ycheck.proofs.TargetLemmas.{gathers_same, own_some}
 use Rattle.ycheck.proofs.targets.add_own.Goals as goal

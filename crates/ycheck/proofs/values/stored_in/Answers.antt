@@ -1,5 +1,5 @@
 use Rattle.std.proofs.Common.{◌+◌, sym, ◌∙◌, arith, drop}
-use Rattle.ytree.specs.View.{view, row_view}
+use Rattle.yinst_tree.specs.View.{view, row_view}
 use Rattle.ycheck.proofs.CaseLemmas.{left_at}
 use Rattle.ycheck.proofs.ValueLemmas.{found_first, row_first}
 use Rattle.ycheck.proofs.values.stored_in.Goals as goal

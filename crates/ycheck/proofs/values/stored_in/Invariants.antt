@@ -1,6 +1,6 @@
 use Rattle.std.proofs.Common.{◌≡◌, drop}
 use Rattle.yspec.specs.document.Document.{stored_in, row_in}
-use Rattle.ytree.specs.View.{row_view}
+use Rattle.yinst_tree.specs.View.{row_view}
 use Rattle.ycheck.proofs.values.stored_in.Given as goal
 
 -- the first of those that are left is the first of all

@@ -1,5 +1,5 @@
 use Rattle.std.proofs.Common.{◌∙◌}
-use Rattle.ymodel.specs.View.{view}
+use Rattle.yschema_model.specs.View.{view}
 use Rattle.ydiagram.proofs.AugmentLemmas.{elsewhere_above}
 use Rattle.ydiagram.proofs.augments.+is_elsewhere.Goals as goal
 

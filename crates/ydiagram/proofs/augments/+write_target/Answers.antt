@@ -1,6 +1,6 @@
 use Rattle.std.proofs.Common.{Some, None}
-use Rattle.ymodel.specs.View.{view}
-use Rattle.youtput.proofs.WritingLemmas.{writes_after, writes_same, left_failed, left_all}
+use Rattle.yschema_model.specs.View.{view}
+use Rattle.ybase_output.proofs.WritingLemmas.{writes_after, writes_same, left_failed, left_all}
 use Rattle.ydiagram.proofs.AugmentLemmas.{target_parted}
 use Rattle.ydiagram.proofs.augments.+write_target.Goals as goal
 

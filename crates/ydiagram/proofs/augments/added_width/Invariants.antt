@@ -1,8 +1,8 @@
 use Rattle.std.proofs.Common.{◌≡◌, max, drop}
 use Rattle.yspec.specs.schema.Schema.{children_of}
 use Rattle.yspec.specs.schema.Diagram.{row_width}
-use Rattle.ymodel.specs.Layout.{numbers_of}
-use Rattle.ymodel.specs.View.{augment_view, view}
+use Rattle.yschema_model.specs.Layout.{numbers_of}
+use Rattle.yschema_model.specs.View.{augment_view, view}
 use Rattle.ydiagram.specs.View.{added_row, row_of}
 use Rattle.ydiagram.proofs.augments.added_width.Given as goal
 

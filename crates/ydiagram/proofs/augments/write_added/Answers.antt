@@ -2,10 +2,10 @@ use Rattle.std.proofs.Common.{ℕ, ◌+◌, ◌++◌, List, true, codes, drop, s
 use Rattle.std.proofs.lemmas.List.{at_drop_all, at_drop_more}
 use Rattle.yspec.specs.Forest.{node}
 use Rattle.yspec.specs.schema.Schema.{children_of}
-use Rattle.ymodel.specs.declared.node.SchemaId.{SchemaId}
-use Rattle.ymodel.specs.Layout.{numbers_of}
-use Rattle.ymodel.specs.View.{label_of, below_of, view}
-use Rattle.youtput.proofs.WritingLemmas.{left_same, left_after, left_failed, left_last}
+use Rattle.yschema_model.specs.declared.node.SchemaId.{SchemaId}
+use Rattle.yschema_model.specs.Layout.{numbers_of}
+use Rattle.yschema_model.specs.View.{label_of, below_of, view}
+use Rattle.ybase_output.proofs.WritingLemmas.{left_same, left_after, left_failed, left_last}
 use Rattle.ydiagram.specs.View.{held_written, rest_written, row_of}
 use Rattle.ydiagram.proofs.RowLemmas.{with_held, held_and_first, held_and_none}
 use Rattle.ydiagram.proofs.AugmentLemmas.{added_first}

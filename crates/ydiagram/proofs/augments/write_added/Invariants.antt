@@ -1,9 +1,9 @@
 use Rattle.std.proofs.Common.{drop, codes}
 use Rattle.yspec.specs.schema.Schema.{children_of}
-use Rattle.youtput.specs.Writing.{side}
-use Rattle.youtput.proofs.WritingLemmas.{Left}
-use Rattle.ymodel.specs.Layout.{numbers_of}
-use Rattle.ymodel.specs.View.{augment_view, view}
+use Rattle.ybase_output.specs.Writing.{side}
+use Rattle.ybase_output.proofs.WritingLemmas.{Left}
+use Rattle.yschema_model.specs.Layout.{numbers_of}
+use Rattle.yschema_model.specs.View.{augment_view, view}
 use Rattle.ydiagram.specs.View.{added_row, rest_written, row_of, row_written}
 use Rattle.ydiagram.proofs.RowLemmas.{with_held}
 use Rattle.ydiagram.proofs.augments.write_added.Given as goal

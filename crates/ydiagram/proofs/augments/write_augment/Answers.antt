@@ -1,6 +1,6 @@
-use Rattle.ymodel.specs.View.{augment_view, view}
-use Rattle.ymodel.proofs.CallerLemmas.{numbered}
-use Rattle.youtput.proofs.WritingLemmas.{left_all, left_same, left_after, left_failed, left_last}
+use Rattle.yschema_model.specs.View.{augment_view, view}
+use Rattle.yschema_model.proofs.CallerLemmas.{numbered}
+use Rattle.ybase_output.proofs.WritingLemmas.{left_all, left_same, left_after, left_failed, left_last}
 use Rattle.ydiagram.proofs.AugmentLemmas.{augment_parts}
 use Rattle.ydiagram.proofs.augments.write_augment.Goals as goal
 

@@ -1,9 +1,9 @@
 use Rattle.std.proofs.Common.{◌≡◌, ℕ, ◌+◌, ◌∷◌, List, Bool, true, drop, sym, ap, ◌∙◌, rules}
 use Rattle.std.proofs.lemmas.List.{at_drop_more}
-use Rattle.ymodel.specs.Ascending.{all_ascend}
-use Rattle.ymodel.specs.declared.schema.Augment as held
-use Rattle.ymodel.specs.View.{augment_view, view}
-use Rattle.youtput.proofs.WritingLemmas.{left_same, left_after, left_failed}
+use Rattle.yschema_model.specs.Ascending.{all_ascend}
+use Rattle.yschema_model.specs.declared.schema.Augment as held
+use Rattle.yschema_model.specs.View.{augment_view, view}
+use Rattle.ybase_output.proofs.WritingLemmas.{left_same, left_after, left_failed}
 use Rattle.ydiagram.specs.View.{augments_seen, augments_written}
 use Rattle.ydiagram.proofs.AugmentLemmas.{augments_first, first_ascends}
 use Rattle.ydiagram.proofs.augments.write_augments.Goals as goal

@@ -1,4 +1,4 @@
-use Rattle.youtput.proofs.WritingLemmas.{left_same, left_after, left_none, left_failed}
+use Rattle.ybase_output.proofs.WritingLemmas.{left_same, left_after, left_none, left_failed}
 use Rattle.ydiagram.proofs.LabelLemmas.{spaces_next, no_spaces}
 use Rattle.ydiagram.proofs.column.write_spaces.Goals as goal
 

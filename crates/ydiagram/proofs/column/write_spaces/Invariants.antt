@@ -1,5 +1,5 @@
-use Rattle.youtput.specs.Writing.{side}
-use Rattle.youtput.proofs.WritingLemmas.{Left}
+use Rattle.ybase_output.specs.Writing.{side}
+use Rattle.ybase_output.proofs.WritingLemmas.{Left}
 use Rattle.yspec.specs.schema.Diagram.{spaces}
 use Rattle.ydiagram.proofs.column.write_spaces.Given as goal
 

@@ -1,6 +1,6 @@
 use Rattle.std.proofs.Common.{sym, ◌∙◌}
-use Rattle.ymodel.specs.View.{view, node_view}
-use Rattle.youtput.proofs.WritingLemmas.{writes_after, writes_same, left_failed, left_all}
+use Rattle.yschema_model.specs.View.{view, node_view}
+use Rattle.ybase_output.proofs.WritingLemmas.{writes_after, writes_same, left_failed, left_all}
 use Rattle.ydiagram.proofs.LabelLemmas.{step_shown}
 use Rattle.ydiagram.proofs.column.write_step.Goals as goal
 

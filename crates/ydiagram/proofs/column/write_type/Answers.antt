@@ -1,6 +1,6 @@
-use Rattle.ymodel.specs.Layout.{leaf_type_view}
-use Rattle.ymodel.specs.View.{view}
-use Rattle.youtput.proofs.WritingLemmas.{writes_after, writes_same, left_failed, left_all}
+use Rattle.yschema_model.specs.Layout.{leaf_type_view}
+use Rattle.yschema_model.specs.View.{view}
+use Rattle.ybase_output.proofs.WritingLemmas.{writes_after, writes_same, left_failed, left_all}
 use Rattle.ydiagram.proofs.LabelLemmas.{type_shown}
 use Rattle.ydiagram.proofs.column.write_type.Goals as goal
 

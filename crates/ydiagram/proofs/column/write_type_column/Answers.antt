@@ -1,7 +1,7 @@
 use Rattle.std.proofs.Common.{◌-◌, ◌∙◌, ap}
-use Rattle.ymodel.specs.Layout.{leaf_type_view}
-use Rattle.ymodel.specs.View.{view, node_view}
-use Rattle.youtput.proofs.WritingLemmas.{left_all, left_same, left_after, left_failed, left_last}
+use Rattle.yschema_model.specs.Layout.{leaf_type_view}
+use Rattle.yschema_model.specs.View.{view, node_view}
+use Rattle.ybase_output.proofs.WritingLemmas.{left_all, left_same, left_after, left_failed, left_last}
 use Rattle.ydiagram.proofs.LabelLemmas.{column_parts}
 use Rattle.ydiagram.proofs.column.write_type_column.Goals as goal
 

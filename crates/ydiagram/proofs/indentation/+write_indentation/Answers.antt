@@ -1,6 +1,6 @@
 use Rattle.std.proofs.Common.{sym, ap, ◌++◌, ◌∙◌}
 use Rattle.std.proofs.lemmas.List.{append-nil}
-use Rattle.youtput.proofs.WritingLemmas.{writes_after, writes_same, left_failed, left_all}
+use Rattle.ybase_output.proofs.WritingLemmas.{writes_after, writes_same, left_failed, left_all}
 use Rattle.ydiagram.specs.View.{indentation_text, column}
 use Rattle.ydiagram.proofs.indentation.+write_indentation.Goals as goal
 

@@ -1,9 +1,9 @@
 use Rattle.std.proofs.Common.{◌≡◌, ◌∷◌, ap, ◌∙◌, rules}
 use Rattle.std.proofs.lemmas.List.{at_drop_all, at_drop_more}
 use Rattle.yspec.specs.schema.Diagram.{key_names}
-use Rattle.ymodel.specs.Layout.{numbers_of}
-use Rattle.ymodel.specs.View.{view}
-use Rattle.youtput.proofs.WritingLemmas.{left_all, left_same, left_after, left_failed, left_last}
+use Rattle.yschema_model.specs.Layout.{numbers_of}
+use Rattle.yschema_model.specs.View.{view}
+use Rattle.ybase_output.proofs.WritingLemmas.{left_all, left_same, left_after, left_failed, left_last}
 use Rattle.ydiagram.proofs.LabelLemmas.{keys_parts, others_left, other_first}
 use Rattle.ydiagram.proofs.label.write_keys.Goals as goal
 

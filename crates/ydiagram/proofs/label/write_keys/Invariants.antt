@@ -1,9 +1,9 @@
 use Rattle.std.proofs.Common.{drop}
 use Rattle.yspec.specs.schema.Diagram.{key_names}
-use Rattle.youtput.specs.Writing.{side}
-use Rattle.youtput.proofs.WritingLemmas.{Left}
-use Rattle.ymodel.specs.Layout.{numbers_of}
-use Rattle.ymodel.specs.View.{view}
+use Rattle.ybase_output.specs.Writing.{side}
+use Rattle.ybase_output.proofs.WritingLemmas.{Left}
+use Rattle.yschema_model.specs.Layout.{numbers_of}
+use Rattle.yschema_model.specs.View.{view}
 use Rattle.ydiagram.proofs.LabelLemmas.{others_left}
 use Rattle.ydiagram.proofs.label.write_keys.Given as goal
 

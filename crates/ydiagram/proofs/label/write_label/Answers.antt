@@ -1,8 +1,8 @@
 use Rattle.std.proofs.Common.{refl}
 use Rattle.yspec.specs.schema.Schema.{keys_in}
-use Rattle.ymodel.specs.Layout.{numbers_of}
-use Rattle.ymodel.specs.View.{view, node_view, kind_view}
-use Rattle.youtput.proofs.WritingLemmas.{left_all, left_same, left_after, left_failed, left_last}
+use Rattle.yschema_model.specs.Layout.{numbers_of}
+use Rattle.yschema_model.specs.View.{view, node_view, kind_view}
+use Rattle.ybase_output.proofs.WritingLemmas.{left_all, left_same, left_after, left_failed, left_last}
 use Rattle.ydiagram.proofs.LabelLemmas.{label_parts}
 use Rattle.ydiagram.proofs.label.write_label.Goals as goal
 

@@ -1,6 +1,6 @@
 use Rattle.std.proofs.Common.{sym, ◌∙◌}
-use Rattle.ymodel.specs.View.{view, node_view}
-use Rattle.youtput.proofs.WritingLemmas.{left_all, left_same, left_after, left_failed, left_last}
+use Rattle.yschema_model.specs.View.{view, node_view}
+use Rattle.ybase_output.proofs.WritingLemmas.{left_all, left_same, left_after, left_failed, left_last}
 use Rattle.ydiagram.proofs.LabelLemmas.{bracketed}
 use Rattle.ydiagram.proofs.label.write_name.Goals as goal
 

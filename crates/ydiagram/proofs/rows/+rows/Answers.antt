@@ -1,7 +1,7 @@
 use Rattle.std.proofs.Common.{◌≡◌, ◌≤◌, true, refl, sym, ap, ap₂, ◌∙◌, subst, arith, rules}
 use Rattle.yspec.specs.Forest.{size}
-use Rattle.ymodel.specs.View.{label_of, below_of, node_view, row_view, view}
-use Rattle.youtput.proofs.WritingLemmas.{left_all, left_same, left_after, left_failed, left_last}
+use Rattle.yschema_model.specs.View.{label_of, below_of, node_view, row_view, view}
+use Rattle.ybase_output.proofs.WritingLemmas.{left_all, left_same, left_after, left_failed, left_last}
 use Rattle.ydiagram.specs.View.{indentation_text, rest_written, shown_in}
 use Rattle.ydiagram.proofs.RowLemmas.{node_parts, fewer_shown, shows_same, shown_first, with_held, held_more, held_and_first, held_and_none}
 use Rattle.ydiagram.proofs.rows.+rows.Goals as goal

@@ -1,8 +1,8 @@
 use Rattle.std.proofs.Common.{◌+◌, ◌*◌, ◌≤◌}
 use Rattle.yspec.specs.Forest.{end, size}
-use Rattle.youtput.specs.Writing.{side}
-use Rattle.youtput.proofs.WritingLemmas.{Left}
-use Rattle.ymodel.specs.View.{row_view, below_of, view}
+use Rattle.ybase_output.specs.Writing.{side}
+use Rattle.ybase_output.proofs.WritingLemmas.{Left}
+use Rattle.yschema_model.specs.View.{row_view, below_of, view}
 use Rattle.ydiagram.specs.View.{indentation_text, rest_written, row_written, shown_in}
 use Rattle.ydiagram.proofs.RowLemmas.{with_held}
 use Rattle.ydiagram.proofs.rows.+rows.Given as goal

@@ -1,6 +1,6 @@
 use Rattle.std.proofs.Common.{◌≡◌, max}
 use Rattle.yspec.specs.schema.Diagram.{row_width}
-use Rattle.ymodel.specs.View.{row_view, view}
+use Rattle.yschema_model.specs.View.{row_view, view}
 use Rattle.ydiagram.specs.View.{shown_in}
 use Rattle.ydiagram.proofs.rows.row_width.Given as goal
 

@@ -1,8 +1,8 @@
 use Rattle.std.proofs.Common.{refl, ap, ◌∙◌}
-use Rattle.ymodel.specs.Ascending.{all_ascend}
-use Rattle.ymodel.specs.View.{view}
-use Rattle.ymodel.proofs.CallerLemmas.{augments_ascend}
-use Rattle.youtput.proofs.WritingLemmas.{left_all, left_same, left_failed, left_after, left_last}
+use Rattle.yschema_model.specs.Ascending.{all_ascend}
+use Rattle.yschema_model.specs.View.{view}
+use Rattle.yschema_model.proofs.CallerLemmas.{augments_ascend}
+use Rattle.ybase_output.proofs.WritingLemmas.{left_all, left_same, left_failed, left_after, left_last}
 use Rattle.yspec.specs.schema.Schema.{augments_in}
 use Rattle.ydiagram.proofs.AugmentLemmas.{diagram_whole}
 use Rattle.ydiagram.proofs.rows.write.Goals as goal

@@ -1,4 +1,4 @@
-use Rattle.youtput.proofs.WritingLemmas.{left_all, left_after, left_failed, left_last}
+use Rattle.ybase_output.proofs.WritingLemmas.{left_all, left_after, left_failed, left_last}
 use Rattle.ydiagram.proofs.rows.write_line.Goals as goal
 
 pub returns-in_err-write_indentation : goal.returns-in_err-write_indentation

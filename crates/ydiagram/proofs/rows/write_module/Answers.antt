@@ -1,6 +1,6 @@
 use Rattle.std.proofs.Common.{refl}
-use Rattle.ymodel.specs.View.{view, row_view}
-use Rattle.youtput.proofs.WritingLemmas.{left_all, left_same, left_failed, left_after, left_last}
+use Rattle.yschema_model.specs.View.{view, row_view}
+use Rattle.ybase_output.proofs.WritingLemmas.{left_all, left_same, left_failed, left_after, left_last}
 use Rattle.ydiagram.proofs.AugmentLemmas.{module_parts}
 use Rattle.ydiagram.proofs.rows.write_module.Goals as goal
 

@@ -2,10 +2,10 @@ use Rattle.yspec.specs.document.Fitting.{Fits}
 use Rattle.yspec.specs.document.Writing.{IsDocument}
 use Rattle.yspec.specs.edit.Editing.{applied}
 use Rattle.yspec.proofs.EditProofs.FittingEditLemmas.{edit_fits, edit_whole}
-use Rattle.ymodel.specs.View.{view}
-use Rattle.ymodel.proofs.CallerLemmas.{numbered, names_differ}
-use Rattle.ytree.specs.View.{tree_view}
-use Rattle.ypath.specs.EditView.{edit_view}
+use Rattle.yschema_model.specs.View.{view}
+use Rattle.yschema_model.proofs.CallerLemmas.{numbered, names_differ}
+use Rattle.yinst_tree.specs.View.{tree_view}
+use Rattle.yinst_path.specs.EditView.{edit_view}
 use Rattle.yinst.proofs.EditLemmas.{if_given}
 use Rattle.yinst.proofs.applying.apply.Goals as goal
 

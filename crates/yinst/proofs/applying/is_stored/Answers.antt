@@ -1,8 +1,8 @@
 use Rattle.std.proofs.Common.{ap, sym, ◌∙◌}
 use Rattle.std.specs.Prelude.{nat_lt}
 use Rattle.yspec.specs.document.Document.{instances_in}
-use Rattle.ymodel.specs.View as schema_view
-use Rattle.ytree.specs.View.{row_view}
+use Rattle.yschema_model.specs.View as schema_view
+use Rattle.yinst_tree.specs.View.{row_view}
 use Rattle.yinst.proofs.LocatingLemmas.{number_is}
 use Rattle.yinst.proofs.applying.is_stored.Goals as goal
 

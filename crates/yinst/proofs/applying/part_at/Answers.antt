@@ -1,9 +1,9 @@
 use Rattle.std.proofs.Common.{ap}
 use Rattle.yspec.specs.edit.Editing.{branch_of}
-use Rattle.ymodel.specs.View as schema_view
-use Rattle.ypath.specs.Binding.{node_of}
+use Rattle.yschema_model.specs.View as schema_view
+use Rattle.yinst_path.specs.Binding.{node_of}
 use Rattle.yinst.specs.Rows.{branch_view}
-use Rattle.ypath.proofs.AnswerLemmas.{answers_same}
+use Rattle.yinst_path.proofs.AnswerLemmas.{answers_same}
 use Rattle.yinst.proofs.LocatingLemmas.{number_is}
 use Rattle.yinst.proofs.applying.part_at.Goals as goal
 

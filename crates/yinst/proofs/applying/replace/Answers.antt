@@ -1,11 +1,11 @@
 use Rattle.std.proofs.Common.{ap}
 use Rattle.yspec.specs.edit.Edit.{edit_at}
 use Rattle.yspec.specs.edit.Editing.{replaced, within_limit, with_instead}
-use Rattle.ymodel.specs.View as schema_view
-use Rattle.ytree.specs.View.{tree_view}
+use Rattle.yschema_model.specs.View as schema_view
+use Rattle.yinst_tree.specs.View.{tree_view}
 use Rattle.yinst.specs.Locating.{spot_view, spots_view, located_view}
 use Rattle.yinst.specs.Rows.{branch_view}
-use Rattle.ypath.proofs.AnswerLemmas.{answers_same}
+use Rattle.yinst_path.proofs.AnswerLemmas.{answers_same}
 use Rattle.yinst.proofs.ApplyLemmas.{replaced_so}
 use Rattle.yinst.proofs.applying.replace.Goals as goal
 

@@ -1,7 +1,7 @@
 use Rattle.std.proofs.Common.{sym, ap}
 use Rattle.yspec.specs.edit.Editing.{within_limit}
-use Rattle.ytree.specs.View.{tree_view}
-use Rattle.ypath.proofs.AnswerLemmas.{answers_same}
+use Rattle.yinst_tree.specs.View.{tree_view}
+use Rattle.yinst_path.proofs.AnswerLemmas.{answers_same}
 use Rattle.yinst.proofs.applying.tree_within_limit.Goals as goal
 
 pub returns : goal.returns

@@ -1,7 +1,7 @@
 use Rattle.serde_json.specs.View as json
-use Rattle.ymodel.specs.View as schema_view
-use Rattle.ytree.specs.View.{view}
-use Rattle.ytree.specs.Told.{code_number}
+use Rattle.yschema_model.specs.View as schema_view
+use Rattle.yinst_tree.specs.View.{view}
+use Rattle.yinst_tree.specs.Told.{code_number}
 use Rattle.yinst.proofs.EditLemmas.{branch_denoted, branch_refused}
 use Rattle.yinst.proofs.branch.branch_at.Goals as goal
 

@@ -1,8 +1,8 @@
 use Rattle.serde_json.specs.View as json
-use Rattle.ymodel.specs.View as schema_view
+use Rattle.yschema_model.specs.View as schema_view
 use Rattle.yinst.specs.Rows.{branch_view}
 use Rattle.yspec.proofs.DocumentProofs.JsonLemmas.{json_found}
-use Rattle.ypath.proofs.AnswerLemmas.{answers_same}
+use Rattle.yinst_path.proofs.AnswerLemmas.{answers_same}
 use Rattle.yinst.proofs.EditLemmas.{branch_of_value}
 use Rattle.yinst.proofs.branch.part.Goals as goal
 

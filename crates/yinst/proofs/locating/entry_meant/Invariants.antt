@@ -1,12 +1,12 @@
 use Rattle.std.proofs.Common.{◌≡◌, ◌+◌, ◌≤◌, ◌++◌, drop}
 use Rattle.yspec.specs.schema.Schema.{keys_in}
 use Rattle.yspec.specs.edit.Editing.{the_one, positions_where, fits_keys}
-use Rattle.ymodel.specs.Layout.{numbers_of}
-use Rattle.ymodel.specs.View.{view}
-use Rattle.ytree.specs.View.{row_view}
-use Rattle.ypath.specs.Applying.{edit_number}
-use Rattle.ypath.specs.Binding.{node_of}
-use Rattle.ypath.specs.EditView.{keys_view}
+use Rattle.yschema_model.specs.Layout.{numbers_of}
+use Rattle.yschema_model.specs.View.{view}
+use Rattle.yinst_tree.specs.View.{row_view}
+use Rattle.yinst_path.specs.Applying.{edit_number}
+use Rattle.yinst_path.specs.Binding.{node_of}
+use Rattle.yinst_path.specs.EditView.{keys_view}
 use Rattle.yinst.specs.Locating.{found_list}
 use Rattle.yinst.proofs.locating.entry_meant.Given as goal
 

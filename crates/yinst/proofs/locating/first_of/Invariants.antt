@@ -1,6 +1,6 @@
 use Rattle.std.proofs.Common.{◌≡◌, drop}
 use Rattle.yspec.specs.document.Document.{stored_in}
-use Rattle.ytree.specs.View.{row_view}
+use Rattle.yinst_tree.specs.View.{row_view}
 use Rattle.yinst.proofs.locating.first_of.Given as goal
 
 abbrev pub invariant-loop-stored : goal.invariant-loop-stored

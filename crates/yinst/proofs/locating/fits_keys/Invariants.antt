@@ -1,9 +1,9 @@
 use Rattle.std.proofs.Common.{◌≡◌, drop}
 use Rattle.yspec.specs.edit.Editing.{fits_keys}
-use Rattle.ymodel.specs.Layout.{numbers_of}
-use Rattle.ymodel.specs.View.{view}
-use Rattle.ytree.specs.View.{row_view}
-use Rattle.ypath.specs.EditView.{keys_view}
+use Rattle.yschema_model.specs.Layout.{numbers_of}
+use Rattle.yschema_model.specs.View.{view}
+use Rattle.yinst_tree.specs.View.{row_view}
+use Rattle.yinst_path.specs.EditView.{keys_view}
 use Rattle.yinst.proofs.locating.fits_keys.Given as goal
 
 abbrev pub invariant-loop-id : goal.invariant-loop-id

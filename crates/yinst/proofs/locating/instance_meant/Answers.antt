@@ -1,11 +1,11 @@
 use Rattle.yspec.specs.edit.Editing as spec
-use Rattle.ymodel.specs.View as schema_view
-use Rattle.ytree.specs.View.{row_view}
-use Rattle.ypath.specs.Applying.{edit_number}
-use Rattle.ypath.specs.Binding.{node_of}
-use Rattle.ypath.specs.EditView.{predicate_view}
+use Rattle.yschema_model.specs.View as schema_view
+use Rattle.yinst_tree.specs.View.{row_view}
+use Rattle.yinst_path.specs.Applying.{edit_number}
+use Rattle.yinst_path.specs.Binding.{node_of}
+use Rattle.yinst_path.specs.EditView.{predicate_view}
 use Rattle.yinst.specs.Locating.{spot_view, meant_in}
-use Rattle.ypath.proofs.AnswerLemmas.{answers_same}
+use Rattle.yinst_path.proofs.AnswerLemmas.{answers_same}
 use Rattle.yinst.proofs.LocatingLemmas.{meant_at}
 use Rattle.yinst.proofs.locating.instance_meant.Goals as goal
 

@@ -1,7 +1,7 @@
 use Rattle.std.proofs.Common.{◌≡◌, drop}
 use Rattle.yspec.specs.edit.Editing.{key_text}
-use Rattle.ymodel.specs.View.{view}
-use Rattle.ypath.specs.EditView.{keys_view}
+use Rattle.yschema_model.specs.View.{view}
+use Rattle.yinst_path.specs.EditView.{keys_view}
 use Rattle.yinst.proofs.locating.key_text.Given as goal
 
 abbrev pub invariant-loop-key : goal.invariant-loop-key

@@ -1,10 +1,10 @@
 use Rattle.std.proofs.Common.{sym, ap, ◌∙◌}
 use Rattle.yspec.specs.edit.Editing.{target}
-use Rattle.ymodel.specs.View as schema_view
-use Rattle.ytree.specs.View.{row_view}
-use Rattle.ypath.specs.Binding.{steps_view}
+use Rattle.yschema_model.specs.View as schema_view
+use Rattle.yinst_tree.specs.View.{row_view}
+use Rattle.yinst_path.specs.Binding.{steps_view}
 use Rattle.yinst.specs.Locating.{spots_view, located_view, target_on}
-use Rattle.ypath.proofs.AnswerLemmas.{answers_same}
+use Rattle.yinst_path.proofs.AnswerLemmas.{answers_same}
 use Rattle.yinst.proofs.LocatingLemmas.{target_at}
 use Rattle.yinst.proofs.locating.locate.Goals as goal
 

@@ -1,6 +1,6 @@
 use Rattle.std.proofs.Common.{◌≡◌, drop}
 use Rattle.yspec.specs.edit.Editing.{row_at}
-use Rattle.ytree.specs.View.{row_view}
+use Rattle.yinst_tree.specs.View.{row_view}
 use Rattle.yinst.proofs.locating.row_at.Given as goal
 
 abbrev pub invariant-loop-stored : goal.invariant-loop-stored

@@ -1,5 +1,5 @@
 use Rattle.yspec.specs.edit.Edit.{instance_index}
-use Rattle.ytree.specs.View.{row_view}
+use Rattle.yinst_tree.specs.View.{row_view}
 use Rattle.yinst.specs.Locating.{spot_view}
 use Rattle.yinst.proofs.RowChangeLemmas.{same_if_ok, below_changed, nothing_changed}
 use Rattle.yinst.proofs.rows.+changed_row.Goals as goal

@@ -1,7 +1,7 @@
 use Rattle.std.proofs.Common.{◌≡◌, drop}
 use Rattle.yspec.specs.edit.Edit.{instance_index}
 use Rattle.yspec.specs.edit.Editing.{instance_branch}
-use Rattle.ytree.specs.View.{row_view}
+use Rattle.yinst_tree.specs.View.{row_view}
 use Rattle.yinst.specs.Locating.{spot_view}
 use Rattle.yinst.proofs.rows.instance_at.Given as goal
 

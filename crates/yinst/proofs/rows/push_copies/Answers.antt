@@ -1,7 +1,7 @@
 use Rattle.std.proofs.Common.{◌+◌, drop, slice_index_or, ap, sym, ◌∙◌}
 use Rattle.std.proofs.lemmas.List.{at_drop_more, at_drop_all}
 use Rattle.yspec.specs.Forest.{join}
-use Rattle.ytree.specs.View.{view, row_view}
+use Rattle.yinst_tree.specs.View.{view, row_view}
 use Rattle.yspec.proofs.ForestLemmas.{join_end}
 use Rattle.yinst.proofs.RowChangeLemmas.{one_more}
 use Rattle.yinst.proofs.rows.push_copies.Goals as goal

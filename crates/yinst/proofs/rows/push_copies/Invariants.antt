@@ -1,6 +1,6 @@
 use Rattle.std.proofs.Common.{◌≡◌, drop}
 use Rattle.yspec.specs.Forest.{join}
-use Rattle.ytree.specs.View.{row_view}
+use Rattle.yinst_tree.specs.View.{row_view}
 use Rattle.yinst.proofs.rows.push_copies.Given as goal
 
 abbrev pub invariant-loop-stored : goal.invariant-loop-stored

@@ -1,6 +1,6 @@
 use Rattle.std.proofs.Common.{ap, take, drop, length, unwrap_or, ◌∙◌}
 use Rattle.yinst.specs.Rows.{is_behind}
-use Rattle.ytree.proofs.InstanceLemmas.{place_or_len, before_place, from_place}
+use Rattle.yinst_tree.proofs.InstanceLemmas.{place_or_len, before_place, from_place}
 use Rattle.yinst.proofs.rows.split_behind.Goals as goal
 
 pub returns-clause-before : goal.returns-clause-before

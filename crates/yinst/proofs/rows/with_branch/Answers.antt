@@ -1,4 +1,4 @@
-use Rattle.ytree.specs.View.{row_view}
+use Rattle.yinst_tree.specs.View.{row_view}
 use Rattle.yinst.proofs.RowChangeLemmas.{same_if_ok, branch_put}
 use Rattle.yinst.proofs.rows.with_branch.Goals as goal
 

@@ -1,6 +1,6 @@
 use Rattle.std.proofs.Common.{ap, ap₂, ◌∙◌}
 use Rattle.std.specs.Prelude.{insert}
-use Rattle.ytree.specs.View.{row_view}
+use Rattle.yinst_tree.specs.View.{row_view}
 use Rattle.yinst.specs.Rows.{index_among}
 use Rattle.yinst.proofs.RowChangeLemmas.{put_among}
 use Rattle.yinst.proofs.rows.with_branch_behind.Goals as goal

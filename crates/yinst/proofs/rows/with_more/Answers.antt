@@ -1,7 +1,7 @@
 use Rattle.std.proofs.Common.{refl, ap, ◌∙◌}
 use Rattle.yspec.specs.Forest.{join}
-use Rattle.ytree.specs.View.{view, row_view}
-use Rattle.ytree.proofs.RowLemmas.{join_last}
+use Rattle.yinst_tree.specs.View.{view, row_view}
+use Rattle.yinst_tree.proofs.RowLemmas.{join_last}
 use Rattle.yinst.proofs.rows.with_more.Goals as goal
 
 pub returns : goal.returns

@@ -1,11 +1,11 @@
 use Rattle.std.proofs.Common.{◌≡◌, ap, ap₂, ◌∙◌, arith, ◌++◌}
 use Rattle.yspec.specs.Forest.{size}
 use Rattle.yspec.specs.linking.Keyword.{same_keyword, type_word}
-use Rattle.yword.specs.KeywordView.{keyword_view}
-use Rattle.ypreorder.specs.View.{row_by, label_by}
-use Rattle.ypreorder.proofs.RowLemmas.{takes_by, takes_none_by}
-use Rattle.ygrammar.specs.SourceView.{source_view}
-use Rattle.ynames.specs.MeaningView.{meaning_at}
+use Rattle.ybase_words.specs.KeywordView.{keyword_view}
+use Rattle.ybase_preorder.specs.View.{row_by, label_by}
+use Rattle.ybase_preorder.proofs.RowLemmas.{takes_by, takes_none_by}
+use Rattle.ylink_grammar.specs.SourceView.{source_view}
+use Rattle.ylink_names.specs.MeaningView.{meaning_at}
 use Rattle.ylink.specs.DerivedView.{type_bases}
 use Rattle.ylink.proofs.IdentityLemmas.{next_bases, all_bases}
 use Rattle.ylink.proofs.derived.+add_type_bases.Goals as goal

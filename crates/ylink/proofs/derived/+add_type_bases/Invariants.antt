@@ -1,8 +1,8 @@
 use Rattle.std.proofs.Common.{◌≡◌, ◌≤◌, ◌++◌}
 use Rattle.yspec.specs.Forest.{size}
-use Rattle.ypreorder.specs.View.{row_by, row_view}
-use Rattle.ygrammar.specs.SourceView.{source_view}
-use Rattle.ynames.specs.MeaningView.{meaning_at}
+use Rattle.ybase_preorder.specs.View.{row_by, row_view}
+use Rattle.ylink_grammar.specs.SourceView.{source_view}
+use Rattle.ylink_names.specs.MeaningView.{meaning_at}
 use Rattle.ylink.specs.DerivedView.{type_bases}
 use Rattle.ylink.proofs.derived.+add_type_bases.Given as goal
 

@@ -1,7 +1,7 @@
 use Rattle.std.proofs.Common.{◌≡◌, ◌++◌}
-use Rattle.ypreorder.specs.View.{row_by}
-use Rattle.ygrammar.specs.SourceView.{source_view}
-use Rattle.ynames.specs.MeaningView.{meaning_at}
+use Rattle.ybase_preorder.specs.View.{row_by}
+use Rattle.ylink_grammar.specs.SourceView.{source_view}
+use Rattle.ylink_names.specs.MeaningView.{meaning_at}
 use Rattle.ylink.specs.DerivedView.{bases_by}
 use Rattle.ylink.proofs.derived.bases_in.Given as goal
 

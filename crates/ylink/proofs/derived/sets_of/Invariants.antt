@@ -1,6 +1,6 @@
 use Rattle.std.proofs.Common.{map}
-use Rattle.ygraph.specs.Derivations.{AreStraight}
-use Rattle.ygraph.specs.Edges.{edge_view}
+use Rattle.ybase_graph.specs.Derivations.{AreStraight}
+use Rattle.ybase_graph.specs.Edges.{edge_view}
 use Rattle.ylink.specs.DerivedView.{Ascend, AreSets}
 use Rattle.ylink.proofs.derived.sets_of.Given as goal
 

@@ -1,9 +1,9 @@
 use Rattle.std.proofs.Common.{ap, ◌∙◌, arith, map, ◌++◌}
 use Rattle.std.specs.List.{flat_map}
 use Rattle.yspec.specs.Forest.{size, preorder}
-use Rattle.ypreorder.specs.View.{row_by, label_by}
-use Rattle.ypreorder.proofs.RowLemmas.{takes_by, takes_none_by}
-use Rattle.ygrammar.specs.SourceView.{source_view}
+use Rattle.ybase_preorder.specs.View.{row_by, label_by}
+use Rattle.ybase_preorder.proofs.RowLemmas.{takes_by, takes_none_by}
+use Rattle.ylink_grammar.specs.SourceView.{source_view}
 use Rattle.ylink.specs.IdentityView.{identity_view, listed}
 use Rattle.ylink.proofs.IdentityLemmas.{next_listed, all_listed}
 use Rattle.ylink.proofs.identities.+add_identities.Goals as goal

@@ -1,8 +1,8 @@
 use Rattle.std.proofs.Common.{◌≡◌, ◌≤◌, ◌++◌, map}
 use Rattle.std.specs.List.{flat_map}
 use Rattle.yspec.specs.Forest.{size, preorder}
-use Rattle.ypreorder.specs.View.{row_by, row_view}
-use Rattle.ygrammar.specs.SourceView.{source_view}
+use Rattle.ybase_preorder.specs.View.{row_by, row_view}
+use Rattle.ylink_grammar.specs.SourceView.{source_view}
 use Rattle.ylink.specs.IdentityView.{identity_view, listed}
 use Rattle.ylink.proofs.identities.+add_identities.Given as goal
 

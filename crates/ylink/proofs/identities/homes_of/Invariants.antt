@@ -1,9 +1,9 @@
 use Rattle.std.proofs.Common.{◌≡◌, ◌++◌, map}
 use Rattle.yspec.specs.Forest.{row}
 use Rattle.yspec.specs.linking.Source.{argument_in}
-use Rattle.ypreorder.specs.View.{row_by}
-use Rattle.ygrammar.specs.LinkView.{view}
-use Rattle.ygrammar.specs.SourceView.{source_view}
+use Rattle.ybase_preorder.specs.View.{row_by}
+use Rattle.ylink_grammar.specs.LinkView.{view}
+use Rattle.ylink_grammar.specs.SourceView.{source_view}
 use Rattle.ylink.specs.IdentityView.{home_view}
 use Rattle.ylink.proofs.identities.homes_of.Given as goal
 

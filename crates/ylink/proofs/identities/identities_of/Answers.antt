@@ -1,8 +1,8 @@
 use Rattle.std.proofs.Common.{map, ap, ◌∙◌, ◌++◌}
 use Rattle.std.specs.List.{flat_map}
 use Rattle.yspec.specs.Forest.{preorder}
-use Rattle.ypreorder.specs.View.{row_by, slots_in}
-use Rattle.ygrammar.specs.SourceView.{source_view}
+use Rattle.ybase_preorder.specs.View.{row_by, slots_in}
+use Rattle.ylink_grammar.specs.SourceView.{source_view}
 use Rattle.ylink.specs.IdentityView.{identity_view, listed}
 use Rattle.ylink.proofs.IdentityLemmas.{numbers_ascend}
 use Rattle.ylink.proofs.identities.identities_of.Goals as goal

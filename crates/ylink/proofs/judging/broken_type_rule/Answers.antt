@@ -1,11 +1,11 @@
 use Rattle.std.proofs.Common.{◌∙◌, ap, arith, List, None}
 use Rattle.yspec.specs.schema.Breaks.{Break, least_from}
 use Rattle.yspec.specs.linking.Source.{Source}
-use Rattle.ypreorder.specs.Layout.{forest_of}
-use Rattle.ypreorder.specs.View.{slots_in}
-use Rattle.ygrammar.specs.BreakView.{seen}
-use Rattle.ygrammar.specs.SourceView.{source_view}
-use Rattle.ynames.proofs.ToldLemmas.{next_told, all_told}
+use Rattle.ybase_preorder.specs.Layout.{forest_of}
+use Rattle.ybase_preorder.specs.View.{slots_in}
+use Rattle.ylink_grammar.specs.BreakView.{seen}
+use Rattle.ylink_grammar.specs.SourceView.{source_view}
+use Rattle.ylink_names.proofs.ToldLemmas.{next_told, all_told}
 use Rattle.ylink.specs.VerdictView.{table_view, verdict_held, told_by}
 use Rattle.ylink.proofs.VerdictLemmas.{all_judged}
 use Rattle.ylink.proofs.judging.broken_type_rule.Goals as goal

@@ -1,8 +1,8 @@
 use Rattle.std.proofs.Common.{◌≡◌, drop, None}
 use Rattle.yspec.specs.schema.Breaks.{least_from}
-use Rattle.ypreorder.specs.View.{slots_in}
-use Rattle.ygrammar.specs.BreakView.{seen}
-use Rattle.ygrammar.proofs.BreakLemmas.{broken_from}
+use Rattle.ybase_preorder.specs.View.{slots_in}
+use Rattle.ylink_grammar.specs.BreakView.{seen}
+use Rattle.ylink_grammar.proofs.BreakLemmas.{broken_from}
 use Rattle.ylink.specs.VerdictView.{table_view, verdict_held, told_by}
 use Rattle.ylink.proofs.judging.broken_type_rule.Given as goal
 

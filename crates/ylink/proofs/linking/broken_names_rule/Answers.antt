@@ -5,7 +5,7 @@ use Rattle.yspec.specs.linking.Imports.{repeated_prefixes}
 use Rattle.yspec.specs.linking.Prefixes.{prefix_breaks}
 use Rattle.yspec.specs.linking.Scopes.{taken_breaks}
 use Rattle.ytext.specs.View.{modules_view}
-use Rattle.ygrammar.specs.LinkView as statements
+use Rattle.ylink_grammar.specs.LinkView as statements
 use Rattle.ylink.specs.Told.{seen}
 use Rattle.ylink.proofs.LinkingLemmas.{three_told}
 use Rattle.ylink.proofs.linking.broken_names_rule.Goals as goal

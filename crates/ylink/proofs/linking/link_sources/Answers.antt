@@ -2,7 +2,7 @@ use Rattle.std.proofs.Common.{sym, ap, subst, ◌∙◌}
 use Rattle.ytext.specs.View.{modules_view}
 use Rattle.yspec.specs.Results.{Fails}
 use Rattle.yspec.specs.linking.Compiling.{linked}
-use Rattle.ygrammar.specs.LinkView as statements
+use Rattle.ylink_grammar.specs.LinkView as statements
 use Rattle.ylink.specs.Told.{seen, told_by, break_view}
 use Rattle.ylink.proofs.LinkingLemmas.{in_names, in_meanings, no_circles}
 use Rattle.ylink.proofs.linking.link_sources.Goals as goal

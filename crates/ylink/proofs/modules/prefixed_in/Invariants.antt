@@ -1,7 +1,7 @@
 use Rattle.std.proofs.Common.{◌≡◌, ◌++◌, map}
 use Rattle.yspec.specs.linking.Identities.{prefixed_in}
-use Rattle.ypreorder.specs.View.{row_by}
-use Rattle.ygrammar.specs.SourceView.{source_view}
+use Rattle.ybase_preorder.specs.View.{row_by}
+use Rattle.ylink_grammar.specs.SourceView.{source_view}
 use Rattle.ytype.specs.Identities.{pair_view}
 use Rattle.ylink.proofs.modules.prefixed_in.Given as goal
 

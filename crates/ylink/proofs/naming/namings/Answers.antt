@@ -1,10 +1,10 @@
 use Rattle.std.proofs.Common.{◌≡◌, ap, sym, ◌∙◌, rules, true, false}
 use Rattle.yspec.specs.linking.Keyword.{same_keyword}
 use Rattle.yspec.specs.linking.Source.{argument_in}
-use Rattle.ypreorder.specs.View.{row_by, label_by}
-use Rattle.ypreorder.proofs.RowLemmas.{takes_by, takes_none_by}
-use Rattle.yword.specs.KeywordView.{keyword_view}
-use Rattle.ygrammar.specs.SourceView.{source_view}
+use Rattle.ybase_preorder.specs.View.{row_by, label_by}
+use Rattle.ybase_preorder.proofs.RowLemmas.{takes_by, takes_none_by}
+use Rattle.ybase_words.specs.KeywordView.{keyword_view}
+use Rattle.ylink_grammar.specs.SourceView.{source_view}
 use Rattle.ylink.specs.KindView.{naming_word, number_by}
 use Rattle.ylink.proofs.TypeLemmas.{next_naming, no_naming, all_namings}
 use Rattle.ylink.proofs.naming.namings.Goals as goal

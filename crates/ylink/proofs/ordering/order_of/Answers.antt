@@ -4,12 +4,12 @@ use Rattle.std.specs.List.Sorted.{IsPermutation}
 use Rattle.yspec.specs.Forest.{size}
 use Rattle.yspec.specs.linking.Circles.{definition_edges}
 use Rattle.yspec.specs.linking.Graph.{is_on_circle}
-use Rattle.ygraph.specs.Edges.{edge_view, AreWithin}
-use Rattle.ygraph.specs.Reaching.{HasEdge, StandsBefore}
-use Rattle.ypreorder.specs.View.{forest_in, slots_in}
-use Rattle.ypreorder.proofs.RowLemmas.{size_forest}
-use Rattle.ygrammar.specs.LinkView.{view}
-use Rattle.ynames.specs.Ordered.{AreInOrder}
+use Rattle.ybase_graph.specs.Edges.{edge_view, AreWithin}
+use Rattle.ybase_graph.specs.Reaching.{HasEdge, StandsBefore}
+use Rattle.ybase_preorder.specs.View.{forest_in, slots_in}
+use Rattle.ybase_preorder.proofs.RowLemmas.{size_forest}
+use Rattle.ylink_grammar.specs.LinkView.{view}
+use Rattle.ylink_names.specs.Ordered.{AreInOrder}
 use Rattle.ylink.proofs.OrderLemmas.{all_in_order, none_in_order, both_ok, straight}
 use Rattle.ylink.proofs.WithinLemmas.{edges_within}
 use Rattle.ylink.proofs.ordering.order_of.Goals as goal

@@ -3,7 +3,7 @@ use Rattle.std.specs.List.{list_any}
 use Rattle.yspec.specs.text.Text.{is_text}
 use Rattle.yspec.specs.schema.Schema.{argument_text}
 use Rattle.ytext.specs.View.{view}
-use Rattle.ygrammar.specs.BreakView.{seen}
+use Rattle.ylink_grammar.specs.BreakView.{seen}
 use Rattle.ylink.proofs.RepeatedLemmas.{HaveSame, judged_module_name, insert_key-has, contains-texts}
 use Rattle.ylink.proofs.repeated.repeated_module.Goals as goal
 

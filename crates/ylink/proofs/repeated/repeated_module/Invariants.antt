@@ -1,7 +1,7 @@
 use Rattle.std.proofs.Common.{◌≡◌, [], drop, map}
 use Rattle.yspec.specs.schema.Breaks.{least_from, module_breaks}
 use Rattle.ytext.specs.View.{modules_view}
-use Rattle.ygrammar.specs.BreakView.{seen}
+use Rattle.ylink_grammar.specs.BreakView.{seen}
 use Rattle.ylink.proofs.repeated.repeated_module.Given as goal
 
 abbrev pub invariant-loop-module : goal.invariant-loop-module

@@ -3,10 +3,10 @@ use Rattle.std.specs.Prelude.{option_map}
 use Rattle.std.proofs.lemmas.List.{map_push}
 use Rattle.yspec.specs.Forest.{size}
 use Rattle.yspec.specs.linking.Scopes.{placed}
-use Rattle.ypreorder.specs.View.{row_by, label_by}
-use Rattle.ypreorder.proofs.RowLemmas.{takes_by, takes_none_by}
-use Rattle.ygrammar.specs.SourceView.{source_view}
-use Rattle.ynames.proofs.MeaningLemmas.{next_meant, all_meant}
+use Rattle.ybase_preorder.specs.View.{row_by, label_by}
+use Rattle.ybase_preorder.proofs.RowLemmas.{takes_by, takes_none_by}
+use Rattle.ylink_grammar.specs.SourceView.{source_view}
+use Rattle.ylink_names.proofs.MeaningLemmas.{next_meant, all_meant}
 use Rattle.ylink.specs.TypedefView.{row_at, rows_view}
 use Rattle.ylink.proofs.typedefs.+add_typedef_rows.Goals as goal
 

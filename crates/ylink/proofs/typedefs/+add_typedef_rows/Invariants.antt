@@ -2,8 +2,8 @@ use Rattle.std.proofs.Common.{◌≡◌, ◌≤◌, ◌++◌, List, map}
 use Rattle.yspec.specs.Forest.{Forest, size}
 use Rattle.yspec.specs.linking.Source.{Source}
 use Rattle.yspec.specs.linking.Scopes.{placed}
-use Rattle.ypreorder.specs.View.{row_by, row_view}
-use Rattle.ygrammar.specs.SourceView.{source_view}
+use Rattle.ybase_preorder.specs.View.{row_by, row_view}
+use Rattle.ylink_grammar.specs.SourceView.{source_view}
 use Rattle.ylink.specs.TypedefView.{row_at, rows_view}
 use Rattle.ylink.proofs.typedefs.+add_typedef_rows.Given as goal
 

@@ -3,11 +3,11 @@ use Rattle.std.proofs.lemmas.List.{map_push}
 use Rattle.yspec.specs.Forest.{size}
 use Rattle.yspec.specs.linking.Keyword.{same_keyword, type_word}
 use Rattle.yspec.specs.linking.TypeStatements.{verdict, verdicts}
-use Rattle.ypreorder.specs.View.{row_by, label_by}
-use Rattle.ypreorder.proofs.RowLemmas.{takes_by, takes_none_by}
-use Rattle.yword.specs.KeywordView.{keyword_view}
-use Rattle.ygrammar.specs.LinkView.{view}
-use Rattle.ygrammar.specs.SourceView.{source_view}
+use Rattle.ybase_preorder.specs.View.{row_by, label_by}
+use Rattle.ybase_preorder.proofs.RowLemmas.{takes_by, takes_none_by}
+use Rattle.ybase_words.specs.KeywordView.{keyword_view}
+use Rattle.ylink_grammar.specs.LinkView.{view}
+use Rattle.ylink_grammar.specs.SourceView.{source_view}
 use Rattle.ylink.specs.TypeView.{verdict_view}
 use Rattle.ylink.specs.TypedefView.{verdicts_in}
 use Rattle.ylink.proofs.TypeLemmas.{no_verdict, next_verdict, no_more_verdicts}

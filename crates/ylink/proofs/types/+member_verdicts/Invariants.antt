@@ -1,9 +1,9 @@
 use Rattle.std.proofs.Common.{◌≡◌, ◌++◌, ◌≤◌, map}
 use Rattle.yspec.specs.Forest.{size}
 use Rattle.yspec.specs.linking.TypeStatements.{verdicts}
-use Rattle.ypreorder.specs.View.{row_by, row_view}
-use Rattle.ygrammar.specs.LinkView.{view}
-use Rattle.ygrammar.specs.SourceView.{source_view}
+use Rattle.ybase_preorder.specs.View.{row_by, row_view}
+use Rattle.ylink_grammar.specs.LinkView.{view}
+use Rattle.ylink_grammar.specs.SourceView.{source_view}
 use Rattle.ylink.specs.TypeView.{verdict_view}
 use Rattle.ylink.specs.TypedefView.{verdicts_in}
 use Rattle.ylink.proofs.types.+member_verdicts.Given as goal

@@ -1,8 +1,8 @@
 use Rattle.std.proofs.Common.{◌≡◌}
 use Rattle.yspec.specs.linking.TypeStatements.{are_in_place}
-use Rattle.ypreorder.specs.View.{row_by}
-use Rattle.ygrammar.specs.SourceView.{source_view}
-use Rattle.yword.specs.BuiltInView.{built_in_view}
+use Rattle.ybase_preorder.specs.View.{row_by}
+use Rattle.ylink_grammar.specs.SourceView.{source_view}
+use Rattle.ybase_words.specs.BuiltInView.{built_in_view}
 use Rattle.ylink.proofs.types.are_in_place.Given as goal
 
 abbrev pub invariant-loop-statement : goal.invariant-loop-statement

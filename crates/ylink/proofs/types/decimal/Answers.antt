@@ -3,8 +3,8 @@ use Rattle.std.specs.Prelude.{option_and_then}
 use Rattle.std.proofs.lemmas.Result.{IfOk-weaker}
 use Rattle.yspec.specs.types.Types.{plain, decimal_base}
 use Rattle.yspec.specs.linking.TypeStatements.{limited_range}
-use Rattle.ypreorder.specs.View.{row_by}
-use Rattle.ygrammar.specs.SourceView.{source_view}
+use Rattle.ybase_preorder.specs.View.{row_by}
+use Rattle.ylink_grammar.specs.SourceView.{source_view}
 use Rattle.ylink.proofs.types.decimal.Goals as goal
 
 pub returns-in-Some : goal.returns-in-Some

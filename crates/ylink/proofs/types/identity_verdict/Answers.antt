@@ -2,9 +2,9 @@ use Rattle.std.proofs.Common.{◌≡◌, ℕ, List, sym, ap, ap₂, subst, ◌�
 use mathlib.Core.Path.{fun_ext}
 use Rattle.yspec.specs.linking.Identities.{bases_in}
 use Rattle.yspec.specs.linking.TypeStatements as spec
-use Rattle.ypreorder.specs.View.{row_by}
-use Rattle.ygrammar.specs.SourceView.{source_view}
-use Rattle.ynames.specs.MeaningView.{meaning_at}
+use Rattle.ybase_preorder.specs.View.{row_by}
+use Rattle.ylink_grammar.specs.SourceView.{source_view}
+use Rattle.ylink_names.specs.MeaningView.{meaning_at}
 use Rattle.ylink.specs.DerivedView.{bases_by}
 use Rattle.ylink.specs.IdentityView as identity
 use Rattle.ylink.proofs.types.identity_verdict.Goals as goal

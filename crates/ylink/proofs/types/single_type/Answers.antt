@@ -1,8 +1,8 @@
 use Rattle.std.proofs.Common.{◌≡◌, IfOk, subst, sym}
 use Rattle.yspec.specs.linking.TypeStatements.{single_type}
-use Rattle.ypreorder.specs.View.{row_by}
-use Rattle.ygrammar.specs.SourceView.{source_view}
-use Rattle.yword.specs.BuiltInView.{built_in_view}
+use Rattle.ybase_preorder.specs.View.{row_by}
+use Rattle.ylink_grammar.specs.SourceView.{source_view}
+use Rattle.ybase_words.specs.BuiltInView.{built_in_view}
 use Rattle.ylink.proofs.types.single_type.Goals as goal
 
 pub returns-in-Int8 : goal.returns-in-Int8

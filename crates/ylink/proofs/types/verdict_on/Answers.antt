@@ -1,9 +1,9 @@
 use Rattle.std.proofs.Common.{ap, ◌∙◌}
 use Rattle.std.proofs.lemmas.Result.{IfOk-weaker}
 use Rattle.yspec.specs.linking.TypeStatements as spec
-use Rattle.ypreorder.specs.View.{row_by, label_by}
-use Rattle.ygrammar.specs.LinkView.{view}
-use Rattle.ygrammar.specs.SourceView.{source_view}
+use Rattle.ybase_preorder.specs.View.{row_by, label_by}
+use Rattle.ylink_grammar.specs.LinkView.{view}
+use Rattle.ylink_grammar.specs.SourceView.{source_view}
 use Rattle.ylink.specs.TypedefView.{verdicts_in}
 use Rattle.ylink.proofs.types.verdict_on.Goals as goal
 

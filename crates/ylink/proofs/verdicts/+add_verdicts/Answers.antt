@@ -6,13 +6,13 @@ use Rattle.yspec.specs.linking.Keyword.{same_keyword, type_word}
 use Rattle.yspec.specs.linking.Scopes.{placed}
 use Rattle.yspec.specs.linking.Source.{Source}
 use Rattle.yspec.specs.linking.TypeStatements.{Verdict, verdict, verdicts, verdict_on}
-use Rattle.ypreorder.specs.View.{row_by, label_by}
-use Rattle.ypreorder.proofs.RowLemmas.{takes_by, takes_none_by}
-use Rattle.yword.specs.KeywordView.{keyword_view}
-use Rattle.ygrammar.specs.LinkView.{view}
-use Rattle.ygrammar.specs.SourceView.{source_view}
-use Rattle.ynames.specs.ScopeView.{placed_at}
-use Rattle.ynames.proofs.MeaningLemmas.{next_meant, all_meant}
+use Rattle.ybase_preorder.specs.View.{row_by, label_by}
+use Rattle.ybase_preorder.proofs.RowLemmas.{takes_by, takes_none_by}
+use Rattle.ybase_words.specs.KeywordView.{keyword_view}
+use Rattle.ylink_grammar.specs.LinkView.{view}
+use Rattle.ylink_grammar.specs.SourceView.{source_view}
+use Rattle.ylink_names.specs.ScopeView.{placed_at}
+use Rattle.ylink_names.proofs.MeaningLemmas.{next_meant, all_meant}
 use Rattle.ylink.specs.TypeView.{verdict_view}
 use Rattle.ylink.specs.TypedefView.{verdicts_in}
 use Rattle.ylink.specs.VerdictView.{judged, held_view, members_in, members_below, table_view}

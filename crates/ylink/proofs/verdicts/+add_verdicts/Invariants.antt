@@ -3,9 +3,9 @@ use Rattle.yspec.specs.Forest.{Forest, size}
 use Rattle.yspec.specs.linking.DerivedTypes.{is_member}
 use Rattle.yspec.specs.linking.Source.{Source}
 use Rattle.yspec.specs.linking.Scopes.{placed}
-use Rattle.ypreorder.specs.View.{row_by, row_view}
-use Rattle.ygrammar.specs.LinkView.{view}
-use Rattle.ygrammar.specs.SourceView.{source_view}
+use Rattle.ybase_preorder.specs.View.{row_by, row_view}
+use Rattle.ylink_grammar.specs.LinkView.{view}
+use Rattle.ylink_grammar.specs.SourceView.{source_view}
 use Rattle.ylink.specs.TypeView.{verdict_view}
 use Rattle.ylink.specs.TypedefView.{verdicts_in}
 use Rattle.ylink.specs.VerdictView.{judged, members_below, table_view}

@@ -1,5 +1,5 @@
-use Rattle.ymodel.specs.View as schema_view
-use Rattle.ypath.specs.EditView.{edit_view}
+use Rattle.yschema_model.specs.View as schema_view
+use Rattle.yinst_path.specs.EditView.{edit_view}
 use Rattle.ystore.specs.Views.{store_of}
 use Rattle.yspec.proofs.DocumentProofs.SortingLemmas.{in_order}
 use Rattle.ylive.specs.declared.outcome.Applied.{Applied}

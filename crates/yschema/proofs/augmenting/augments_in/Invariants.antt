@@ -2,10 +2,10 @@ use Rattle.std.proofs.Common.{◌≡◌, ◌++◌, map}
 use Rattle.std.specs.List.{filter_map}
 use Rattle.yspec.specs.linking.Augments as augments
 use Rattle.yspec.specs.linking.Compiling.{schema_augment}
-use Rattle.ypreorder.specs.View.{row_by}
-use Rattle.ygrammar.specs.SourceView.{source_view}
-use Rattle.yplan.specs.PlanView.{view}
-use Rattle.ymodel.specs.View.{augment_view}
+use Rattle.ybase_preorder.specs.View.{row_by}
+use Rattle.ylink_grammar.specs.SourceView.{source_view}
+use Rattle.yschema_plan.specs.PlanView.{view}
+use Rattle.yschema_model.specs.View.{augment_view}
 use Rattle.yschema.proofs.augmenting.augments_in.Given as goal
 
 abbrev pub invariant-loop-statement : goal.invariant-loop-statement

@@ -4,9 +4,9 @@ use Rattle.yspec.specs.linking.Arguments.{absolute_path_of}
 use Rattle.yspec.specs.linking.Augments.{target_steps}
 use Rattle.yspec.specs.linking.Prefixes.{node_name}
 use Rattle.yspec.specs.linking.Source.{argument_in}
-use Rattle.ygrammar.specs.NameView.{names_view}
-use Rattle.yexpand.specs.AugmentView as statements
-use Rattle.yplan.specs.PlanView as plans
+use Rattle.ylink_grammar.specs.NameView.{names_view}
+use Rattle.yschema_expand.specs.AugmentView as statements
+use Rattle.yschema_plan.specs.PlanView as plans
 use Rattle.yschema.specs.Added.{leads}
 use Rattle.yschema.proofs.AddedLemmas.{leads_to_last}
 use Rattle.yschema.proofs.augmenting.target_of.Goals as goal

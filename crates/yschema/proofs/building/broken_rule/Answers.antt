@@ -3,7 +3,7 @@ use Rattle.yspec.specs.schema.Breaks.{least_from, limit_breaks}
 use Rattle.yspec.specs.linking.Compiling as spec
 use Rattle.yspec.specs.linking.NodeBreaks.{node_breaks}
 use Rattle.ytext.specs.View.{modules_view}
-use Rattle.yplan.specs.PlanView as plans
+use Rattle.yschema_plan.specs.PlanView as plans
 use Rattle.ylink.specs.Told.{seen}
 use Rattle.ylink.proofs.PhaseLemmas.{told_later, told_last}
 use Rattle.yschema.proofs.building.broken_rule.Goals as goal

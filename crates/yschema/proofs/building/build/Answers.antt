@@ -1,9 +1,9 @@
 use Rattle.std.proofs.Common.{◌≡◌, IfOk, None, Ok, sym, subst, ap, ap₂, ◌∙◌}
 use Rattle.yspec.specs.linking.SchemaNodes.{schema_nodes}
-use Rattle.yplan.specs.PlanView as plans
-use Rattle.yindex.specs.Names.{AreNamesOf}
-use Rattle.ymodel.specs.View.{view}
-use Rattle.ymodel.proofs.LayoutLemmas.{forest_of-laid, laid_as}
+use Rattle.yschema_plan.specs.PlanView as plans
+use Rattle.ybase_index.specs.Names.{AreNamesOf}
+use Rattle.yschema_model.specs.View.{view}
+use Rattle.yschema_model.proofs.LayoutLemmas.{forest_of-laid, laid_as}
 use Rattle.yschema.proofs.building.build.Goals as goal
 
 pub of-requires-clause-laid_out : goal.of-requires-clause-laid_out

@@ -1,6 +1,6 @@
 use Rattle.ytext.specs.View.{modules_view}
 use Rattle.ylink.specs.Told.{told_by}
-use Rattle.ymodel.proofs.CallerLemmas.{names_differ, leafs_are_bare, not_deep}
+use Rattle.yschema_model.proofs.CallerLemmas.{names_differ, leafs_are_bare, not_deep}
 use Rattle.yschema.proofs.ToldLemmas.{refused_linking, if_ok_any}
 use Rattle.yschema.proofs.building.compile.Goals as goal
 

@@ -4,7 +4,7 @@ use Rattle.yspec.specs.schema.Breaks.{least_from, limit_breaks, node_limit}
 use Rattle.yspec.specs.linking.NodeCounts.{node_count}
 use Rattle.yspec.specs.linking.Compiling.{compiled}
 use Rattle.ytext.specs.View.{modules_view}
-use Rattle.yexpand.specs.NamedView.{modules_of}
+use Rattle.yschema_expand.specs.NamedView.{modules_of}
 use Rattle.ylink.specs.LinkedView as statements
 use Rattle.ylink.specs.Told.{seen, told_by, break_view}
 use Rattle.ylink.proofs.LinkingLemmas.{passed}

@@ -4,7 +4,7 @@ use Rattle.yspec.specs.schema.Breaks.{first_broken}
 use Rattle.yspec.specs.linking.Planned.{Plan}
 use Rattle.yspec.specs.linking.Compiling.{compiled, plan_of}
 use Rattle.ytext.specs.View.{modules_view}
-use Rattle.yplan.specs.PlanView as plans
+use Rattle.yschema_plan.specs.PlanView as plans
 use Rattle.ylink.specs.LinkedView as statements
 use Rattle.ylink.specs.Told.{seen, told_by, break_view}
 use Rattle.ylink.proofs.LinkingLemmas.{passed}

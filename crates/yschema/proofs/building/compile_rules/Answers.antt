@@ -2,7 +2,7 @@ use Rattle.std.proofs.Common.{Ok, sym, ap, subst, ◌∙◌}
 use Rattle.ytext.specs.View.{modules_view}
 use Rattle.yspec.specs.Results.{Fails}
 use Rattle.yspec.specs.linking.Compiling.{compiled}
-use Rattle.yplan.specs.PlanView as plans
+use Rattle.yschema_plan.specs.PlanView as plans
 use Rattle.ylink.specs.Told.{seen, told_by, break_view}
 use Rattle.yschema.proofs.ToldLemmas.{refused_in_rules, is_made}
 use Rattle.yschema.proofs.building.compile_rules.Goals as goal

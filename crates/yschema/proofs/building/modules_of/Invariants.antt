@@ -1,9 +1,9 @@
 use Rattle.std.proofs.Common.{◌≡◌, ◌++◌, map}
 use Rattle.yspec.specs.linking.Compiling.{schema_modules}
-use Rattle.ypreorder.specs.View.{row_by}
-use Rattle.yplan.specs.PlanView as plans
-use Rattle.ygrammar.specs.SourceView.{source_view}
-use Rattle.ymodel.specs.View.{module_view}
+use Rattle.ybase_preorder.specs.View.{row_by}
+use Rattle.yschema_plan.specs.PlanView as plans
+use Rattle.ylink_grammar.specs.SourceView.{source_view}
+use Rattle.yschema_model.specs.View.{module_view}
 use Rattle.yschema.proofs.building.modules_of.Given as goal
 
 abbrev pub invariant-loop-module : goal.invariant-loop-module

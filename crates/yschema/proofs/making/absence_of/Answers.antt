@@ -1,7 +1,7 @@
 use Rattle.std.proofs.Common.{false, ap, ap₂, sym, ◌∙◌}
 use Rattle.yspec.specs.linking.SchemaNodes.{is_mandatory, default_values, absent_by}
-use Rattle.yplan.specs.NodesView.{node_view}
-use Rattle.yplan.specs.PlanView.{view}
+use Rattle.yschema_plan.specs.NodesView.{node_view}
+use Rattle.yschema_plan.specs.PlanView.{view}
 use Rattle.yschema.proofs.MakingLemmas.{absent_as}
 use Rattle.yschema.proofs.making.absence_of.Goals as goal
 

@@ -1,10 +1,10 @@
 use Rattle.std.proofs.Common.{ap, ap₂, sym, ◌∙◌}
 use Rattle.yspec.specs.schema.Schema.{container, leaf, leaf_list, list, choice}
 use Rattle.yspec.specs.linking.SchemaNodes.{kind_by, leaf_type, default_values}
-use Rattle.yword.specs.KeywordView.{keyword_view}
-use Rattle.yplan.specs.NodesView.{node_view}
-use Rattle.yplan.specs.PlanView.{view}
-use Rattle.ymodel.specs.Layout.{amount_view}
+use Rattle.ybase_words.specs.KeywordView.{keyword_view}
+use Rattle.yschema_plan.specs.NodesView.{node_view}
+use Rattle.yschema_plan.specs.PlanView.{view}
+use Rattle.yschema_model.specs.Layout.{amount_view}
 use Rattle.yschema.proofs.MakingLemmas.{other_kind}
 use Rattle.yschema.proofs.making.kind_of.Goals as goal
 

@@ -3,9 +3,9 @@ use Rattle.std.specs.Prelude.{unwrap_or, option_map}
 use Rattle.yspec.specs.types.Types.{string_type}
 use Rattle.yspec.specs.linking.Planned.{type_of, target_of}
 use Rattle.yspec.specs.linking.SchemaNodes.{number_in}
-use Rattle.yplan.specs.NodesView.{node_view}
-use Rattle.yplan.specs.PlanView.{view}
-use Rattle.ymodel.specs.Layout.{type_name_view}
+use Rattle.yschema_plan.specs.NodesView.{node_view}
+use Rattle.yschema_plan.specs.PlanView.{view}
+use Rattle.yschema_model.specs.Layout.{type_name_view}
 use Rattle.yschema.proofs.MakingLemmas.{leaf_type_by}
 use Rattle.yschema.proofs.making.leaf_type_of.Goals as goal
 

@@ -1,7 +1,7 @@
 use Rattle.std.proofs.Common.{ap₂, ◌∙◌}
 use Rattle.yspec.specs.linking.Source.{argument_in}
-use Rattle.yplan.specs.NodesView.{node_view}
-use Rattle.ymodel.specs.Layout.{status_view, kind_view}
+use Rattle.yschema_plan.specs.NodesView.{node_view}
+use Rattle.yschema_model.specs.Layout.{status_view, kind_view}
 use Rattle.yschema.proofs.MakingLemmas.{node_by}
 use Rattle.yschema.proofs.making.node_of.Goals as goal
 

@@ -1,7 +1,7 @@
 use Rattle.std.proofs.Common.{arith}
 use Rattle.yspec.specs.linking.SchemaNodes.{schema_node}
-use Rattle.ypreorder.specs.View.{slots_in}
-use Rattle.yplan.specs.PlanView.{view}
+use Rattle.ybase_preorder.specs.View.{slots_in}
+use Rattle.yschema_plan.specs.PlanView.{view}
 use Rattle.yschema.proofs.MakingLemmas.{ahead, row_stands, row_more, count_more, all_made, all_named}
 use Rattle.yschema.proofs.making.slots_of.Goals as goal
 

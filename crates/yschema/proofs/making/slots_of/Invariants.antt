@@ -1,8 +1,8 @@
 use Rattle.std.proofs.Common.{◌≡◌, ◌++◌, drop, length}
 use Rattle.yspec.specs.linking.SchemaNodes.{schema_node}
-use Rattle.ypreorder.specs.View.{slots_in}
-use Rattle.yplan.specs.PlanView.{view}
-use Rattle.ymodel.specs.Layout.{laid}
+use Rattle.ybase_preorder.specs.View.{slots_in}
+use Rattle.yschema_plan.specs.PlanView.{view}
+use Rattle.yschema_model.specs.Layout.{laid}
 use Rattle.yschema.proofs.MakingLemmas.{ahead}
 use Rattle.yschema.proofs.making.slots_of.Given as goal
 

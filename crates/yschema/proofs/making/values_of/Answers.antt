@@ -1,8 +1,8 @@
 use Rattle.std.proofs.Common.{ap, ◌∙◌}
 use Rattle.std.proofs.lemmas.Result.{IfOk-weaker}
 use Rattle.yspec.specs.linking.SchemaNodes.{default_texts}
-use Rattle.yplan.specs.NodesView.{node_view}
-use Rattle.yplan.specs.PlanView.{view}
+use Rattle.yschema_plan.specs.NodesView.{node_view}
+use Rattle.yschema_plan.specs.PlanView.{view}
 use Rattle.yschema.proofs.MakingLemmas.{made_by, nothing_made}
 use Rattle.yschema.proofs.making.values_of.Goals as goal
 

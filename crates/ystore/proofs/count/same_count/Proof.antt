@@ -25,8 +25,8 @@ use denote.Triple.Entry.{alive}
 use denote.Triple.Spec.{Meets, triple_of}
 use denote.Triple.Table.{entered}
 use denote.Triple.Walked.{says, Stays, stay_dropped, walk_of, ends_at, walk_Meets, Goes-dropped}
-use Rattle.youtput.proofs.WalkLemmas.{none, none_made}
-use Rattle.youtput.specs.contracts.count.CallCount as CallCount
+use Rattle.ybase_output.proofs.WalkLemmas.{none, none_made}
+use Rattle.ybase_output.specs.contracts.count.CallCount as CallCount
 use Rattle.ystore.specs.contracts.count.same_count as F
 use Rattle.ystore.specs.contracts.count.same_count.Key.{name as #self}
 use Rattle.ystore.proofs.count.same_count.Statement as stated

@@ -1,8 +1,8 @@
 use Rattle.std.proofs.Common.{refl}
 use Rattle.yspec.specs.edit.Live.{fault_count}
-use Rattle.ymodel.specs.View as schema
-use Rattle.ylist.specs.Walked.{left}
-use Rattle.youtput.proofs.WritingLemmas.{left_all, left_after, left_failed, left_last, left_same}
+use Rattle.yschema_model.specs.View as schema
+use Rattle.ylive_list.specs.Walked.{left}
+use Rattle.ybase_output.proofs.WritingLemmas.{left_all, left_after, left_failed, left_last, left_same}
 use Rattle.yapp.specs.Edited.{live_of}
 use Rattle.yapp.proofs.ExplainedLemmas.{walked_lines}
 use Rattle.yapp.proofs.edited.EditedDocument.write_faults.Goals as goal

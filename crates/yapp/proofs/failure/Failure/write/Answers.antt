@@ -1,6 +1,6 @@
 use Rattle.std.proofs.Common.{Bool, ap}
-use Rattle.yprogram.specs.Output.{aside_where}
-use Rattle.youtput.proofs.WritingLemmas.{left_all, left_after, left_failed, left_last, left_same}
+use Rattle.yspec_run.specs.Output.{aside_where}
+use Rattle.ybase_output.proofs.WritingLemmas.{left_all, left_after, left_failed, left_last, left_same}
 use Rattle.yapp.specs.Failing.{besides_in, outcome_of}
 use Rattle.yapp.proofs.failure.Failure.write.Goals as goal
 

@@ -1,6 +1,6 @@
 use Rattle.std.proofs.Common.{codes, sym, ap, ◌∙◌, append_assoc}
-use Rattle.yprogram.specs.Part.{spelled}
-use Rattle.youtput.proofs.WritingLemmas.{writes_same}
+use Rattle.yspec_run.specs.Part.{spelled}
+use Rattle.ybase_output.proofs.WritingLemmas.{writes_same}
 use Rattle.yapp.specs.Failing.{outcome_of}
 use Rattle.yapp.proofs.RunningLemmas.{one_plain}
 use Rattle.yapp.proofs.failure.Failure.write_part.Goals as goal

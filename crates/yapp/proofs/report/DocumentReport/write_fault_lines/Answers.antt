@@ -1,9 +1,9 @@
 use Rattle.std.proofs.Common.{List, Option, None, Global, String, Vec, map, string_bytes, ap, ap₂, sym, ◌∙◌}
 use Rattle.std.specs.Prelude.{option_map}
-use Rattle.ymodel.specs.View as schema
+use Rattle.yschema_model.specs.View as schema
 use Rattle.ycheck.specs.View.{views}
 use Rattle.ycheck.specs.declared.fault.Fault.{Fault}
-use Rattle.youtput.proofs.WritingLemmas.{writes_same}
+use Rattle.ybase_output.proofs.WritingLemmas.{writes_same}
 use Rattle.yapp.specs.Explained.{explained_lines, fault_lines}
 use Rattle.yapp.proofs.report.DocumentReport.write_fault_lines.Goals as goal
 

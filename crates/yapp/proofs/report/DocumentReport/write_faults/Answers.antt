@@ -1,10 +1,10 @@
 use Rattle.std.proofs.Common.{ℕ, Bool, List, ◌++◌, decimal, length, ap, sym, ◌∙◌}
 use Rattle.std.specs.Prelude.{is_some}
-use Rattle.yprogram.specs.Part.{count_part, spelled_part}
+use Rattle.yspec_run.specs.Part.{count_part, spelled_part}
 use Rattle.yapp.specs.Explained.{explanations_in}
 use Rattle.std.proofs.lemmas.List.{length-map}
 use Rattle.ycheck.specs.View.{view}
-use Rattle.youtput.proofs.WritingLemmas.{left_all, left_after, left_failed, left_last, left_same}
+use Rattle.ybase_output.proofs.WritingLemmas.{left_all, left_after, left_failed, left_last, left_same}
 use Rattle.yapp.proofs.report.DocumentReport.write_faults.Goals as goal
 
 pub returns-in_err-write_fault_lines : goal.returns-in_err-write_fault_lines

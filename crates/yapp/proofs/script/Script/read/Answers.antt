@@ -1,6 +1,6 @@
 use Rattle.std.proofs.Common.{◌≡◌, ◌++◌, [], ◌∷◌, ap, subst, sym, ◌∙◌}
 use Rattle.std.proofs.lemmas.Result.{IfOk-weaker}
-use Rattle.yprogram.specs.Script.{without_returns}
+use Rattle.yspec_run.specs.Script.{without_returns}
 use Rattle.yapp.specs.Asked.{IsScript, edits_in, kinds_in}
 use Rattle.yapp.proofs.ScriptLemmas.{lines_with_last, parts_in}
 use Rattle.yapp.proofs.script.Script.read.Goals as goal

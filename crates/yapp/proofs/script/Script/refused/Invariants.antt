@@ -1,5 +1,5 @@
 use Rattle.std.proofs.Common.{◌≡◌, ◌++◌, ◌+◌, drop, map}
-use Rattle.ymodel.specs.View as schema
+use Rattle.yschema_model.specs.View as schema
 use Rattle.ylive.specs.View.{edits_view, outcomes_view}
 use Rattle.yapp.specs.Asked.{line_view, refused_parts, told_from}
 use Rattle.yapp.proofs.script.Script.refused.Given as goal

@@ -1,6 +1,6 @@
 use Rattle.std.proofs.Common.{sym, subst, ◌∙◌}
 use Rattle.yspec.specs.document.Play.{stored_cases, or_default}
-use Rattle.ymodel.specs.Layout.{number_of}
+use Rattle.yschema_model.specs.Layout.{number_of}
 use Rattle.ycheck.specs.Cases.{Chooses}
 use Rattle.ycheck.specs.declared.cases.Chosen.TheVariants as chosen
 use Rattle.ycheck.proofs.CaseLemmas.{none_chosen, default_chosen, stored_chosen}

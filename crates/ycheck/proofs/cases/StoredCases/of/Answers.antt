@@ -1,8 +1,8 @@
 use Rattle.std.proofs.Common.{nat_lt, refl, sym, ap, ◌∙◌, true, false}
 use Rattle.yspec.specs.document.Document.{instances_in}
 use Rattle.yspec.specs.document.Play.{stored_among}
-use Rattle.ymodel.specs.View.{row_view, label_of, below_of}
-use Rattle.ytree.specs.View as document_view
+use Rattle.yschema_model.specs.View.{row_view, label_of, below_of}
+use Rattle.yinst_tree.specs.View as document_view
 use Rattle.ycheck.proofs.CaseLemmas.{numbered_row, count_case}
 use Rattle.ycheck.proofs.cases.StoredCases.of.Goals as goal
 

@@ -2,8 +2,8 @@ use Rattle.std.proofs.Common.{◌≡◌}
 use Rattle.yspec.specs.document.Document.{instances_in}
 use Rattle.yspec.specs.document.Play.{stored_cases}
 use Rattle.yspec.specs.document.Sorting.{IsSorted}
-use Rattle.ymodel.specs.View.{row_view}
-use Rattle.ytree.specs.View as document_view
+use Rattle.yschema_model.specs.View.{row_view}
+use Rattle.yinst_tree.specs.View as document_view
 use Rattle.ycheck.specs.Cases.{how_many}
 use Rattle.ycheck.proofs.CaseLemmas.{with_more}
 use Rattle.ycheck.proofs.cases.StoredCases.of.Given as goal

@@ -3,8 +3,8 @@ use Rattle.std.specs.Prelude.{option_map}
 use Rattle.std.proofs.lemmas.Result.{IfOk-weaker}
 use Rattle.yspec.specs.linking.Circles.{definition_edges}
 use Rattle.yspec.specs.linking.Graph.{Edge}
-use Rattle.ygraph.specs.Derivations as graphs
-use Rattle.ygraph.specs.Edges.{edge_view}
+use Rattle.ybase_graph.specs.Derivations as graphs
+use Rattle.ybase_graph.specs.Edges.{edge_view}
 use Rattle.ylink.specs.DerivedView.{Ascend, derived_among, set_at}
 use Rattle.ylink.proofs.IdentityLemmas.{derived_so}
 use Rattle.ylink.proofs.identities.Identities.derived_from.Goals as goal

@@ -1,9 +1,9 @@
 use Rattle.std.proofs.Common.{◌≡◌, ℕ, List, map, sym, ap, ap₂, subst, ◌∙◌}
 use Rattle.yspec.specs.linking.Circles.{definition_edges}
 use Rattle.yspec.specs.linking.Graph.{Edge}
-use Rattle.ygraph.specs.Derivations.{AreStraight}
-use Rattle.ygraph.specs.Edges.{edge_view}
-use Rattle.ygrammar.specs.LinkView.{view}
+use Rattle.ybase_graph.specs.Derivations.{AreStraight}
+use Rattle.ybase_graph.specs.Edges.{edge_view}
+use Rattle.ylink_grammar.specs.LinkView.{view}
 use Rattle.ylink.specs.DerivedView.{Ascend, AreSets}
 use Rattle.ylink.specs.IdentityView.{assigned_by, home_view, number_of}
 use Rattle.ylink.proofs.IdentityLemmas.{names_listed, numbers_listed}

@@ -1,6 +1,6 @@
 use Rattle.std.proofs.Common.{sym, ◌∙◌}
-use Rattle.ypreorder.specs.View.{forest_in}
-use Rattle.ynames.proofs.PlacedLemmas.{number_named_at}
+use Rattle.ybase_preorder.specs.View.{forest_in}
+use Rattle.ylink_names.proofs.PlacedLemmas.{number_named_at}
 use Rattle.ylink.proofs.linked.Linked.meaning.Goals as goal
 
 pub returns-in-Some : goal.returns-in-Some

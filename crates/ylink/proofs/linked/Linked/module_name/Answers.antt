@@ -1,6 +1,6 @@
 use Rattle.std.proofs.Common.{Some, None, sym, ap, ◌∙◌}
 use Rattle.std.specs.Prelude.{option_map}
-use Rattle.ygrammar.specs.SourceView.{node_view}
+use Rattle.ylink_grammar.specs.SourceView.{node_view}
 use Rattle.ylink.specs.LinkedView.{view}
 use Rattle.ylink.proofs.ModuleNameLemmas.{module_called_so}
 use Rattle.ylink.proofs.linked.Linked.module_name.Goals as goal

@@ -2,8 +2,8 @@ use Rattle.std.proofs.Common.{Some, None, sym, ap, ap₂, ◌∙◌, map}
 use Rattle.std.specs.Prelude.{option_map}
 use Rattle.std.proofs.lemmas.Result.{IfOk-weaker}
 use Rattle.yspec.specs.linking.Identities.{prefixed_in}
-use Rattle.ypreorder.specs.View.{row_by}
-use Rattle.ygrammar.specs.SourceView.{node_view, source_view}
+use Rattle.ybase_preorder.specs.View.{row_by}
+use Rattle.ylink_grammar.specs.SourceView.{node_view, source_view}
 use Rattle.ytype.specs.Identities.{pair_view}
 use Rattle.ylink.specs.LinkedView.{view}
 use Rattle.ylink.proofs.ModuleNameLemmas.{prefixed_so}

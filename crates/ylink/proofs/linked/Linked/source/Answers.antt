@@ -1,13 +1,13 @@
 use Rattle.std.proofs.Common.{◌≡◌, Some, None, length, refl, sym, ap, ◌∙◌}
 use Rattle.std.specs.Prelude.{option_map, slice_get}
 use Rattle.std.proofs.lemmas.Option.{slice_get_read, slice_get_past}
-use Rattle.ypreorder.specs.View.{slots_in}
-use Rattle.ypreorder.specs.declared.slot.Slot.{Slot}
-use Rattle.ygrammar.specs.declared.source.Source as held
-use Rattle.ygrammar.specs.SourceView.{source_view}
+use Rattle.ybase_preorder.specs.View.{slots_in}
+use Rattle.ybase_preorder.specs.declared.slot.Slot.{Slot}
+use Rattle.ylink_grammar.specs.declared.source.Source as held
+use Rattle.ylink_grammar.specs.SourceView.{source_view}
 use Rattle.ytext.specs.View.{view}
-use Rattle.ynames.proofs.BelowLemmas.{source_at}
-use Rattle.ygrammar.proofs.WholeLemmas.{whole_row_at}
+use Rattle.ylink_names.proofs.BelowLemmas.{source_at}
+use Rattle.ylink_grammar.proofs.WholeLemmas.{whole_row_at}
 use Rattle.ylink.proofs.linked.Linked.source.Goals as goal
 
 pub returns-in-Some-clause-label : goal.returns-in-Some-clause-label

@@ -1,8 +1,8 @@
 use Rattle.std.proofs.Common.{ap, ◌∙◌}
-use Rattle.ypreorder.specs.View.{row_by, slots_in}
-use Rattle.ygrammar.specs.SourceView.{source_view}
+use Rattle.ybase_preorder.specs.View.{row_by, slots_in}
+use Rattle.ylink_grammar.specs.SourceView.{source_view}
 use Rattle.ylink.specs.StatementsView.{numbers_of}
-use Rattle.ynames.proofs.BelowLemmas.{below_found}
+use Rattle.ylink_names.proofs.BelowLemmas.{below_found}
 use Rattle.ylink.proofs.linked.Linked.substatements.Goals as goal
 
 pub returns : goal.returns

@@ -3,11 +3,11 @@ use Rattle.std.specs.Prelude.{◌==◌, option_map, option_and_then, slice_get, 
 use Rattle.std.specs.Option.{option_map_or}
 use mathlib.Core.Path.{fun_ext}
 use Rattle.yspec.specs.linking.DerivedTypes.{unknown, named, known_in_row, typedef_row}
-use Rattle.ypreorder.specs.View.{forest_in, row_by}
-use Rattle.ygrammar.specs.LinkView.{view}
-use Rattle.ygrammar.specs.SourceView.{source_view}
-use Rattle.ynames.proofs.PlacedLemmas.{number_named_at}
-use Rattle.ynames.specs.MeaningView.{meaning_at}
+use Rattle.ybase_preorder.specs.View.{forest_in, row_by}
+use Rattle.ylink_grammar.specs.LinkView.{view}
+use Rattle.ylink_grammar.specs.SourceView.{source_view}
+use Rattle.ylink_names.proofs.PlacedLemmas.{number_named_at}
+use Rattle.ylink_names.specs.MeaningView.{meaning_at}
 use Rattle.ylink.specs.IdentityView as identity
 use Rattle.ylink.specs.TypedefView.{known_at, names_in}
 use Rattle.ylink.proofs.OrderLemmas.{learned_next, learned_all, rows_count}

@@ -1,8 +1,8 @@
 use Rattle.std.proofs.Common.{◌≡◌, length}
 use Rattle.yspec.specs.Forest.{size}
-use Rattle.ypreorder.specs.View.{forest_in}
-use Rattle.ynames.specs.MeaningView.{AreMeanings}
-use Rattle.ygrammar.specs.LinkView.{view}
+use Rattle.ybase_preorder.specs.View.{forest_in}
+use Rattle.ylink_names.specs.MeaningView.{AreMeanings}
+use Rattle.ylink_grammar.specs.LinkView.{view}
 use Rattle.ylink.specs.TypedefView.{known_at, RestsOn}
 use Rattle.ylink.proofs.OrderLemmas.{IsLearned}
 use Rattle.ylink.proofs.typedefs.Typedefs.learned.Given as goal

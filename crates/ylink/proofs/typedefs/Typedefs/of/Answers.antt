@@ -1,8 +1,8 @@
 use Rattle.std.proofs.Common.{◌≡◌, rules, length, sym, ap, ◌∙◌, arith}
 use Rattle.std.specs.Option.{option_map_or}
 use Rattle.yspec.specs.linking.DerivedTypes.{unknown}
-use Rattle.ypreorder.specs.View.{forest_in}
-use Rattle.ynames.proofs.PlacedLemmas.{number_named_at}
+use Rattle.ybase_preorder.specs.View.{forest_in}
+use Rattle.ylink_names.proofs.PlacedLemmas.{number_named_at}
 use Rattle.ylink.specs.TypedefView.{known_at}
 use Rattle.ylink.proofs.OrderLemmas.{learned_all}
 use Rattle.ylink.proofs.typedefs.Typedefs.of.Goals as goal

@@ -1,6 +1,6 @@
 use Rattle.std.proofs.Common.{◌∙◌}
-use Rattle.ymodel.specs.View as schema_view
-use Rattle.ypath.specs.EditView.{edit_view}
+use Rattle.yschema_model.specs.View as schema_view
+use Rattle.yinst_path.specs.EditView.{edit_view}
 use Rattle.ystore.specs.Views.{store_of}
 use Rattle.ystore.proofs.CallerLemmas.{lent_once, reads_rise}
 use Rattle.ylive.proofs.LiveLemmas.{accepts, few_accepted, few_refused, holds_lent, live_accepted, live_memory, live_refused, never_fewer, refuses, tried, wants_memory}

@@ -1,7 +1,7 @@
 use Rattle.std.proofs.Common.{false}
 use Rattle.yspec.proofs.DocumentProofs.SortingLemmas.{in_order}
-use Rattle.ymodel.specs.View as schema_view
-use Rattle.ytree.specs.View.{tree_view}
+use Rattle.yschema_model.specs.View as schema_view
+use Rattle.yinst_tree.specs.View.{tree_view}
 use Rattle.ylive.proofs.LiveLemmas.{live_told, opened_is}
 use Rattle.ylive.proofs.live.Live.open.Goals as goal
 

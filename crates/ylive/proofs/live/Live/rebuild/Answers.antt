@@ -1,5 +1,5 @@
 use Rattle.yspec.proofs.DocumentProofs.SortingLemmas.{in_order}
-use Rattle.ytree.specs.View.{tree_view}
+use Rattle.yinst_tree.specs.View.{tree_view}
 use Rattle.ylive.specs.View.{view}
 use Rattle.ylive.proofs.LiveLemmas.{anew_is, live_anew}
 use Rattle.ylive.proofs.live.Live.rebuild.Goals as goal

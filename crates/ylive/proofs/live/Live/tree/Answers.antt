@@ -1,4 +1,4 @@
-use Rattle.ytree.specs.View.{tree_view}
+use Rattle.yinst_tree.specs.View.{tree_view}
 use Rattle.ystore.specs.Viewed.{viewed}
 use Rattle.ylive.proofs.LiveLemmas.{copy_fits, copy_is}
 use Rattle.ylive.proofs.live.Live.tree.Goals as goal

@@ -1,5 +1,5 @@
 use Rattle.ystore.specs.Viewed.{viewed}
-use Rattle.ylist.specs.Walked.{left}
+use Rattle.ylive_list.specs.Walked.{left}
 use Rattle.ylive.proofs.LiveLemmas.{walks_all}
 use Rattle.ylive.proofs.live.Live.walk.Goals as goal
 

@@ -2,7 +2,7 @@ use Rattle.std.proofs.Common.{rules, cond, Some, [], sym, ap, ◌∙◌}
 use Rattle.std.specs.Map.{lookup}
 use Rattle.std.specs.Ordering.{is_eq, nat_cmp}
 use Rattle.std.specs.Option.{option_map_or}
-use Rattle.ymodel.specs.Layout.{numbers_of}
+use Rattle.yschema_model.specs.Layout.{numbers_of}
 use Rattle.yschema.proofs.AddedLemmas.{found_by, one_more}
 use Rattle.yschema.proofs.augmenting.Added.add.Goals as goal
 

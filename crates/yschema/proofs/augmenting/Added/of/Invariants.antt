@@ -1,7 +1,7 @@
 use Rattle.std.proofs.Common.{◌≡◌, ◌++◌, ℕ}
 use Rattle.yspec.specs.linking.Planned.{nodes_of}
-use Rattle.yplan.specs.NodesView.{left}
-use Rattle.yplan.specs.PlanView.{view}
+use Rattle.yschema_plan.specs.NodesView.{left}
+use Rattle.yschema_plan.specs.PlanView.{view}
 use Rattle.yschema.specs.Added.{held, added_among}
 use Rattle.yschema.proofs.augmenting.Added.of.Given as goal
 

@@ -1,7 +1,7 @@
 use Rattle.std.proofs.Common.{sym, subst, rules}
 use Rattle.yspec.specs.types.Types.{numbers_of}
 use Rattle.yspec.specs.types.Types as types
-use Rattle.ynumber.specs.Words.{IsNarrow}
+use Rattle.ytype_numbers.specs.Words.{IsNarrow}
 use Rattle.ytype.specs.View.{integer_of}
 use Rattle.ytype.proofs.base.Integer.numbers.Goals as goal
 

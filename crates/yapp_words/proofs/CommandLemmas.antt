@@ -1,0 +1,157 @@
+-- What clap's answers come to.
+use Rattle.std.proofs.Common.{◌≡◌, ◌⊎◌, inl, inr, List, [], ◌∷◌, ℕ, Bool, Option, Some, None, Bor, map, false, true, refl, sym, subst, ap, ap₂, ◌∙◌}
+use Rattle.std.specs.Prelude.{Result, Ok, Err, IsErrAnd, option_map, unwrap_or, ◌||◌, if◌then◌else◌}
+use Rattle.yspec_run.specs.Output as spec
+use Rattle.yspec_run.specs.Output.{compile, edit, validate}
+use Rattle.clap.specs.Kinds.{or_else}
+use Rattle.clap.specs.Words.{AddsArg, AddsSubcommand, App, Kinds, IsAmong, Row, Rule, Text, app_of, fault_of, first_of, first_value, rows_of, is_simple, is_simple_and_free, new_app, subcommand_of, with_rule, with_subcommand}
+use Rattle.clap.specs.Simple.{app_of_fields}
+use Rattle.clap.specs.declared.builder.arg.Arg.{Arg}
+use Rattle.clap.specs.declared.builder.command.Command.{Command}
+use Rattle.clap.specs.declared.builder.command.Command.TheViews.{out-Command}
+use Rattle.clap.specs.declared.builder.command.Command.TheOpen.{Command-F}
+use Rattle.clap.specs.declared.error.kind.ErrorKind.{ErrorKind}
+use Rattle.clap.specs.declared.error.kind.ErrorKind.TheVariants.{OutOfMemory}
+use Rattle.clap.specs.declared.parser.matches.Found.{Found}
+use Rattle.clap.proofs.WalkLemmas.{first_value-rows}
+use Rattle.clap.proofs.OnLiterals.{clap_on_literals}
+use Rattle.yapp_words.specs.Application.{IsArgument, IsCommand, yanglive}
+use Rattle.yapp_words.specs.Command.{Declines, Explains, Takes, TakesFit, asked_by, asked_of, asks_help, drawing_by, explained_by, faults_of, is_help, misuse_fault, named_stream, reads_input_twice, refused_twice, refused_value, unknown_format, value_of, view}
+use Rattle.yapp_words.specs.Running.{refused, shown, with_text}
+use Rattle.yapp_words.specs.declared.command.CommandLine.{CommandLine}
+use Rattle.yapp_words.specs.declared.command.NoRequest.{NoRequest}
+use Rattle.yapp_words.specs.declared.command.NoRequest.TheVariants as none
+use Rattle.yapp_words.proofs.HelpLemmas.{Alike, said_by}
+
+-- ---- the commands as they are built
+
+-- a command without arguments, with its texts for help
+pub told_command : (name : Text) (fresh about told : Command) (what text : Bor Text) → app_of fresh ≡ new_app name → (out-Command fresh).has_globals ≡ false
+    → out-Command about ≡ record (out-Command fresh) { about = Some what } → out-Command told ≡ record (out-Command about) { after_help = Some text }
+    → IsCommand (new_app name) told
+told_command name fresh about told what text is none about_is told_is = (
+  ap app_of_fields told_is ∙ (ap app_of_fields about_is ∙ is),
+  ap (λ (c : Command-F Command). c.has_globals) told_is ∙ (ap (λ (c : Command-F Command). c.has_globals) about_is ∙ none),
+)
+
+pub with_argument : (app : App) (rule : Rule) (old new : Command) (a : Arg) → IsCommand app old → IsArgument rule a → AddsArg old a new
+    → IsCommand (with_rule app rule) new
+with_argument app rule old new a command argument added =
+    (added.shape argument.1 ∙ ap₂ with_rule command.0 argument.0, added.globals ∙ ap₂ (λ x y. x || y) command.1 argument.1)
+
+pub with_command : (app inner : App) (old sub new : Command) → IsCommand app old → IsCommand inner sub → AddsSubcommand old sub new
+    → IsCommand (with_subcommand app inner.top) new
+with_command app inner old sub new command subcommand added = (
+  added.shape subcommand.1 ∙ ap₂ with_subcommand command.0 (ap (λ (a : App). a.top) subcommand.0),
+  added.globals ∙ ap₂ (λ x y. x || y) command.1 subcommand.1,
+)
+
+-- ---- what clap takes
+
+-- clap says exactly which words the program takes
+pub is_free : is_simple_and_free yanglive ≡ true
+unfolding clap_on_literals
+is_free = refl
+
+pub is_plain : is_simple yanglive ≡ true
+unfolding clap_on_literals
+is_plain = refl
+
+pub now_or : {X : Type 0} → (o : Option (Bor X)) (d : Bor X) → (unwrap_or o d).now ≡ unwrap_or (option_map (λ b. b.now) o) d.now
+now_or None d = refl
+now_or (Some b) d = refl
+
+pub names_or : (o : Option (Bor (List (Bor Text)))) (d : Bor (List (Bor Text)))
+    → map (λ name. name.now) (unwrap_or o d).now ≡ unwrap_or (option_map (λ s. map (λ name. name.now) s.now) o) (map (λ name. name.now) d.now)
+names_or None d = refl
+names_or (Some b) d = refl
+
+-- the text of an argument, or an empty one
+pub given : (found : Found) (name : Text) (o : Option (Bor Text)) (d b : Bor Text) → option_map (λ s. s.now) o ≡ first_value found name
+    → b ≡ unwrap_or o d → d.now ≡ [] → b.now ≡ value_of name (rows_of found)
+given found name o d b is taken none = ap (λ (x : Bor Text). x.now) taken ∙ (now_or o d ∙ (ap (unwrap_or (option_map (λ s. s.now) o)) none
+    ∙ ap (λ (x : Option Text). unwrap_or x []) (is ∙ first_value-rows found name)))
+
+pub edit_same : (d e : spec.Options) (a b s t : Text) (ms ns : List Text) → d ≡ e → a ≡ b → s ≡ t → ms ≡ ns → edit d a s ms ≡ edit e b t ns
+edit_same d e a b s t ms ns options documents scripts modules =
+    ap₂ (λ f n. edit f n s ms) options documents ∙ ap₂ (edit e b) scripts modules
+
+pub validate_same : (d e : spec.Options) (a b : Text) (ms ns : List Text) → d ≡ e → a ≡ b → ms ≡ ns → validate d a ms ≡ validate e b ns
+validate_same d e a b ms ns options documents modules = ap₂ (λ f n. validate f n ms) options documents ∙ ap (validate e b) modules
+
+pub drawing_same : (a b : Bool) (n m : Text) (xs ys : List Text) → a ≡ b → n ≡ m → xs ≡ ys → drawing_by a n xs ≡ drawing_by b m ys
+drawing_same a b n m xs ys all names modules = ap₂ (λ c k. drawing_by c k xs) all names ∙ ap (drawing_by b m) modules
+
+-- the text of an option, if it is given
+pub given_first : (found : Found) (name : Text) (o : Option (Bor Text)) → option_map (λ s. s.now) o ≡ first_value found name
+    → option_map (λ s. s.now) o ≡ first_of name (rows_of found)
+given_first found name o is = is ∙ first_value-rows found name
+
+pub given_or : (found : Found) (name : Text) (o : Option (Bor Text)) (d b : Bor Text) → option_map (λ s. s.now) o ≡ first_value found name
+    → b ≡ unwrap_or o d → b.now ≡ unwrap_or (first_of name (rows_of found)) d.now
+given_or found name o d b is taken = ap (λ (x : Bor Text). x.now) taken ∙ (now_or o d ∙ ap (λ (x : Option Text). unwrap_or x d.now) (given_first found name o is))
+
+pub asked_some : (o : Option (Text × List Row)) (name : Text) (rows : List Row) → Some name ≡ option_map (λ p. p.0) o
+    → Some rows ≡ option_map (λ p. p.1) o → asked_of name rows ≡ asked_by o
+asked_some None name rows e f = cc
+asked_some (Some p) name rows e f = ap₂ (λ (n : Option Text) (r : Option (List Row)). asked_of (unwrap_or n name) (unwrap_or r rows)) e f
+
+pub asked_none : (o : Option (Text × List Row)) → None ≡ option_map (λ p. p.1) o → compile [] ≡ asked_by o
+asked_none None e = refl
+asked_none (Some p) e = cc
+
+out_of_memory : (kind : ErrorKind) → kind ≡ OutOfMemory → is_help kind ≡ true → ⊥
+out_of_memory kind e is = let P : ErrorKind → Type 0 = λ k. is_help k ≡ true in let none : false ≡ true = subst P e is in cc
+
+some_cause : (kinds : Kinds) (kind : ErrorKind) → IsAmong kind kinds → kinds ≡ [] → ⊥
+some_cause [] kind among e = among
+some_cause (k ∷ ks) kind among e = cc
+
+pub declined : (kinds : Kinds) (kind : ErrorKind) (a : NoRequest) → Alike kinds → (kind ≡ OutOfMemory) ⊎ IsAmong kind kinds → Explains kind a → Declines kinds a
+declined kinds kind (none.Help text) like (inl e) is = absurd (out_of_memory kind e is)
+declined kinds kind (none.Help text) like (inr among) is = said_by kind kinds like among ∙ is
+declined kinds kind (none.Refused text) like (inl e) is = absurd (is.1 e)
+declined kinds kind (none.Refused text) like (inr among) is = (some_cause kinds kind among, said_by kind kinds like among ∙ is.0)
+declined kinds kind none.Memory like among is = tt
+
+-- a cause of clap's stands before one of a format
+pub declined_first : (kinds others : Kinds) (a : NoRequest) → Declines kinds a → Declines (or_else kinds others) a
+declined_first [] others (none.Help text) is = absurd cc
+declined_first [] others (none.Refused text) is = absurd (is.0 refl)
+declined_first [] others none.Memory is = tt
+declined_first (kind ∷ kinds) others a is = is
+
+-- what is misused is refused by none of the causes that are help
+misused : (format stream : Option Text) (is_twice : Bool) (text : _)
+    → (or_else (refused_value format) (or_else (refused_value stream) (refused_twice is_twice)) ≡ [] → ⊥)
+    → Declines (or_else (refused_value format) (or_else (refused_value stream) (refused_twice is_twice))) (none.Refused text)
+misused None None false text is = absurd (is refl)
+misused None None true text is = ((λ e. cc), refl)
+misused None (Some name) is_twice text is = ((λ e. cc), refl)
+misused (Some name) stream is_twice text is = ((λ e. cc), refl)
+
+-- what clap takes is taken, but for what is misused
+pub taken_fit : (words : List Text) (command : Option (Text × List Row)) (r : Result CommandLine NoRequest)
+    → fault_of yanglive words ≡ [] → subcommand_of yanglive words ≡ command → TakesFit command r → Takes words r
+taken_fit words command (Ok line) none named takes = (
+  ap₂ or_else none (ap misuse_fault named ∙ takes.0),
+  takes.1 ∙ sym (ap asked_by named),
+  takes.2 ∙ sym (ap explained_by named),
+)
+taken_fit words command (Err (none.Help text)) none named takes = absurd takes
+taken_fit words command (Err (none.Refused text)) none_wrong named takes =
+    subst (λ kinds. Declines kinds (none.Refused text)) (sym (ap₂ or_else none_wrong (ap misuse_fault named)))
+    (misused (unknown_format command) (named_stream command) (reads_input_twice command) text takes)
+taken_fit words command (Err none.Memory) none_wrong named takes = tt
+
+pub declined_by_memory : (words : List Text) (r : Result CommandLine NoRequest) → IsErrAnd r (λ e. e ≡ none.Memory) → Takes words r
+declined_by_memory words (Ok x) e = absurd e
+declined_by_memory words (Err a) e = subst (λ b. Takes words (Err b)) (sym e) tt
+
+-- help and refusals come of words that aren't taken, with clap's text on their side
+pub asked_help : (kinds : Kinds) → asks_help kinds ≡ true → kinds ≡ [] → ⊥
+asked_help [] is e = cc
+asked_help (k ∷ ks) is e = cc
+
+pub text_is : (kinds : Kinds) (help : Bool) (text : List ℕ) → asks_help kinds ≡ help → (if help then shown text else refused text) ≡ with_text kinds text
+text_is kinds help text is = ap (λ (b : Bool). if b then shown text else refused text) (sym is)

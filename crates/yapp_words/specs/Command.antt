@@ -1,0 +1,236 @@
+-- What the words of a command line ask for, by clap's own definition of what it takes.
+use Rattle.std.specs.Prelude.{◌≡◌, ◌&&◌, ◌||◌, not, Bool, true, false, List, [], ◌∷◌, map, codes, Option, Some, None, option_map, unwrap_or, Result, Ok, Err, if◌then◌else◌}
+use Rattle.std.specs.List.{list_any}
+use Rattle.std.specs.Str.{bytes_eq}
+use Rattle.yspec_run.specs.Output as spec
+use Rattle.yspec_run.specs.Output.{explain, compile, draw, draw_all, validate, edit}
+use Rattle.clap.specs.Kinds.{or_else}
+use Rattle.clap.specs.Words.{Kinds, Row, Text, all_of, fault_of, first_of, subcommand_of}
+use Rattle.clap.specs.declared.error.kind.ErrorKind.{ErrorKind}
+use Rattle.clap.specs.declared.error.kind.ErrorKind.TheVariants.{ArgumentConflict, DisplayHelp, DisplayVersion, InvalidSubcommand, InvalidValue, OutOfMemory}
+use Rattle.yapp_words.specs.Application.{yanglive}
+use Rattle.yapp_words.specs.declared.command.Options.{Options}
+use Rattle.yapp_words.specs.declared.command.Request.{Request}
+use Rattle.yapp_words.specs.declared.command.Request.TheVariants as requests
+use Rattle.yapp_words.specs.declared.command.CommandLine.{CommandLine}
+use Rattle.yapp_words.specs.declared.command.NoRequest.{NoRequest}
+use Rattle.yapp_words.specs.declared.command.NoRequest.TheVariants as none
+
+-- ---- words; the first is the program's name
+
+abbrev pub commands : List Text
+commands = codes "explain" ∷ codes "compile" ∷ codes "tree" ∷ codes "validate" ∷ codes "edit" ∷ []
+
+abbrev pub is_command : Text → Bool
+is_command name = list_any (bytes_eq name) commands
+
+-- `help` stands for `--help`, and `help COMMAND` for `COMMAND --help`
+abbrev pub meant : List Text → List Text
+meant (program ∷ word ∷ []) =
+    if bytes_eq word (codes "help") then program ∷ codes "--help" ∷ [] else program ∷ word ∷ []
+meant (program ∷ word ∷ name ∷ []) = if bytes_eq word (codes "help") && is_command name
+    then program ∷ name ∷ codes "--help" ∷ [] else program ∷ word ∷ name ∷ []
+meant words = words
+
+-- `help` for a word that is no command's
+abbrev pub helps_nothing : List Text → Bool
+helps_nothing (program ∷ word ∷ name ∷ []) = bytes_eq word (codes "help") && not (is_command name)
+helps_nothing words = false
+
+abbrev pub value_of : Text → List Row → Text
+value_of name rows = unwrap_or (first_of name rows) []
+
+abbrev pub modules_of : List Row → List Text
+modules_of rows = unwrap_or (all_of (codes "MODULE") rows) []
+
+abbrev pub is_given : Text → List Row → Bool
+is_given name rows = bytes_eq (value_of name rows) (codes "true")
+
+-- how faults are to be told: as lines, or as JSON
+abbrev pub format_of : List Row → Text
+format_of rows = unwrap_or (first_of (codes "format") rows) (codes "text")
+
+abbrev pub is_format : Text → Bool
+is_format name = bytes_eq name (codes "text") || bytes_eq name (codes "json")
+
+-- ---- why words are refused
+
+-- a format that isn't known, where a command's arguments name one
+abbrev pub unknown_format : Option (Text × List Row) → Option Text
+unknown_format None = None
+unknown_format (Some command) = let name = format_of command.1 in if is_format name then None else Some name
+
+-- what is no file, so no document can be put in its place
+abbrev pub streams : List Text
+streams = codes "-" ∷ codes "/dev/stdout" ∷ codes "/dev/stderr" ∷ []
+
+abbrev pub stream_in : Option Text → Option Text
+stream_in None = None
+stream_in (Some name) = if list_any (bytes_eq name) streams then Some name else None
+
+-- such a stream, where a command's arguments name one for the edited document
+abbrev pub named_stream : Option (Text × List Row) → Option Text
+named_stream None = None
+named_stream (Some command) = stream_in (first_of (codes "output") command.1)
+
+abbrev pub is_input : Text → Bool
+is_input name = bytes_eq name (codes "-")
+
+-- whether standard input is named for the document and for the script
+abbrev pub reads_input_twice : Option (Text × List Row) → Bool
+reads_input_twice None = false
+reads_input_twice (Some command) =
+    is_input (value_of (codes "DATA") command.1) && is_input (value_of (codes "SCRIPT") command.1)
+
+-- they are refused as clap refuses a value that isn't among those that it knows, and arguments that don't go together
+abbrev pub refused_value : Option Text → Kinds
+refused_value None = []
+refused_value (Some name) = InvalidValue ∷ []
+
+abbrev pub refused_twice : Bool → Kinds
+refused_twice is_twice = if is_twice then ArgumentConflict ∷ [] else []
+
+abbrev pub misuse_fault : Option (Text × List Row) → Kinds
+misuse_fault command = or_else (refused_value (unknown_format command))
+    (or_else (refused_value (named_stream command)) (refused_twice (reads_input_twice command)))
+
+-- why words are refused as they stand, or answered with a text in their place: empty where they are taken
+abbrev pub faults_of : List Text → Kinds
+faults_of words = or_else (fault_of yanglive words) (misuse_fault (subcommand_of yanglive words))
+
+-- the same of what words mean
+abbrev pub refusals : List Text → Kinds
+refusals words = if helps_nothing words then InvalidSubcommand ∷ [] else faults_of (meant words)
+
+-- ---- what they ask for
+
+-- how a document is taken, and what is made of it
+abbrev pub options_of : List Row → spec.Options
+options_of rows = record {
+  is_strict = is_given (codes "strict") rows;
+  of_configuration = is_given (codes "config") rows;
+  as_json = bytes_eq (format_of rows) (codes "json");
+  is_dump = is_given (codes "dump") rows;
+  saved_as = first_of (codes "output") rows;
+}
+
+-- what the arguments of a command ask for
+abbrev pub explanation_of : List Row → spec.Request
+explanation_of rows = explain (unwrap_or (all_of (codes "CODE") rows) [])
+
+abbrev pub compilation_of : List Row → spec.Request
+compilation_of rows = compile (modules_of rows)
+
+-- a word alone is the file of the module to draw
+abbrev pub drawing_by : Bool → Text → List Text → spec.Request
+drawing_by true name modules = draw_all (name ∷ modules)
+drawing_by false name [] = draw_all (name ∷ [])
+drawing_by false name (first ∷ others) = draw name (first ∷ others)
+
+abbrev pub drawing_of : List Row → spec.Request
+drawing_of rows = drawing_by (is_given (codes "all") rows) (value_of (codes "NAME") rows) (modules_of rows)
+
+abbrev pub validation_of : List Row → spec.Request
+validation_of rows = validate (options_of rows) (value_of (codes "DATA") rows) (modules_of rows)
+
+abbrev pub edition_of : List Row → spec.Request
+edition_of rows = edit (options_of rows) (value_of (codes "DATA") rows)
+    (value_of (codes "SCRIPT") rows) (modules_of rows)
+
+-- what the command of a name asks for
+abbrev pub asked_of : Text → List Row → spec.Request
+asked_of name rows = if bytes_eq name (codes "explain") then explanation_of rows
+    else (if bytes_eq name (codes "compile") then compilation_of rows
+    else (if bytes_eq name (codes "tree") then drawing_of rows
+    else (if bytes_eq name (codes "validate") then validation_of rows else edition_of rows)))
+
+-- what a subcommand and its arguments ask for; taken words name one
+abbrev pub asked_by : Option (Text × List Row) → spec.Request
+asked_by None = compile []
+asked_by (Some command) = asked_of command.0 command.1
+
+-- what taken words ask for
+abbrev pub request_of : List Text → spec.Request
+request_of words = asked_by (subcommand_of yanglive (meant words))
+
+-- whether a command's arguments ask for the reasons of what is told
+abbrev pub explained_by : Option (Text × List Row) → Bool
+explained_by None = false
+explained_by (Some command) = is_given (codes "explain") command.1
+
+abbrev pub asks_reasons : List Text → Bool
+asks_reasons words = explained_by (subcommand_of yanglive (meant words))
+
+-- ---- the code's values as these
+
+abbrev pub options_view : Options → spec.Options
+options_view o = record {
+  is_strict = o.is_strict;
+  of_configuration = o.of_configuration;
+  as_json = o.as_json;
+  is_dump = o.is_dump;
+  saved_as = option_map (λ name. name.now) o.saved_as;
+}
+
+abbrev pub view : Request → spec.Request
+view (requests.Explain names) = explain (map (λ name. name.now) names.items)
+view (requests.Compile modules) = compile (map (λ name. name.now) modules.items)
+view (requests.Tree name modules) = draw name.now (map (λ name. name.now) modules.items)
+view (requests.Trees modules) = draw_all (map (λ name. name.now) modules.items)
+view (requests.Validate options document modules) = validate (options_view options) document.now (map (λ name. name.now) modules.items)
+view (requests.Edit options document script modules) =
+    edit (options_view options) document.now script.now (map (λ name. name.now) modules.items)
+
+-- ---- what comes in place of a request
+
+-- help, or the version
+abbrev pub is_help : ErrorKind → Bool
+is_help DisplayHelp = true
+is_help DisplayVersion = true
+is_help _ = false
+
+-- whether words that aren't taken ask for one of these: clap's first cause says it
+abbrev pub asks_help : Kinds → Bool
+asks_help [] = false
+asks_help (kind ∷ others) = is_help kind
+
+-- what an error of clap's comes to
+abbrev pub Explains : ErrorKind → NoRequest → Type 0
+Explains kind (none.Help text) = is_help kind ≡ true
+Explains kind (none.Refused text) = (is_help kind ≡ false) × (kind ≡ OutOfMemory → ⊥)
+Explains kind none.Memory = Unit {0}
+
+-- help where it is asked for, a refusal for any other cause, or there is no memory
+abbrev pub Declines : Kinds → NoRequest → Type 0
+Declines kinds (none.Help text) = asks_help kinds ≡ true
+Declines kinds (none.Refused text) = (kinds ≡ [] → ⊥) × (asks_help kinds ≡ false)
+Declines kinds none.Memory = Unit {0}
+
+-- words are taken exactly where nothing is wrong with them, and then their request is the definition's
+abbrev pub Answers : Kinds → List Text → Result CommandLine NoRequest → Type 0
+Answers kinds words (Ok line) = (kinds ≡ [])
+    × (view line.request ≡ asked_by (subcommand_of yanglive words))
+    × (line.with_reasons ≡ explained_by (subcommand_of yanglive words))
+Answers kinds words (Err answer) = Declines kinds answer
+
+-- words as they stand
+abbrev pub Takes : List Text → Result CommandLine NoRequest → Type 0
+Takes words result = Answers (faults_of words) words result
+
+-- what words come to that are refused though clap takes them
+abbrev pub IsRefusal : NoRequest → Type 0
+IsRefusal (none.Help text) = ⊥
+IsRefusal (none.Refused text) = Unit {0}
+IsRefusal none.Memory = Unit {0}
+
+-- of what clap takes, what is misused is refused
+abbrev pub TakesFit : Option (Text × List Row) → Result CommandLine NoRequest → Type 0
+TakesFit command (Ok line) = (misuse_fault command ≡ []) × (view line.request ≡ asked_by command)
+    × (line.with_reasons ≡ explained_by command)
+TakesFit command (Err (none.Help text)) = ⊥
+TakesFit command (Err (none.Refused text)) = misuse_fault command ≡ [] → ⊥
+TakesFit command (Err none.Memory) = Unit {0}
+
+-- words by what they mean
+abbrev pub Understands : List Text → Result CommandLine NoRequest → Type 0
+Understands words result = Answers (refusals words) (meant words) result

@@ -1,5 +1,0 @@
-use Rattle.std.proofs.Common.{◌≡◌, replicate, true}
-use Rattle.yaugment.proofs.targets.all_true.Given as goal
-
-abbrev pub invariant-loop : goal.invariant-loop
-invariant-loop l = l.waits.items ≡ replicate l.counter true

@@ -1,0 +1,6 @@
+use Rattle.std.proofs.Common.{◌≡◌}
+use Rattle.std.specs.List.{range_with_len}
+use Rattle.ybase_graph.proofs.order.numbers.Given as goal
+
+abbrev pub invariant-loop-node : goal.invariant-loop-node
+invariant-loop-node l = l.nodes.items ≡ range_with_len 0 l.node

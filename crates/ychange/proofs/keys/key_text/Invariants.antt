@@ -1,8 +1,0 @@
-use Rattle.std.proofs.Common.{◌≡◌, drop}
-use Rattle.yspec.specs.edit.Editing.{key_text}
-use Rattle.ymodel.specs.View.{view}
-use Rattle.ypath.specs.EditView.{keys_view}
-use Rattle.ychange.proofs.keys.key_text.Given as goal
-
-abbrev pub invariant-loop-key : goal.invariant-loop-key
-invariant-loop-key l = key_text (keys_view (drop l.key-index l.keys)) (view l.schema) l.id.0 ≡ key_text (keys_view l.keys) (view l.schema) l.id.0

@@ -1,5 +1,0 @@
-use Rattle.std.proofs.Common.{length}
-use Rattle.ychange.proofs.locating.+locate_below.Given as goal
-
-abbrev pub decreases-locate_below : goal.decreases-locate_below
-decreases-locate_below l = length l.steps.now

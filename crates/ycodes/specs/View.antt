@@ -1,6 +1,0 @@
--- What is said of a code as the specification's.
-use Rattle.ycodes.specs.Codes as spec
-use Rattle.ycodes.specs.declared.explanation.Explanation.{Explanation}
-
-abbrev pub explanation_view : Explanation → spec.Explanation
-explanation_view e = record { code = e.code.now; cause = e.cause.now; place = e.place.now; remedy = e.remedy.now; source = e.source.now }

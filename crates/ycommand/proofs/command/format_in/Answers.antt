@@ -1,7 +1,0 @@
-use Rattle.std.proofs.Common.{codes}
-use Rattle.clap.specs.Words.{found_of}
-use Rattle.ycommand.proofs.CommandLemmas.{given_or}
-use Rattle.ycommand.proofs.command.format_in.Goals as goal
-
-pub returns : goal.returns
-returns c = given_or (found_of c.args.found.now) (codes "format") c.get_str.result _ c.unwrap_or.result c.get_str.ensures c.unwrap_or.ensures

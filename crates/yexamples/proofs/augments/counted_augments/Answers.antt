@@ -1,7 +1,0 @@
-use Rattle.std.proofs.Common.{refl}
-use Rattle.yprogram.proofs.ProgramLiterals.{yprogram_on_literals}
-use Rattle.yexamples.proofs.augments.counted_augments.Goals as goal
-
-pub returns : goal.returns
-unfolding yprogram_on_literals
-returns c = record { bodies = refl; single_nodes = refl; implied_cases = refl; left = refl; used = refl }

@@ -1,7 +1,0 @@
-use Rattle.std.proofs.Common.{refl}
-use Rattle.yprogram.proofs.ProgramLiterals.{yprogram_on_literals}
-use Rattle.yexamples.proofs.augments.documents_of_three_modules.Goals as goal
-
-pub returns : goal.returns
-unfolding yprogram_on_literals
-returns c = record { nodes = refl; read = refl; without_its_module = refl; of_another_module = refl; fault = refl; edit = refl; refused_edit = refl }

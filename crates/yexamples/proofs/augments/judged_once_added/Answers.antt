@@ -1,7 +1,0 @@
-use Rattle.std.proofs.Common.{refl}
-use Rattle.yprogram.proofs.ProgramLiterals.{yprogram_on_literals}
-use Rattle.yexamples.proofs.augments.judged_once_added.Goals as goal
-
-pub returns : goal.returns
-unfolding yprogram_on_literals
-returns c = record { reference = refl; default_case = refl; default_case_of_another = refl; mandatory_in_a_default_case = refl; configuration_below_state = refl; no_key = refl }

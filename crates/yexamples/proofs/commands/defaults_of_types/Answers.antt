@@ -1,7 +1,0 @@
-use Rattle.std.proofs.Common.{refl}
-use Rattle.yprogram.proofs.ProgramLiterals.{yprogram_on_literals}
-use Rattle.yexamples.proofs.commands.defaults_of_types.Goals as goal
-
-pub returns : goal.returns
-unfolding yprogram_on_literals
-returns c = record { in_use = refl; not_its_own = refl; range_of_the_typedef = refl }

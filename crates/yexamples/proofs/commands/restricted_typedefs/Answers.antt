@@ -1,7 +1,0 @@
-use Rattle.std.proofs.Common.{refl}
-use Rattle.yprogram.proofs.ProgramLiterals.{yprogram_on_literals}
-use Rattle.yexamples.proofs.commands.restricted_typedefs.Goals as goal
-
-pub returns : goal.returns
-unfolding yprogram_on_literals
-returns c = record { within = refl; wider = refl; greatest = refl; too_great = refl }

@@ -1,7 +1,0 @@
-use Rattle.std.proofs.Common.{refl}
-use Rattle.yprogram.proofs.ProgramLiterals.{yprogram_on_literals}
-use Rattle.yexamples.proofs.corners.table.Goals as goal
-
-pub returns : goal.returns
-unfolding yprogram_on_literals
-returns c = refl

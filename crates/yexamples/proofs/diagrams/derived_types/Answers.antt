@@ -1,7 +1,0 @@
-use Rattle.std.proofs.Common.{refl}
-use Rattle.yprogram.proofs.ProgramLiterals.{yprogram_on_literals}
-use Rattle.yexamples.proofs.diagrams.derived_types.Goals as goal
-
-pub returns : goal.returns
-unfolding yprogram_on_literals
-returns c = record { of_another = refl; own = refl }

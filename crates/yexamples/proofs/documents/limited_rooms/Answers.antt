@@ -1,7 +1,0 @@
-use Rattle.std.proofs.Common.{refl}
-use Rattle.yprogram.proofs.ProgramLiterals.{yprogram_on_literals}
-use Rattle.yexamples.proofs.documents.limited_rooms.Goals as goal
-
-pub returns : goal.returns
-unfolding yprogram_on_literals
-returns c = record { room_for_all = refl; one_too_many = refl; refused_before = refl; refused_behind = refl }

@@ -1,7 +1,0 @@
-use Rattle.std.proofs.Common.{refl}
-use Rattle.yprogram.proofs.ProgramLiterals.{yprogram_on_literals}
-use Rattle.yexamples.proofs.documents.tuples.Goals as goal
-
-pub returns : goal.returns
-unfolding yprogram_on_literals
-returns c = record { default_in_a_tuple = refl; equal_keys = refl; through_a_container = refl; no_keys = refl; missing_leaf = refl }

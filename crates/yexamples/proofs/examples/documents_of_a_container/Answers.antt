@@ -1,7 +1,0 @@
-use Rattle.std.proofs.Common.{refl}
-use Rattle.yprogram.proofs.ProgramLiterals.{yprogram_on_literals}
-use Rattle.yexamples.proofs.examples.documents_of_a_container.Goals as goal
-
-pub returns : goal.returns
-unfolding yprogram_on_literals
-returns c = record { missing = refl; out_of_range = refl; good = refl; implied = refl; implied_of_int32 = refl; good_of_int32 = refl }

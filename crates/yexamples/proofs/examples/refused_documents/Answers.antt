@@ -1,7 +1,0 @@
-use Rattle.std.proofs.Common.{refl}
-use Rattle.yprogram.proofs.ProgramLiterals.{yprogram_on_literals}
-use Rattle.yexamples.proofs.examples.refused_documents.Goals as goal
-
-pub returns : goal.returns
-unfolding yprogram_on_literals
-returns c = record { no_json = refl; no_object = refl; unknown = refl; unqualified = refl; qualified = refl; wrong_kind = refl; fraction = refl }

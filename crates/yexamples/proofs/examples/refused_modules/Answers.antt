@@ -1,7 +1,0 @@
-use Rattle.std.proofs.Common.{refl}
-use Rattle.yprogram.proofs.ProgramLiterals.{yprogram_on_literals}
-use Rattle.yexamples.proofs.examples.refused_modules.Goals as goal
-
-pub returns : goal.returns
-unfolding yprogram_on_literals
-returns c = record { type_outside = refl; two_types = refl; no_name = refl; other_version = refl; one_name_twice = refl; least_line = refl; text = refl }

@@ -1,7 +1,0 @@
-use Rattle.std.proofs.Common.{refl}
-use Rattle.yprogram.proofs.ProgramLiterals.{yprogram_on_literals}
-use Rattle.yexamples.proofs.examples.sets_of_modules.Goals as goal
-
-pub returns : goal.returns
-unfolding yprogram_on_literals
-returns c = record { two = refl; one_name = refl; before_names_of_siblings = refl; after_statements = refl }

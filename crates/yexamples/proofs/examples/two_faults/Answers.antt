@@ -1,7 +1,0 @@
-use Rattle.std.proofs.Common.{refl}
-use Rattle.yprogram.proofs.ProgramLiterals.{yprogram_on_literals}
-use Rattle.yexamples.proofs.examples.two_faults.Goals as goal
-
-pub returns : goal.returns
-unfolding yprogram_on_literals
-returns c = record { both = refl; whatever_the_order_of_members = refl }

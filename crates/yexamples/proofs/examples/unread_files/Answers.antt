@@ -1,7 +1,0 @@
-use Rattle.std.proofs.Common.{refl}
-use Rattle.yprogram.proofs.ProgramLiterals.{yprogram_on_literals}
-use Rattle.yexamples.proofs.examples.unread_files.Goals as goal
-
-pub returns : goal.returns
-unfolding yprogram_on_literals
-returns c = record { of_a_document = refl; of_a_module = refl }

@@ -1,7 +1,0 @@
-use Rattle.std.proofs.Common.{refl}
-use Rattle.yprogram.proofs.ProgramLiterals.{yprogram_on_literals}
-use Rattle.yexamples.proofs.groupings.counted_nodes.Goals as goal
-
-pub returns : goal.returns
-unfolding yprogram_on_literals
-returns c = record { doubled = refl; before_refines = λ s below plan h. rw h refl; limit_of_forty = refl; limit = refl; made = refl; implied_cases = refl }

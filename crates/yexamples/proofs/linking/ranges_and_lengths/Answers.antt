@@ -1,7 +1,0 @@
-use Rattle.std.proofs.Common.{refl}
-use Rattle.yprogram.proofs.ProgramLiterals.{yprogram_on_literals}
-use Rattle.yexamples.proofs.linking.ranges_and_lengths.Goals as goal
-
-pub returns : goal.returns
-unfolding yprogram_on_literals
-returns c = record { two = refl; three = refl; point = refl; far_out = refl; no_digit = refl; zero_in_front = refl; three_bounds = refl; no_part = refl }

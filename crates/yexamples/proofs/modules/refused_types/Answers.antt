@@ -1,7 +1,0 @@
-use Rattle.std.proofs.Common.{refl}
-use Rattle.yprogram.proofs.ProgramLiterals.{yprogram_on_literals}
-use Rattle.yexamples.proofs.modules.refused_types.Goals as goal
-
-pub returns : goal.returns
-unfolding yprogram_on_literals
-returns c = record { descending = refl; out_of_place = refl; no_digits = refl; no_enum = refl; no_path = refl; no_member = refl; member = refl; member_leafref = refl }

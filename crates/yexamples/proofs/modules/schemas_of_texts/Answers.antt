@@ -1,7 +1,0 @@
-use Rattle.std.proofs.Common.{refl}
-use Rattle.yprogram.proofs.ProgramLiterals.{yprogram_on_literals}
-use Rattle.yexamples.proofs.modules.schemas_of_texts.Goals as goal
-
-pub returns : goal.returns
-unfolding yprogram_on_literals
-returns c = record { net = refl; default_case = refl; unique_through_a_container = refl; members = refl; digits = refl }

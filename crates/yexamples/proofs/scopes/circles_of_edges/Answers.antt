@@ -1,7 +1,0 @@
-use Rattle.std.proofs.Common.{refl}
-use Rattle.yprogram.proofs.ProgramLiterals.{yprogram_on_literals}
-use Rattle.yexamples.proofs.scopes.circles_of_edges.Goals as goal
-
-pub returns : goal.returns
-unfolding yprogram_on_literals
-returns c = record { alone = refl; into_and_out = refl; between = refl; two_ways = refl; in_any_order = refl }

@@ -1,7 +1,0 @@
-use Rattle.std.proofs.Common.{refl}
-use Rattle.yprogram.proofs.ProgramLiterals.{yprogram_on_literals}
-use Rattle.yexamples.proofs.scopes.circles_of_imports.Goals as goal
-
-pub returns : goal.returns
-unfolding yprogram_on_literals
-returns c = record { itself = refl; two = refl; first_of_two = refl; first_of_two_turned = refl; first_of_three = refl }

@@ -1,7 +1,0 @@
-use Rattle.std.proofs.Common.{refl}
-use Rattle.yprogram.proofs.ProgramLiterals.{yprogram_on_literals}
-use Rattle.yexamples.proofs.scopes.defaults_of_types.Goals as goal
-
-pub returns : goal.returns
-unfolding yprogram_on_literals
-returns c = record { nearest = refl; behind = refl; none = refl }

@@ -1,7 +1,0 @@
-use Rattle.std.proofs.Common.{refl}
-use Rattle.yprogram.proofs.ProgramLiterals.{yprogram_on_literals}
-use Rattle.yexamples.proofs.scopes.taken_names.Goals as goal
-
-pub returns : goal.returns
-unfolding yprogram_on_literals
-returns c = record { twice = refl; kinds_apart = refl; groupings = refl; outer_before = refl; outer_behind = refl; beside = refl; in_itself = refl; built_in = refl; built_in_outside = refl }

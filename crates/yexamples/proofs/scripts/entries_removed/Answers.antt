@@ -1,7 +1,0 @@
-use Rattle.std.proofs.Common.{refl}
-use Rattle.yprogram.proofs.ProgramLiterals.{yprogram_on_literals}
-use Rattle.yexamples.proofs.scripts.entries_removed.Goals as goal
-
-pub returns : goal.returns
-unfolding yprogram_on_literals
-returns c = record { positions = refl; equal_keys = refl; fewer = refl; last_entry = refl; container_stays = refl }

@@ -1,7 +1,0 @@
-use Rattle.std.proofs.Common.{refl}
-use Rattle.yprogram.proofs.ProgramLiterals.{yprogram_on_literals}
-use Rattle.yexamples.proofs.scripts.targets_changed.Goals as goal
-
-pub returns : goal.returns
-unfolding yprogram_on_literals
-returns c = record { default_gone = refl; default_again = refl; entry_gone = refl; entry_replaced = refl; case_chosen = refl; case_again = refl }

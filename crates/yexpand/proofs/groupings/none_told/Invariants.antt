@@ -1,9 +1,0 @@
-use Rattle.std.proofs.Common.{◌≡◌, ℕ, None, length}
-use Rattle.yexpand.specs.Counting.{refine_at}
-use Rattle.yexpand.proofs.groupings.none_told.Given as goal
-
-abbrev pub invariant-loop-number : goal.invariant-loop-number
-invariant-loop-number l = record {
-  count : length l.refines.items ≡ l.number;
-  none : (e : ℕ) → refine_at l.refines.items e ≡ None;
-}

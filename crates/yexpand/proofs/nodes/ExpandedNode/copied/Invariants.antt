@@ -1,6 +1,0 @@
-use Rattle.std.proofs.Common.{◌≡◌, ◌++◌, drop}
-use Rattle.yexpand.proofs.nodes.ExpandedNode.copied.Given as goal
-
--- those that are copied, and those that are left
-abbrev pub invariant-loop-given : goal.invariant-loop-given
-invariant-loop-given l = l.refines.items ++ drop l.given-index l.given-items ≡ l.given-items

@@ -1,8 +1,0 @@
-use Rattle.std.proofs.Common.{◌≡◌, drop}
-use Rattle.ytree.specs.View.{row_view, tree_view, place_view}
-use Rattle.yexplain.specs.Places.{row_at}
-use Rattle.yexplain.proofs.place.row_at.Given as goal
-
--- the steps that are left lead to it
-abbrev pub invariant-loop-step : goal.invariant-loop-step
-invariant-loop-step l = row_at (row_view l.row) (place_view (drop l.step-index l.steps)) ≡ row_at (tree_view l.tree) (place_view l.steps)

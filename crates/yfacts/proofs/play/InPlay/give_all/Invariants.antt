@@ -1,8 +1,0 @@
-use Rattle.std.proofs.Common.{drop}
-use Rattle.ymodel.specs.View.{view}
-use Rattle.yfacts.proofs.PlayLemmas.{ValuesLeft}
-use Rattle.yfacts.proofs.play.InPlay.give_all.Given as goal
-
--- the values so far with those that are left
-abbrev pub invariant-loop-value : goal.invariant-loop-value
-invariant-loop-value l = ValuesLeft (view l.schema) l.id.0 l.values (drop l.value-index l.values) l.fn.self l.self

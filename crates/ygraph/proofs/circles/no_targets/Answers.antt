@@ -1,5 +1,0 @@
-use Rattle.ygraph.proofs.EdgeLemmas.{none_more}
-use Rattle.ygraph.proofs.circles.no_targets.Goals as goal
-
-pub loop-preserved : goal.loop-preserved
-loop-preserved c = none_more c.loop.counter c.loop.rows.items c.push.new.self.items c.new.result c.loop.invariant c.new.ensures.items c.in_ok-push.ensures.items

@@ -1,6 +1,0 @@
-use Rattle.std.proofs.Common.{take}
-use Rattle.ygraph.specs.Edges.{HaveTargets}
-use Rattle.ygraph.proofs.circles.targets.Given as goal
-
-abbrev pub invariant-loop-edge : goal.invariant-loop-edge
-invariant-loop-edge l = HaveTargets l.count (take l.edge-index l.edges) l.rows.items

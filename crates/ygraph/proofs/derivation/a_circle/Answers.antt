@@ -1,7 +1,0 @@
-use Rattle.std.proofs.Common.{refl}
-use Rattle.yspec.specs.linking.Graph.{reached}
-use Rattle.ygraph.proofs.derivation.a_circle.Goals as goal
-
-pub returns : goal.returns
-unfolding reached
-returns c = record { around = refl; into = refl; outside = refl }

@@ -1,5 +1,0 @@
-use Rattle.ygraph.proofs.MarkLemmas.{Marked}
-use Rattle.ygraph.proofs.derivations.Derivations.from.Given as goal
-
-abbrev pub invariant-loop-node : goal.invariant-loop-node
-invariant-loop-node l = Marked l.self l.base l.marks.items l.node-index

@@ -1,8 +1,0 @@
-use Rattle.std.proofs.Common.{ap, ◌∙◌}
-use Rattle.std.specs.Str.Iter.{chars_rest}
-use Rattle.std.proofs.lemmas.Iterator.{YieldsList-from_chars, YieldsList-from_take, text_from_collect}
-use Rattle.yhint.proofs.line.first_characters.Goals as goal
-
-pub returns : goal.returns
-returns c = text_from_collect c.collect.result c.collect.ensures.ran
-    (YieldsList-from_take 100 (YieldsList-from_chars c.args.text.now c.utf8.text (ap chars_rest c.take.ensures.source ∙ c.chars.ensures.rest)) c.take.ensures.count)

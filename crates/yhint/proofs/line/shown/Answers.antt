@@ -1,7 +1,0 @@
-use Rattle.std.proofs.Common.{◌∙◌}
-use Rattle.std.proofs.lemmas.Result.{IfOk-weaker}
-use Rattle.yhint.proofs.LineLemmas.{no_text_shown}
-use Rattle.yhint.proofs.line.shown.Goals as goal
-
-pub returns-in-Err : goal.returns-in-Err
-returns-in-Err c = IfOk-weaker c.shown_bytes.result _ _ (λ text e. e ∙ no_text_shown c.args.line.now c.in-Err.ensures.cases.0) c.shown_bytes.ensures

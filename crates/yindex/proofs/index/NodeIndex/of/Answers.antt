@@ -1,9 +1,0 @@
-use Rattle.yindex.specs.Names.{number_among, text_in}
-use Rattle.yindex.proofs.NameLemmas.{none_found}
-use Rattle.std.proofs.Common.{map}
-use Rattle.yindex.proofs.index.NodeIndex.of.Goals as goal
-
-pub returns-clause-nodes : goal.returns-clause-nodes
-returns-clause-nodes c among above m name =
-    none_found (number_among (text_in (map (λ t. t.now) c.args.texts.items)) c.in_ok-names.names.ordered.items) c.in_ok-nodes.nodes among above m name
-    (c.in_ok-nodes.ensures among)

@@ -1,0 +1,92 @@
+use Rattle.std.proofs.Common.{◌≡◌, true, Option, Some, option_map, refl, sym, ap, ◌∙◌, arith}
+use Rattle.serde_json.specs.Data.{Data}
+use Rattle.serde_json.specs.Find.{get_member}
+use Rattle.serde_json.specs.View as json
+use Rattle.serde_json.proofs.Views.{view_of_ref, view-lookup}
+use Rattle.yspec.specs.schema.Schema as spec
+use Rattle.yspec.specs.schema.Schema.{is_data, is_many, written_name}
+use Rattle.ytype.specs.View.{raw_of}
+use Rattle.yschema_model.specs.View as schema_view
+use Rattle.yinst_tree.specs.View.{row_view}
+use Rattle.yinst_tree.specs.Told.{inner_rows}
+use Rattle.yinst_tree.proofs.ValueLemmas.{not_object, not_array}
+use Rattle.yinst_tree.proofs.RowLemmas.{row_pushed, goes_on, all_rows, at_data, at_none, at_no_items, item_on, items_end, held_node, seen_as, on_ok, fewer_after}
+use Rattle.yinst_tree.proofs.reading.+rows.Goals as goal
+
+pub put_child-returns-in-Some : goal.put_child-returns-in-Some
+put_child-returns-in-Some t c =
+    let s = schema_view.view c.args.schema.now in
+    let ms = json.members_view c.args.members.now.entries in
+    let n = schema_view.label_of c.args.child in
+    let stands : is_data n.kind ≡ true = ap (λ (n : spec.SchemaNode). is_data n.kind) (sym c.node.ensures) ∙ (sym c.is_data.ensures ∙ c.if-is_data.true) in
+    let found : Option Data = option_map (λ x. json.view x.now) c.get.result in
+    let here : found ≡ get_member (written_name s c.args.parent_module n) ms =
+    view_of_ref c.get.result ∙ (ap (option_map json.view) c.get.ensures.value ∙ (view-lookup c.as_str.result.now c.args.members.now.entries
+    ∙ ap (λ k. get_member k ms) (c.as_str.ensures.value ∙ (c.in_ok-name.ensures ∙ ap (written_name s c.args.parent_module) c.node-then-is_data.ensures)))) in
+    on_ok c.put_instances.result (at_data s c.args.parent_module n (schema_view.below_of c.args.child) ms (Some (json.view c.in-Some.value.now)) (row_view c.args.row.now.items) _ stands
+    (sym (ap (option_map (λ x. json.view x.now)) c.in-Some.is) ∙ here)) c.put_instances.ensures
+
+pub put_child-returns-then-is_data : goal.put_child-returns-then-is_data
+put_child-returns-then-is_data t c =
+    let s = schema_view.view c.args.schema.now in
+    let ms = json.members_view c.args.members.now.entries in
+    let n = schema_view.label_of c.args.child in
+    let stands : is_data n.kind ≡ true = ap (λ (n : spec.SchemaNode). is_data n.kind) (sym c.node.ensures) ∙ (sym c.is_data.ensures ∙ c.if-is_data.true) in
+    let found : Option Data = option_map (λ x. json.view x.now) c.get.result in
+    let here : found ≡ get_member (written_name s c.args.parent_module n) ms =
+    view_of_ref c.get.result ∙ (ap (option_map json.view) c.get.ensures.value ∙ (view-lookup c.as_str.result.now c.args.members.now.entries
+    ∙ ap (λ k. get_member k ms) (c.as_str.ensures.value ∙ (c.in_ok-name.ensures ∙ ap (written_name s c.args.parent_module) c.node-then-is_data.ensures)))) in
+    at_none s c.args.parent_module n (schema_view.below_of c.args.child) ms found (row_view c.args.row.now.items) _ stands here
+    (ap (option_map (λ x. json.view x.now)) c.in-None.is) refl
+
+pub put_instance-returns : goal.put_instance-returns
+put_instance-returns t c =
+    let s = schema_view.view c.args.schema.now in
+    let child = c.args.child in
+    row_pushed c.args.row.now.items c.push.new.self.items c.in_ok-stored_node.field-0 _ _ c.in_ok-push.ensures.items
+    (seen_as s c.id.result.0 c.node.result.now (schema_view.label_of child) (schema_view.row_view c.children.result) (schema_view.below_of child) (json.view c.args.value.now)
+    c.in_ok-stored_node.field-0 c.id.ensures c.node.ensures c.children.ensures c.in_ok-stored_node.ensures)
+
+pub put_instances-returns-in_default : goal.put_instances-returns-in_default
+put_instances-returns-in_default t c =
+    let n = schema_view.label_of c.args.child in
+    let many : is_many n.kind ≡ true = ap (λ (n : spec.SchemaNode). is_many n.kind) (sym c.node.ensures) ∙ (sym c.is_many.ensures ∙ c.if-is_many.true) in
+    at_no_items n (inner_rows (schema_view.view c.args.schema.now) n (schema_view.below_of c.args.child)) (json.view c.args.value.now) (row_view c.args.row.now.items) many
+    (not_array c.args.value.now c.in_default.not-Array)
+
+pub put_items-loop-item-preserved : goal.put_items-loop-item-preserved
+put_items-loop-item-preserved t c =
+    let n = schema_view.label_of c.args.child in
+    item_on n (inner_rows (schema_view.view c.args.schema.now) n (schema_view.below_of c.args.child)) c.args.items.now c.loop-item.item-index c.item-item.result
+    (row_view c.loop-item.row.items) (row_view c.put_instance.new.row.items) _ (omega arith) c.item-item.is c.in_ok-put_instance.ensures c.loop-item.invariant
+
+pub put_items-returns : goal.put_items-returns
+put_items-returns t c =
+    let n = schema_view.label_of c.args.child in
+    items_end n (inner_rows (schema_view.view c.args.schema.now) n (schema_view.below_of c.args.child)) c.args.items.now c.loop-item.item-index (row_view c.loop-item.row.items) _
+    (omega arith) c.loop-item.invariant
+
+pub put_rows-loop-child-preserved : goal.put_rows-loop-child-preserved
+put_rows-loop-child-preserved t c =
+    let child = c.in-Some.child in
+    record {
+      more = tt;
+      ends = tt;
+      smaller = fewer_after (schema_view.label_of child) (schema_view.below_of child) (schema_view.row_view c.next.new.self) (schema_view.row_view c.loop-child.child-iterator) _
+          c.in-Some.ensures.steps c.loop-child.invariant.smaller;
+      rows = goes_on (schema_view.view c.args.schema.now) c.args.parent_module (schema_view.label_of child) (schema_view.row_view c.loop-child.child-iterator) (schema_view.below_of child)
+          (schema_view.row_view c.next.new.self) (json.members_view c.args.members.now.entries) (row_view c.loop-child.row.items) (row_view c.put_child.new.row.items) _
+          c.in-Some.ensures.steps c.in_ok-put_child.ensures c.loop-child.invariant.rows;
+    }
+
+pub put_rows-returns : goal.put_rows-returns
+put_rows-returns t c =
+    all_rows (schema_view.view c.args.schema.now) c.args.parent_module (schema_view.row_view c.loop-child.child-iterator) (json.members_view c.args.members.now.entries)
+    (row_view c.loop-child.row.items) _ c.in-None.ensures.steps.0 c.loop-child.invariant.rows
+
+pub stored_node-returns-in_default : goal.stored_node-returns-in_default
+stored_node-returns-in_default t c =
+    let d = json.view c.args.value.now in
+    held_node (schema_view.view c.args.schema.now) (schema_view.node_view c.args.id.0 c.args.node.now) d (schema_view.row_view c.args.children) c.new-in_default-2.result
+    c.args.id.0 (option_map raw_of c.in_ok-held.held) c.new-in_default-2.ensures.node (c.new-in_default-2.ensures.below ∙ ap row_view c.new-in_default.ensures.items)
+    refl c.in_ok-held.ensures (not_object c.args.value.now c.in_default.not-Object)

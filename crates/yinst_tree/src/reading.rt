@@ -1,0 +1,254 @@
+//! From bytes to a document.
+
+ghost use Rattle.std.specs.Prelude.{◌≡◌, ◌≤◌, [], IfOk, OnOk, Some, option_map};
+ghost use Rattle.serde_json.specs.View as json;
+ghost use Rattle.yspec.specs.Forest.{size, node, end, join};
+ghost use Rattle.yspec.specs.document.Document.{document_limit};
+ghost use Rattle.yspec.specs.document.Reading.{stored_node, raw_in, item_row, instance_row, stored_rows, tree_or_refusal, document_of};
+ghost use Rattle.yspec.specs.document.Fitting.{Fits};
+ghost use Rattle.yspec.specs.document.Writing.{IsDocument};
+ghost use Rattle.ytype.specs.View.{raw_of};
+ghost use Rattle.yschema_model.specs.View as schema_view;
+ghost use Rattle.yinst_tree.specs.View.{view, row_view, tree_view};
+ghost use Rattle.yspec.specs.Results.{Gives};
+ghost use Rattle.yinst_tree.specs.Told.{Judges, denoted_at, refused_at, inner_rows, stored_first, told_by};
+
+use crate::fault::{DocCode, DocFault, refused_at_root};
+use crate::names::written_name;
+use crate::tree::{Stored, Tree};
+use crate::values::raw_of;
+use crate::visits::{visit_instance, visit_members};
+use serde_json::{Map, Value};
+use std::alloc::{AllocError, Global};
+use yschema_model::{Child, Children, Schema, SchemaId, SchemaNode};
+use ytype::Raw;
+
+/// The most nodes that a document may have.
+pub const DOCUMENT_LIMIT: usize = 1_000_000;
+
+/// The document that JSON bytes denote under a schema, or the first refusal: J1 and J2, then J3 to J7 depth first, members
+/// in byte order of their names, items by position (RFC 7951).
+pub fn read(alloc: Global, schema: &Schema, bytes: &[u8]) -> Result<Tree, DocFault>
+    ensures answer { Gives tree_view told_by result
+        (document_of (schema_view.view schema.now) bytes.now) }
+    ensures fitting { IfOk result (λ tree. Fits (schema_view.view schema.now) (tree_view tree)) }
+    ensures whole { IfOk result
+        (λ tree. IsDocument (schema_view.view schema.now) (tree_view tree)) }
+    ensures within { IfOk result (λ tree. size (tree_view tree) ≤ document_limit) }
+{
+    match Value::from_slice(alloc, bytes) {
+        Ok(value) => tree_of(alloc, schema, &value),
+        Err(error) if error.is_memory() => Err(DocFault::Memory),
+        Err(_) => Err(refused_at_root(alloc, DocCode::J1)),
+    }
+}
+
+/// The document that a value denotes, or its first refusal.
+fn tree_of(alloc: Global, schema: &Schema, value: &Value) -> Result<Tree, DocFault>
+    ensures { Gives tree_view told_by result
+        (tree_or_refusal (schema_view.view schema.now) (json.view value.now)) }
+{
+    let Value::Object(members) = value else {
+        return Err(refused_at_root(alloc, DocCode::J2));
+    };
+    let mut place = Vec::new(alloc);
+    match visit_members(
+        alloc,
+        schema,
+        None,
+        members,
+        &mut place,
+        Some(DOCUMENT_LIMIT),
+    ) {
+        Ok(_) => {
+            let mut row = Vec::new(alloc);
+            put_rows(alloc, schema, None, schema.roots(), members, &mut row)?;
+            Ok(Tree::new(row))
+        }
+        Err(fault) => Err(fault),
+    }
+}
+
+/// The stored node that a value denotes at a node of the schema, which is one entry or item of a list or leaf-list, or its
+/// first refusal, whose place leads from there; nothing where the schema has no such node. There is no limit of nodes.
+pub fn read_node(
+    alloc: Global,
+    schema: &Schema,
+    id: SchemaId,
+    value: &Value,
+) -> Result<Option<Stored>, DocFault>
+    ensures refused { Judges result
+        (refused_at (schema_view.view schema.now) id.0 [] (json.view value.now)) }
+    ensures node { IfOk result (λ s. option_map view s
+        ≡ denoted_at (schema_view.view schema.now) id.0 (json.view value.now)) }
+{
+    let mut place = Vec::new(alloc);
+    match visit_instance(alloc, schema, id, value, &mut place, None) {
+        Ok(_) => {}
+        Err(fault) => return Err(fault),
+    }
+    match schema.kind(id) {
+        Some(node) => Ok(Some(stored_node(alloc, schema, id, node, schema.children(id), value)?)),
+        None => Ok(None),
+    }
+}
+
+/// Puts behind a row what members denote below a node, or at the top, whose children are given.
+#[cycle(rows)]
+fn put_rows(
+    alloc: Global,
+    schema: &Schema,
+    parent_module: Option<usize>,
+    children: Children<'_>,
+    members: &Map<String, Value>,
+    row: &mut Vec<Stored>,
+) -> Result<(), AllocError>
+    ensures { OnOk result (row_view row.new.items
+        ≡ join (row_view row.old.items) (stored_rows (schema_view.view schema.now)
+        parent_module (schema_view.row_view children.entry)
+        (json.members_view members.now.entries))) }
+{
+    for child in children {
+        put_child(alloc, schema, parent_module, child, members, row)?;
+    }
+    Ok(())
+}
+
+/// Puts behind a row what members denote at a child; choices and cases are passed through.
+#[cycle(rows)]
+fn put_child(
+    alloc: Global,
+    schema: &Schema,
+    parent_module: Option<usize>,
+    child: Child<'_>,
+    members: &Map<String, Value>,
+    row: &mut Vec<Stored>,
+) -> Result<(), AllocError>
+    ensures { OnOk result (row_view row.new.items
+        ≡ join (row_view row.old.items) (stored_first (schema_view.view schema.now)
+        parent_module (schema_view.label_of child.entry) (schema_view.below_of child.entry)
+        (json.members_view members.now.entries))) }
+{
+    if child.node().kind.is_data() {
+        let name = written_name(alloc, schema, parent_module, child.node())?;
+        match members.get(name.as_str()) {
+            Some(value) => put_instances(alloc, schema, child, value, row),
+            None => Ok(()),
+        }
+    } else {
+        put_rows(alloc, schema, parent_module, child.children(), members, row)
+    }
+}
+
+/// Puts behind a row the instances that a member's value denotes at a data node.
+#[cycle(rows)]
+fn put_instances(
+    alloc: Global,
+    schema: &Schema,
+    child: Child<'_>,
+    value: &Value,
+    row: &mut Vec<Stored>,
+) -> Result<(), AllocError>
+    ensures { let n = schema_view.label_of child.entry in
+        OnOk result (row_view row.new.items ≡ join (row_view row.old.items)
+        (instance_row n (inner_rows (schema_view.view schema.now) n
+        (schema_view.below_of child.entry)) (Some (json.view value.now)))) }
+{
+    if child.node().kind.is_many() {
+        match value {
+            Value::Array(items) => put_items(alloc, schema, child, items, row),
+            _ => Ok(()),
+        }
+    } else {
+        put_instance(alloc, schema, child, value, row)
+    }
+}
+
+#[cycle(rows)]
+fn put_items(
+    alloc: Global,
+    schema: &Schema,
+    child: Child<'_>,
+    items: &[Value],
+    row: &mut Vec<Stored>,
+) -> Result<(), AllocError>
+    ensures { let n = schema_view.label_of child.entry in
+        OnOk result (row_view row.new.items ≡ join (row_view row.old.items)
+        (item_row n (inner_rows (schema_view.view schema.now) n (schema_view.below_of child.entry))
+        (json.items_view items.now))) }
+{
+    for item in items {
+        put_instance(alloc, schema, child, item, row)?;
+    }
+    Ok(())
+}
+
+#[cycle(rows)]
+fn put_instance(
+    alloc: Global,
+    schema: &Schema,
+    child: Child<'_>,
+    value: &Value,
+    row: &mut Vec<Stored>,
+) -> Result<(), AllocError>
+    ensures { let n = schema_view.label_of child.entry in let d = json.view value.now in
+        OnOk result (row_view row.new.items
+        ≡ join (row_view row.old.items) (node (stored_node n d)
+        (inner_rows (schema_view.view schema.now) n (schema_view.below_of child.entry) d) end)) }
+{
+    row.push(stored_node(
+        alloc,
+        schema,
+        child.id(),
+        child.node(),
+        child.children(),
+        value,
+    )?)?;
+    Ok(())
+}
+
+/// What a value denotes at a node whose children are given.
+#[cycle(rows)]
+fn stored_node(
+    alloc: Global,
+    schema: &Schema,
+    id: SchemaId,
+    node: &SchemaNode,
+    children: Children<'_>,
+    value: &Value,
+) -> Result<Stored, AllocError>
+    ensures { let n = schema_view.node_view id.0 node.now in let d = json.view value.now in
+        IfOk result (λ s. view s ≡ (
+          stored_node n d,
+          inner_rows (schema_view.view schema.now) n (schema_view.row_view children.entry) d,
+        )) }
+{
+    let held = held_of(alloc, node, value)?;
+    match value {
+        Value::Object(members) => {
+            let mut below = Vec::new(alloc);
+            put_rows(
+                alloc,
+                schema,
+                Some(node.module),
+                children,
+                members,
+                &mut below,
+            )?;
+            Ok(Stored::new(id, held, below))
+        }
+        _ => Ok(Stored::new(id, held, Vec::new(alloc))),
+    }
+}
+
+/// What a node of the schema holds of a value: nothing but at a leaf or item.
+fn held_of(alloc: Global, node: &SchemaNode, value: &Value) -> Result<Option<Raw>, AllocError>
+    ensures { IfOk result (λ raw. option_map raw_of raw
+        ≡ raw_in (schema_view.kind_view node.now.kind) (json.view value.now)) }
+{
+    if node.kind.has_value() {
+        raw_of(alloc, value)
+    } else {
+        Ok(None)
+    }
+}

@@ -1,5 +1,0 @@
-use Rattle.ylaws.proofs.BreakLemmas.{none_broken, first_and_least}
-use Rattle.ylaws.proofs.breaks.told_breaks.Goals as goal
-
-pub returns : goal.returns
-returns c = record { none = none_broken; least = first_and_least }

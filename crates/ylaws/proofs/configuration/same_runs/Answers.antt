@@ -1,5 +1,0 @@
-use Rattle.ylaws.proofs.SameRunLemmas.{same_validated, same_edited}
-use Rattle.ylaws.proofs.configuration.same_runs.Goals as goal
-
-pub returns : goal.returns
-returns c = record { validated = same_validated; edited = same_edited }

@@ -1,6 +1,0 @@
-use Rattle.ylaws.proofs.WayLemmas.{each_listed}
-use Rattle.ylaws.proofs.ListedLemmas.{all_listed}
-use Rattle.ylaws.proofs.turns.augments_listed.Goals as goal
-
-pub returns : goal.returns
-returns c = record { found = each_listed; listed = all_listed }

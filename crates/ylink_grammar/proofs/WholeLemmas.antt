@@ -1,0 +1,74 @@
+-- Whole statements, one after another, as they come into the table.
+use Rattle.std.proofs.Common.{◌≡◌, ℕ, zero, suc, List, [], ◌∷◌, ◌++◌, map, Option, Some, None, refl, sym, ap, ◌∙◌, append_assoc}
+use Rattle.std.specs.Prelude.{slice_get, option_map}
+use Rattle.std.proofs.lemmas.List.{append-nil, map-append}
+use Rattle.yspec.specs.Forest.{Forest, node, end}
+use Rattle.yspec.specs.text.Statement.{Statement}
+use Rattle.yspec.specs.linking.Keyword.{Keyword}
+use Rattle.yspec.specs.linking.Source.{kept_keyword}
+use Rattle.ytext.specs.View.{Labelled, view}
+use Rattle.ytext.specs.declared.statement.Stmt.{Stmt}
+use Rattle.ybase_preorder.specs.Layout.{Place, laid, opened, closed}
+use Rattle.ybase_preorder.specs.View.{slots_in}
+use Rattle.ybase_preorder.specs.declared.slot.Slot.{Slot}
+use Rattle.ybase_preorder.specs.declared.table.Table.{Table}
+use Rattle.ylink_grammar.specs.declared.source.Source.{Source}
+use Rattle.ylink_grammar.specs.SourceView.{whole_rows}
+use Rattle.ylink_grammar.specs.Wholes.{whole_at, wholes_of}
+
+wholes-first : (s : Statement) (below after : Forest Statement) → wholes_of (node s below after) ≡ wholes_of (node s below end) ++ wholes_of after
+unfolding wholes_of
+wholes-first s below after = by (kept_keyword s)
+  where
+    by : (k : Option Keyword) → whole_at k s below (wholes_of below) (wholes_of after) ≡ whole_at k s below (wholes_of below) [] ++ wholes_of after
+    by None = refl
+    by (Some k) = ap (λ l. (s, below) ∷ (l ++ wholes_of after)) (sym (append-nil (wholes_of below)))
+
+pub wholes-none : (s : Statement) (below : Forest Statement) → kept_keyword s ≡ None → wholes_of (node s below end) ≡ []
+unfolding wholes_of
+wholes-none s below none = ap (λ k. whole_at k s below (wholes_of below) []) none
+
+wholes-some : (s : Statement) (below : Forest Statement) (k : Keyword) → kept_keyword s ≡ Some k
+    → wholes_of (node s below end) ≡ (s, below) ∷ wholes_of below
+unfolding wholes_of
+wholes-some s below k some =
+    ap (λ k. whole_at k s below (wholes_of below) []) some ∙ ap (λ l. (s, below) ∷ l) (append-nil (wholes_of below))
+
+-- some are added, and others follow
+pub then_more : (old new all : List Labelled) (s : Labelled) (left rest : Forest Statement) → left ≡ node s.0 s.1 rest
+    → new ≡ old ++ wholes_of (node s.0 s.1 end) → old ++ wholes_of left ≡ all → new ++ wholes_of rest ≡ all
+then_more old new all s left rest left_is added so =
+    ap (λ l. l ++ wholes_of rest) added
+    ∙ (append_assoc old (wholes_of (node s.0 s.1 end)) (wholes_of rest)
+    ∙ (ap (λ l. old ++ l) (sym (ap wholes_of left_is ∙ wholes-first s.0 s.1 rest)) ∙ so))
+
+pub no_more : (rows all : List Labelled) (left : Forest Statement) → left ≡ end → rows ++ wholes_of left ≡ all → rows ≡ all
+unfolding wholes_of
+no_more rows all left ended so = sym (append-nil rows) ∙ (ap (λ f. rows ++ wholes_of f) (sym ended) ∙ so)
+
+-- ---- in the table
+
+whole-closed : (n : ℕ) (ps : List (Place Source)) → map (λ p. view p.label.statement.now) (closed n ps) ≡ map (λ p. view p.label.statement.now) ps
+whole-closed n [] = refl
+whole-closed zero (p ∷ ps) = refl
+whole-closed (suc n) (p ∷ ps) = ap (λ rest. view p.label.statement.now ∷ rest) (whole-closed n ps)
+
+-- a statement is opened, all below it is added, and it is closed
+pub added_whole : (old mid full new : Table Source) (p : Option ℕ) (l : Source) (n : ℕ) (k : Keyword) (s : Stmt)
+    → laid (slots_in mid) ≡ laid (slots_in old) ++ opened p l ∷ [] → l.statement.now ≡ s
+    → whole_rows full ≡ whole_rows mid ++ wholes_of (view s).1 → laid (slots_in new) ≡ closed n (laid (slots_in full))
+    → kept_keyword (view s).0 ≡ Some k → whole_rows new ≡ whole_rows old ++ wholes_of (node (view s).0 (view s).1 end)
+added_whole old mid full new p l n k s mid_is same full_is new_is some =
+    let see : Place Source → Labelled = λ p. view p.label.statement.now in
+    let one : whole_rows mid ≡ whole_rows old ++ view s ∷ [] = ap (map see) mid_is
+    ∙ (map-append see (laid (slots_in old)) (opened p l ∷ []) ∙ ap (λ x. whole_rows old ++ view x ∷ []) same) in
+    ap (map see) new_is ∙ (whole-closed n (laid (slots_in full)) ∙ (full_is ∙ (ap (λ l. l ++ wholes_of (view s).1) one
+    ∙ (append_assoc (whole_rows old) (view s ∷ []) (wholes_of (view s).1)
+    ∙ ap (λ l. whole_rows old ++ l) (sym (wholes-some (view s).0 (view s).1 k some))))))
+
+-- the statement of a number
+pub whole_row_at : (slots : List (Slot Source)) (number : ℕ) → slice_get (map (λ p. view p.label.statement.now) (laid slots)) number
+    ≡ option_map (λ (r : Slot Source). view r.label.statement.now) (slice_get slots number)
+whole_row_at [] number = refl
+whole_row_at (r ∷ slots) zero = refl
+whole_row_at (r ∷ slots) (suc number) = whole_row_at slots number

@@ -1,0 +1,71 @@
+//! How statements come into the table.
+
+ghost use Rattle.std.specs.Prelude.{◌≡◌, ◌++◌, OnOk, length, option_map};
+ghost use Rattle.yspec.specs.Forest.{end, node};
+ghost use Rattle.yspec.specs.linking.Source as spec;
+ghost use Rattle.yspec.specs.linking.Source.{kept};
+ghost use Rattle.ytext.specs.View as text;
+ghost use Rattle.ytext.specs.View.{row_view};
+ghost use Rattle.ybase_preorder.specs.View.{slots_in};
+ghost use Rattle.ybase_words.specs.KeywordView.{keyword_view};
+ghost use Rattle.ylink_grammar.specs.SourceView.{seen_rows, whole_rows, listed};
+ghost use Rattle.ylink_grammar.specs.Wholes.{wholes_of};
+
+use crate::source::Source;
+use std::alloc::AllocError;
+use ybase_preorder::Table;
+use ybase_words::Keyword;
+use ytext::Stmt;
+
+/// The keyword of a statement that is kept.
+fn kept_keyword(statement: &Stmt) -> Option<Keyword>
+    ensures { option_map keyword_view result ≡ spec.kept_keyword (text.view statement.now).0 }
+{
+    match Keyword::named(statement.keyword()) {
+        Some(Keyword::Extension) => None,
+        keyword => keyword,
+    }
+}
+
+/// Adds those of some statements that are kept, with all below them.
+#[cycle(statements)]
+fn add_statements<'a>(
+    table: &mut Table<Source<'a>>,
+    parent: Option<u32>,
+    home: usize,
+    statements: &'a [Stmt],
+) -> Result<(), AllocError>
+    ensures listed { OnOk result (seen_rows table.new ≡ seen_rows table.old
+        ++ listed parent home (length (slots_in table.old))
+        (kept (row_view statements.entry.now))) }
+    ensures whole { OnOk result (whole_rows table.new ≡ whole_rows table.old
+        ++ wholes_of (row_view statements.entry.now)) }
+{
+    for statement in statements {
+        add_statement(table, parent, home, statement)?;
+    }
+    Ok(())
+}
+
+/// Adds a statement, if it is kept, with all below it.
+#[cycle(statements)]
+pub(crate) fn add_statement<'a>(
+    table: &mut Table<Source<'a>>,
+    parent: Option<u32>,
+    home: usize,
+    statement: &'a Stmt,
+) -> Result<(), AllocError>
+    ensures listed { let s = text.view statement.entry.now in
+        OnOk result (seen_rows table.new ≡ seen_rows table.old
+        ++ listed parent home (length (slots_in table.old)) (kept (node s.0 s.1 end))) }
+    ensures whole { let s = text.view statement.entry.now in
+        OnOk result (whole_rows table.new ≡ whole_rows table.old ++ wholes_of (node s.0 s.1 end)) }
+{
+    let Some(keyword) = kept_keyword(statement) else {
+        return Ok(());
+    };
+    let number = table.open(parent, Source::new(keyword, statement, home))?;
+    add_statements(table, Some(number), home, statement.substatements())?;
+    table.close(number);
+    Ok(())
+}

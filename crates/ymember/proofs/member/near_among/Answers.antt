@@ -1,7 +1,0 @@
-use Rattle.std.proofs.Common.{ap, sym, ◌∙◌, string_bytes}
-use Rattle.std.specs.Prelude.{option_map}
-use Rattle.ymember.proofs.MemberLemmas.{told_behind}
-use Rattle.ymember.proofs.member.near_among.Goals as goal
-
-pub returns-in-None : goal.returns-in-None
-returns-in-None c = told_behind c.near_own.result _ _ (sym c.in_ok-found.ensures ∙ ap (option_map string_bytes) c.in-None.is) c.near_own.ensures

@@ -1,7 +1,0 @@
-use Rattle.std.proofs.Common.{ap, ◌∙◌}
-use Rattle.std.specs.Prelude.{is_some}
-use Rattle.ynumber.proofs.TableLemmas.{named_among}
-use Rattle.ynumber.proofs.names.Names.has_name.Goals as goal
-
-pub returns : goal.returns
-returns c = c.is_some.ensures ∙ ap is_some c.number_of.ensures ∙ named_among c.args.text.now c.args.self.now

@@ -1,7 +1,0 @@
-use Rattle.std.proofs.Common.{◌≡◌, ◌^◌, ◌≤◌, drop}
-use Rattle.yspec.specs.types.Numerals.{digits_from}
-use Rattle.ynumber.specs.Words.{capped}
-use Rattle.ynumber.proofs.numeral.number_in.Given as goal
-
-abbrev pub invariant-digits : goal.invariant-digits
-invariant-digits l = (l.number ≤ 2 ^ 64) × (capped (digits_from l.base l.number (drop l.byte-index l.digits)) ≡ capped (digits_from l.base 0 l.digits))

@@ -1,7 +1,0 @@
-use Rattle.std.proofs.lemmas.Str.Pattern.{strip_prefix_char}
-use Rattle.ypath.proofs.CutLemmas.{behind_from}
-use Rattle.ypath.proofs.cutting.behind.Goals as goal
-
-pub returns-clause-value : goal.returns-clause-value
-returns-clause-value c = behind_from c.args.mark c.args.text.now c.strip_prefix.result
-    (strip_prefix_char c.args.mark c.args.text.now c.strip_prefix.result c.strip_prefix.ensures.cases c.requires)

@@ -1,7 +1,0 @@
-use Rattle.std.proofs.Common.{refl}
-use Rattle.yreach.proofs.ReachLiterals.{yreach_on_literals}
-use Rattle.yreach.proofs.reaching.tuples.Goals as goal
-
-pub returns : goal.returns
-unfolding yreach_on_literals
-returns c = record { below_an_entry = refl; an_entry = refl; below_the_nearest = refl; an_entry_below_another = refl }

@@ -1,8 +1,0 @@
-use Rattle.std.proofs.Common.{◌≡◌, ◌++◌, drop, map}
-use Rattle.yspec.specs.linking.SchemaNodes.{number_in}
-use Rattle.ymodel.specs.Layout.{numbers_of}
-use Rattle.yplan.specs.NodesView.{node_view}
-use Rattle.yresolve.proofs.tuples.leaf_path.Given as goal
-
-abbrev pub invariant-loop-node : goal.invariant-loop-node
-invariant-loop-node l = numbers_of l.path.items ++ map number_in (map node_view (drop l.node-index l.node-items)) ≡ map number_in (map node_view l.node-items)

@@ -1,0 +1,21 @@
+use Rattle.std.proofs.Common.{refl}
+use Rattle.yspec.proofs.LiteralLemmas.{yspec_on_literals}
+use Rattle.ysay_text.specs.Line.{shown_line}
+use Rattle.ysay_text.specs.Near.{is_near, nearest}
+use Rattle.ysay_text.specs.Sentence.{of_line}
+use Rattle.ysay_text.proofs.examples.edits.Goals as goal
+
+pub returns : goal.returns
+unfolding yspec_on_literals is_near nearest of_line shown_line
+returns c = record {
+  same = refl;
+  less = refl;
+  more = refl;
+  other = refl;
+  exchanged = refl;
+  one_is_few = refl;
+  at_the_end = refl;
+  two = refl;
+  two_are_many = refl;
+  three = refl;
+}

@@ -1,0 +1,32 @@
+-- Tables of nodes as the specification's parts.
+use Rattle.std.specs.Prelude.{ℕ, zero, suc, List, [], ◌∷◌}
+use Rattle.yspec.specs.Forest.{Forest, join}
+use Rattle.yspec.specs.linking.Source.{Source}
+use Rattle.yspec.specs.linking.Parts.{Part}
+use Rattle.yspec.specs.linking.Expansion.{others}
+use Rattle.ybase_preorder.specs.Layout.{Place, forest_of, laid, numbered_by, seen}
+use Rattle.ybase_preorder.specs.declared.slot.Slot.{Slot}
+use Rattle.yschema_expand.specs.declared.nodes.ExpandedNode.{ExpandedNode}
+use Rattle.yschema_expand.specs.declared.table.NodeTable.{NodeTable}
+use Rattle.yschema_expand.specs.NodeView.{numbered_part}
+
+abbrev pub slots_of : NodeTable → List (Slot ExpandedNode)
+slots_of t = t.slots.items
+
+-- the parts as they lie in a table
+abbrev pub parts_in : NodeTable → List (Place Part)
+parts_in t = seen numbered_part 0 (laid (slots_of t))
+
+-- the forest of the parts in a table
+abbrev pub nodes_in : NodeTable → Forest Part
+nodes_in t = numbered_by numbered_part 0 (forest_of (slots_of t))
+
+-- a part once a refine has given it a row
+abbrev pub refined_part : Forest Source → Part → Part
+refined_part given p = record p { own = join (others given p.own) given }
+
+-- the places with the part at one of them changed
+abbrev pub changed_place : ℕ → (Part → Part) → List (Place Part) → List (Place Part)
+changed_place number change [] = []
+changed_place zero change (p ∷ ps) = record p { label = change p.label } ∷ ps
+changed_place (suc number) change (p ∷ ps) = p ∷ changed_place number change ps

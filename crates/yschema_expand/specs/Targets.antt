@@ -1,0 +1,44 @@
+-- Where the targets of refines stand.
+use Rattle.std.specs.Prelude.{ℕ, suc, ◌+◌, Bool, List, [], ◌∷◌, Option, Some, None, option_and_then, if◌then◌else◌}
+use Rattle.yspec.specs.Forest.{Forest, end, node, size}
+use Rattle.yspec.specs.linking.Source.{Source}
+use Rattle.yspec.specs.linking.Parts.{Part}
+use Rattle.yspec.specs.linking.Prefixes.{NodeName}
+use Rattle.yspec.specs.linking.Expansion.{is_step, may_bear, refine_steps}
+use Rattle.ybase_preorder.specs.View.{row_by, label_by}
+use Rattle.ybase_preorder.specs.declared.siblings.Node.{Node}
+use Rattle.yschema_expand.specs.declared.nodes.ExpandedNode.{ExpandedNode}
+use Rattle.yschema_expand.specs.NodeView.{numbered_part}
+
+-- a node of a row by its number, with what stands below it
+pub record Found : Type 0 where
+  pub number : ℕ
+  pub part : Part
+  pub below : Forest Part
+
+abbrev pub node_seen : Node ExpandedNode → Found
+node_seen c = record {
+  number = c.number;
+  part = label_by numbered_part c;
+  below = row_by numbered_part c.children;
+}
+
+-- the first of a row that passes a test, whose first node has a number
+abbrev pub found_in : (Part → Bool) → ℕ → Forest Part → Option Found
+found_in test number end = None
+found_in test number (node p below after) = if test p then Some (record { number = number; part = p; below = below })
+    else found_in test (number + suc (size below)) after
+
+-- the node at a path: the first child of each name
+abbrev pub found_at : List NodeName → ℕ → Forest Part → Option Found
+found_at [] number f = None
+found_at (step ∷ []) number f = found_in (is_step step) number f
+found_at (step ∷ next ∷ steps) number f =
+    option_and_then (λ (x : Found). found_at (next ∷ steps) (x.number + 1) x.below) (found_in (is_step step) number f)
+
+-- the number of a refine's target among some nodes, where it may bear what the refine gives
+abbrev pub fit_number : Forest Source → Option Found → Option ℕ
+fit_number given found = option_and_then (λ (x : Found). if may_bear x.part given then Some x.number else None) found
+
+abbrev pub target_in : Forest Source → ℕ → Source → Forest Source → ℕ → Forest Part → Option ℕ
+target_in modules owner s given number f = fit_number given (found_at (refine_steps modules owner s) number f)

@@ -1,0 +1,58 @@
+-- What tasks do, and how many come of them.
+use Rattle.std.specs.Prelude.{◌≡◌, ◌+◌, ℕ, zero, suc, List, if◌then◌else◌}
+use Rattle.yspec.specs.Forest.{Forest, end, node, size}
+use Rattle.yspec.specs.linking.Source.{Source}
+use Rattle.yspec.specs.linking.Parts.{Part}
+use Rattle.yspec.specs.linking.Expansion.{groupings_of, is_uses, laid, refined, refine_breaks, row_used}
+use Rattle.ybase_preorder.specs.Layout.{closed}
+use Rattle.ybase_preorder.specs.Layout as layout
+use Rattle.ybase_preorder.specs.View.{row_by, row_view}
+use Rattle.ylink_grammar.specs.SourceView.{source_view}
+use Rattle.yschema_expand.specs.TableView.{slots_of}
+use Rattle.yschema_expand.specs.Turns.{Leaves}
+use Rattle.yschema_expand.specs.Walk.{chosen, AddsParts, AllEnd, Changes}
+use Rattle.yschema_expand.specs.declared.expanding.Made.{Made}
+use Rattle.yschema_expand.specs.declared.walking.Task.{Task}
+use Rattle.yschema_expand.specs.declared.walking.Task.TheVariants.{Add, Close, Refine}
+
+abbrev pub Does : Forest Source → Task → Made → Made → Type 0
+Does modules (Add place in_choice statements) old new =
+    AddsParts modules place.parent place.owner place.depth (chosen in_choice (laid (row_by source_view statements))) old new
+Does modules (Close number) old new =
+    (layout.laid (slots_of new.table) ≡ closed number (layout.laid (slots_of old.table))) × (new.told ≡ old.told)
+Does modules (Refine owner first statements) old new = (nodes : Forest Part)
+    → Changes first nodes (refined modules owner (row_by source_view statements) nodes)
+    (refine_breaks modules owner (row_by source_view statements) nodes) old new
+
+-- no `uses` of a task leads over more groupings than its place has
+abbrev pub TaskEnds : Forest Source → Task → Type 0
+TaskEnds modules (Add place in_choice statements) =
+    AllEnd modules place.depth (chosen in_choice (laid (row_by source_view statements)))
+TaskEnds modules (Close number) = Unit {0}
+TaskEnds modules (Refine owner first statements) = Unit {0}
+
+-- ---- how many tasks come of one
+
+-- of some parts, given how many come of each `uses`
+unfoldable pub tolls : (Part → ℕ) → Forest Part → ℕ
+tolls meant end = 0
+tolls meant (node p below after) = (if is_uses p then meant p else 2 + tolls meant below) + tolls meant after
+
+unfoldable pub toll_for : Forest Source → ℕ → Part → ℕ
+toll_for modules zero u = 0
+toll_for modules (suc depth) u =
+    2 + (size modules + tolls (toll_for modules depth) (row_used modules (groupings_of modules) u))
+
+-- of a row of so many statements, which lays out these parts
+abbrev pub toll_of : Forest Source → ℕ → ℕ → Forest Part → ℕ
+toll_of modules depth count parts = count + tolls (toll_for modules depth) parts
+
+abbrev pub toll : Forest Source → Task → ℕ
+toll modules (Add place in_choice statements) =
+    toll_of modules place.depth (size (row_view statements)) (chosen in_choice (laid (row_by source_view statements)))
+toll modules (Close number) = 0
+toll modules (Refine owner first statements) = 0
+
+-- what a step leaves behind
+abbrev pub Leads : Forest Source → (Made → Made → Type 0) → ℕ → List Task → List Task → Made → Made → Type 0
+Leads modules = Leaves (Does modules) (toll modules) (TaskEnds modules)

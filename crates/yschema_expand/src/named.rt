@@ -1,0 +1,93 @@
+//! Statements with what the names in them mean.
+
+ghost use Rattle.ylink_grammar.specs.LinkView.{view};
+ghost use Rattle.ylink_names.specs.MeaningView.{AreMeanings};
+ghost use Rattle.ylink_names.specs.PrefixView.{IsOf};
+
+use ybase_preorder::Siblings;
+use ybase_words::Keyword;
+use ylink_grammar::{Source, Sources};
+use ylink_names::{Prefixes, meaning_at};
+
+/// The statements of a set of modules, with what prefixes stand for and which definition each statement names.
+#[derive(Drop)]
+pub struct Named<'a, 't> {
+    sources: &'a Sources<'t>,
+    prefixes: &'a Prefixes<'t>,
+    meanings: &'a [Option<u32>],
+    ghost prefixed: { IsOf prefixes.now (view sources.now) },
+    ghost meant: { AreMeanings meanings.now (view sources.now) },
+}
+
+impl<'a, 't> Named<'a, 't> {
+    ghost use Rattle.std.specs.Prelude.{◌≡◌, ◌≤◌, IfSome};
+    ghost use Rattle.yspec.specs.Forest.{size};
+    ghost use Rattle.yspec.specs.linking.DerivedTypes.{number_named};
+    ghost use Rattle.yspec.specs.linking.Expansion.{groupings_of, laid, row_in};
+    ghost use Rattle.ybase_preorder.specs.View.{row_view};
+    ghost use Rattle.ylink_grammar.specs.LinkView.{view};
+    ghost use Rattle.ylink_names.specs.MeaningView.{AreMeanings};
+    ghost use Rattle.ylink_names.specs.PrefixView.{IsOf};
+    ghost use Rattle.yschema_expand.specs.NamedView.{modules_of, row_named, row_or_none};
+
+    /// Those of a set, given what names in it mean.
+    pub fn new(
+        sources: &'a Sources<'t>,
+        prefixes: &'a Prefixes<'t>,
+        meanings: &'a [Option<u32>],
+    ) -> Named<'a, 't>
+        requires prefixed { IsOf prefixes.now (view sources.now) }
+        requires meant { AreMeanings meanings.now (view sources.now) }
+        ensures { modules_of result ≡ view sources.entry.now }
+    {
+        Named {
+            sources,
+            prefixes,
+            meanings,
+        }
+    }
+
+    /// The statements.
+    pub fn sources(&self) -> &'a Sources<'t>
+        ensures { view result.now ≡ modules_of self.now }
+    {
+        self.sources
+    }
+
+    /// What prefixes stand for.
+    pub fn prefixes(&self) -> &'a Prefixes<'t>
+        ensures { IsOf result.now (modules_of self.now) }
+    {
+        self.prefixes
+    }
+
+    /// The number of the definition that the statement of a number names.
+    pub(crate) fn meaning(&self, number: u32) -> Option<u32>
+        ensures { result ≡ number_named (modules_of self.now) number }
+    {
+        meaning_at(self.meanings, number as usize)
+    }
+
+    /// The row of the grouping of a number; none of any other statement.
+    pub(crate) fn grouping(&self, number: usize) -> Option<Siblings<'a, Source<'t>>>
+        ensures row { laid (row_or_none result) ≡ row_in (groupings_of (modules_of self.now)) number }
+        ensures within { IfSome result
+            (λ row. size (row_view row) ≤ size (modules_of self.now)) }
+    {
+        let slot = self.sources.slots().get(number)?;
+        if Keyword::Grouping.is(slot.label.keyword) {
+            Some(self.sources.below(number as u32))
+        } else {
+            None
+        }
+    }
+
+    /// The row of the grouping that the statement of a number uses.
+    pub(crate) fn grouping_used(&self, number: u32) -> Option<Siblings<'a, Source<'t>>>
+        ensures row { laid (row_or_none result) ≡ row_named (modules_of self.now) number }
+        ensures within { IfSome result
+            (λ row. size (row_view row) ≤ size (modules_of self.now)) }
+    {
+        self.grouping(self.meaning(number)? as usize)
+    }
+}

@@ -1,0 +1,137 @@
+//! Nodes that stand for statements.
+
+use std::alloc::{AllocError, Global};
+use ybase_preorder::{Node, Siblings};
+use ybase_words::Keyword;
+use ylink_grammar::{BrokenRule, CompileCode, Source, argument_of, broken};
+
+/// A node that a statement defines, or the case that a single node of a choice stands for (RFC 7950, 7.9.2), where a module
+/// uses it.
+#[derive(Drop)]
+pub struct ExpandedNode<'a, 't> {
+    // Its statement, wherever it stands. What it states of the node is changed by refines.
+    source: Node<'a, Source<'t>>,
+    // Whether it is the case that its statement stands for, and not the node itself.
+    is_implied: bool,
+    // The number of the module to which it belongs.
+    owner: usize,
+    // The number of the augment that put it below its target.
+    added_by: Option<u32>,
+    // What refines give it, one after another.
+    pub(crate) refines: Vec<Siblings<'a, Source<'t>>>,
+}
+
+impl<'a, 't> ExpandedNode<'a, 't> {
+    ghost use Rattle.std.specs.Prelude.{◌≡◌, ◌++◌, ◌∷◌, [], IfOk, OnOk};
+    ghost use Rattle.yspec.specs.linking.Source as sources;
+    ghost use Rattle.yspec.specs.schema.Breaks as breaks;
+    ghost use Rattle.ylink_grammar.specs.BreakView.{break_view, code_number};
+    ghost use Rattle.ybase_preorder.specs.View.{row_by, label_by};
+    ghost use Rattle.ybase_words.specs.KeywordView.{keyword_view};
+    ghost use Rattle.ylink_grammar.specs.SourceView.{source_view};
+    ghost use Rattle.yspec.specs.linking.Parts.{own_of};
+    ghost use Rattle.yschema_expand.specs.NamedView.{row_or_none};
+    ghost use Rattle.yschema_expand.specs.NodeView.{marked_with, part_for, part_view, plain_part};
+    ghost use Rattle.yschema_expand.specs.TableView.{refined_part};
+
+    /// The node that a statement defines, or the case that it stands for, in a module, before refines.
+    pub(crate) fn new(
+        alloc: Global,
+        source: Node<'a, Source<'t>>,
+        is_implied: bool,
+        owner: usize,
+    ) -> ExpandedNode<'a, 't>
+        ensures { part_view result ≡ part_for owner is_implied (label_by source_view source.entry)
+            (row_by source_view source.entry.children) }
+    {
+        ExpandedNode {
+            source,
+            is_implied,
+            owner,
+            added_by: None,
+            refines: Vec::new(alloc),
+        }
+    }
+
+    /// A copy of it, with the number of the augment that adds the copy, where one does.
+    pub fn copied(
+        &self,
+        alloc: Global,
+        added_by: Option<u32>,
+    ) -> Result<ExpandedNode<'a, 't>, AllocError>
+        ensures { IfOk result (λ made. part_view made ≡ marked_with added_by (part_view self.now)) }
+    {
+        let mut refines = Vec::new(alloc);
+        for given in &self.refines {
+            refines.push(*given)?;
+        }
+        Ok(ExpandedNode {
+            source: self.source,
+            is_implied: self.is_implied,
+            owner: self.owner,
+            added_by: added_by.or(self.added_by),
+            refines,
+        })
+    }
+
+    /// Gives it a row of statements, which take the place of its own of the same kinds.
+    pub(crate) fn refine(&mut self, given: Siblings<'a, Source<'t>>) -> Result<(), AllocError>
+        ensures { OnOk result (part_view self.new
+            ≡ refined_part (row_by source_view given.entry) (part_view self.old)) }
+    {
+        self.refines.push(given)?;
+        Ok(())
+    }
+
+    /// The row in which its own statements stand, besides those that define nodes; a case that is implied has none.
+    pub(crate) fn own(&self) -> Option<Siblings<'a, Source<'t>>>
+        ensures { own_of (row_or_none result) ≡ (plain_part self.now).own }
+    {
+        if self.is_implied {
+            None
+        } else {
+            Some(self.source.children())
+        }
+    }
+
+    /// The keyword of its statement; that of a case, where one is implied.
+    pub fn keyword(&self) -> Keyword
+        ensures { keyword_view result ≡ (part_view self.now).source.keyword }
+    {
+        if self.is_implied {
+            Keyword::Case
+        } else {
+            self.source.label().keyword
+        }
+    }
+
+    /// The number of the module to which it belongs.
+    pub fn owner(&self) -> usize
+        ensures { result ≡ (part_view self.now).owner }
+    {
+        self.owner
+    }
+
+    /// The number of the `augment` that put it below its target, where one did.
+    pub fn added_by(&self) -> Option<u32>
+        ensures { result ≡ (part_view self.now).added_by }
+    {
+        self.added_by
+    }
+
+    /// Its name.
+    pub fn name(&self) -> &'t str
+        ensures { result.now ≡ sources.argument_in (part_view self.now).source }
+    {
+        argument_of(self.source)
+    }
+
+    /// A rule that it breaks, which is told at its statement, wherever that stands.
+    pub fn broken(&self, code: CompileCode) -> BrokenRule
+        ensures { let s = (part_view self.now).source in
+            break_view result ∷ [] ≡ breaks.broken (code_number code) s.home s.statement.line }
+    {
+        let label = self.source.label();
+        broken(code, label.home, label.statement)
+    }
+}

@@ -1,0 +1,72 @@
+//! What nodes state once refines have changed them (RFC 7950, 7.13.2).
+
+ghost use Rattle.std.specs.Prelude.{◌≡◌};
+ghost use Rattle.std.specs.List.{list_any};
+ghost use Rattle.yspec.specs.Forest.{row};
+ghost use Rattle.yspec.specs.linking.Source.{is_source_of};
+ghost use Rattle.ybase_preorder.specs.View.{row_by};
+ghost use Rattle.ybase_words.specs.KeywordView.{keyword_view};
+ghost use Rattle.ylink_grammar.specs.SourceView.{source_view};
+
+use crate::nodes::ExpandedNode;
+use ybase_preorder::{Node, Siblings};
+use ybase_words::Keyword;
+use ylink_grammar::{Source, argument_with, found_with};
+
+/// Whether a row has a statement of a keyword.
+fn has_any(keyword: Keyword, statements: Siblings<'_, Source<'_>>) -> bool
+    ensures { result ≡ list_any (is_source_of (keyword_view keyword))
+        (row (row_by source_view statements.entry)) }
+{
+    for statement in statements {
+        if keyword.is(statement.label().keyword) {
+            return true;
+        }
+    }
+    false
+}
+
+impl<'a, 't> ExpandedNode<'a, 't> {
+    ghost use Rattle.std.specs.Prelude.{◌≡◌, false, option_map};
+    ghost use Rattle.yspec.specs.linking.Parts.{defines_node};
+    ghost use Rattle.yspec.specs.linking.Source as sources;
+    ghost use Rattle.ybase_words.specs.KeywordView.{keyword_view};
+    ghost use Rattle.ylink_grammar.specs.SourceView.{node_view};
+    ghost use Rattle.yschema_expand.specs.NodeView.{part_view};
+    ghost use Rattle.yschema_expand.specs.NamedView.{row_or_none};
+    ghost use Rattle.yschema_expand.specs.Stating.{SameFor};
+
+    /// The row in which what it states with a keyword stands, which is none of those that define nodes: that of the last
+    /// refine that gives such statements, else its own.
+    pub fn row_stating(&self, keyword: Keyword) -> Option<Siblings<'a, Source<'t>>>
+        requires { defines_node (keyword_view keyword) ≡ false }
+        ensures { SameFor (keyword_view keyword) (row_or_none result) (part_view self.now).own }
+    {
+        let mut stating = self.own();
+        for given in &self.refines {
+            if !has_any(keyword, *given) {
+                continue;
+            }
+            stating = Some(*given);
+        }
+        stating
+    }
+
+    /// The first statement that it has with a keyword, which is none of those that define nodes.
+    pub fn first_own(&self, keyword: Keyword) -> Option<Node<'a, Source<'t>>>
+        requires { defines_node (keyword_view keyword) ≡ false }
+        ensures { option_map node_view result
+            ≡ sources.found_with (keyword_view keyword) (part_view self.now).own }
+    {
+        found_with(keyword, self.row_stating(keyword)?)
+    }
+
+    /// The argument of the first statement that it has with a keyword, which is none of those that define nodes.
+    pub fn own_argument(&self, keyword: Keyword) -> Option<&'t str>
+        requires { defines_node (keyword_view keyword) ≡ false }
+        ensures { option_map (λ text. text.now) result
+            ≡ sources.argument_with (keyword_view keyword) (part_view self.now).own }
+    {
+        argument_with(keyword, self.row_stating(keyword)?)
+    }
+}

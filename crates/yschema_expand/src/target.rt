@@ -1,0 +1,67 @@
+//! The nodes to which the paths of refines lead (RFC 7950, 6.5 and 7.13.2).
+
+ghost use Rattle.std.specs.Prelude.{◌≡◌, ◌+◌, IfSome, map, option_map};
+ghost use Rattle.yspec.specs.Forest.{Forest};
+ghost use Rattle.yspec.specs.linking.Source as sources;
+ghost use Rattle.yspec.specs.linking.Prefixes as spec;
+ghost use Rattle.yspec.specs.linking.Expansion.{is_step};
+ghost use Rattle.ybase_preorder.specs.View.{row_by};
+ghost use Rattle.ylink_grammar.specs.NameView.{names_view};
+ghost use Rattle.ylink_names.specs.PrefixView.{IsOf, node_name_view};
+ghost use Rattle.yschema_expand.specs.NodeView.{numbered_part, part_view};
+ghost use Rattle.yschema_expand.specs.Targets.{node_seen, found_in, found_at};
+
+use crate::nodes::ExpandedNode;
+use ybase_preorder::{Node, Siblings};
+use ylink_grammar::Name;
+use ylink_names::{NodeName, Prefixes};
+
+/// Whether a node has a name.
+fn is_called(node: &ExpandedNode<'_, '_>, step: &NodeName<'_>) -> bool
+    ensures { result ≡ is_step (node_name_view step.now) (part_view node.now) }
+{
+    match step.module {
+        Some(module) => module == node.owner() && node.name() == step.name,
+        None => false,
+    }
+}
+
+/// The first of some siblings that has a name.
+fn child_called<'p, 'a, 't>(
+    step: &NodeName<'_>,
+    nodes: Siblings<'p, ExpandedNode<'a, 't>>,
+) -> Option<Node<'p, ExpandedNode<'a, 't>>>
+    ensures found { option_map node_seen result ≡ found_in (is_step (node_name_view step.now))
+        nodes.entry.number (row_by numbered_part nodes.entry) }
+    ensures below { IfSome result (λ node. node.children.number ≡ node.number + 1) }
+{
+    for node in nodes {
+        if is_called(node.label(), step) {
+            return Some(node);
+        }
+    }
+    None
+}
+
+/// The node at a path that begins among some siblings, the names of which stand in a module; those without a prefix are of
+/// a module that is given.
+pub(crate) fn node_at<'p, 'a, 't>(
+    prefixes: &Prefixes<'_>,
+    home: usize,
+    owner: usize,
+    path: &[Name<'_>],
+    nodes: Siblings<'p, ExpandedNode<'a, 't>>,
+) -> Option<Node<'p, ExpandedNode<'a, 't>>>
+    ensures { (modules : Forest sources.Source) → IsOf prefixes.now modules
+        → option_map node_seen result
+        ≡ found_at (map (spec.node_name modules home owner) (names_view path.now))
+        nodes.entry.number (row_by numbered_part nodes.entry) }
+{
+    let (first, mut left) = path.split_first()?;
+    let mut found = child_called(&prefixes.node_name(home, owner, *first), nodes)?;
+    while let Some((name, steps)) = left.split_first() {
+        found = child_called(&prefixes.node_name(home, owner, *name), found.children())?;
+        left = steps;
+    }
+    Some(found)
+}

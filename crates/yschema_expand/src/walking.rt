@@ -1,0 +1,296 @@
+//! How nodes are made, step by step: what is still to be done stands in a list, since groupings may lead through as many
+//! others as there are statements.
+
+ghost use Rattle.std.specs.Prelude.{◌≡◌, ◌+◌, OnOk, true, false};
+ghost use Rattle.yspec.specs.Forest.{end, node, size};
+ghost use Rattle.yspec.specs.linking.Expansion.{groupings_of, is_uses, laid};
+ghost use Rattle.yspec.specs.linking.Parts.{case_for, part_of, within};
+ghost use Rattle.yspec.specs.linking.Rewriting.{ends_within};
+ghost use Rattle.ybase_preorder.specs.View.{row_by, row_view, label_by};
+ghost use Rattle.ylink_grammar.specs.SourceView.{source_view};
+ghost use Rattle.yschema_expand.specs.NamedView.{modules_of, row_named};
+ghost use Rattle.yschema_expand.specs.Walk.{chosen, is_laid, AddsParts, AllEnd};
+ghost use Rattle.yschema_expand.specs.Knowing.{Knows};
+ghost use Rattle.yschema_expand.specs.Tasks.{toll, toll_of, Does, Leads, TaskEnds};
+
+use crate::expanding::{Context, Made, Place};
+use crate::groupings::least_of;
+use crate::laying::{has_keyword, is_laid, is_single};
+use crate::nodes::ExpandedNode;
+use crate::refining::refine;
+use std::alloc::{AllocError, Global};
+use ybase_preorder::{Node, Siblings};
+use ybase_words::Keyword;
+use ylink_grammar::Source;
+
+/// What is still to be done.
+#[derive(Clone, Copy)]
+pub(crate) enum Task<'a, 't> {
+    /// To add what some statements define or use; in a choice single ones stand for cases.
+    Add(Place, bool, Siblings<'a, Source<'t>>),
+    /// To close the node of a number: all behind it stand below it.
+    Close(u32),
+    /// To refine, for a module, the nodes from that of a number on.
+    Refine(usize, u32, Siblings<'a, Source<'t>>),
+}
+
+/// Adds the nodes that some statements define or use, with all below them; in a choice single ones stand for cases.
+pub(crate) fn add_nodes<'a, 't>(
+    alloc: Global,
+    context: &Context<'a, 't>,
+    place: Place,
+    in_choice: bool,
+    statements: Siblings<'a, Source<'t>>,
+    made: &mut Made<'a, 't>,
+) -> Result<(), AllocError>
+    requires known { Knows context.now.groupings.now (modules_of context.now.named.now) }
+    requires ends { AllEnd (modules_of context.now.named.now) place.depth
+        (chosen in_choice (laid (row_by source_view statements))) }
+    ensures { OnOk result (AddsParts (modules_of context.now.named.now) place.parent place.owner place.depth
+        (chosen in_choice (laid (row_by source_view statements.entry))) made.old made.new) }
+{
+    let mut tasks = Vec::new(alloc);
+    tasks.push(Task::Add(place, in_choice, statements))?;
+    while let Some(task) = tasks.pop() {
+        perform(alloc, context, task, &mut tasks, made)?;
+    }
+    Ok(())
+}
+
+/// Does a task, or leaves the rest of it behind.
+fn perform<'a, 't>(
+    alloc: Global,
+    context: &Context<'a, 't>,
+    task: Task<'a, 't>,
+    tasks: &mut Vec<Task<'a, 't>>,
+    made: &mut Made<'a, 't>,
+) -> Result<(), AllocError>
+    requires known { Knows context.now.groupings.now (modules_of context.now.named.now) }
+    requires ends { TaskEnds (modules_of context.now.named.now) task }
+    ensures { let m = modules_of context.now.named.now in
+        OnOk result (Leads m (Does m task.entry) (toll m task.entry) tasks.old.items tasks.new.items made.old made.new) }
+{
+    match task {
+        Task::Add(place, in_choice, statements) => {
+            add_first(alloc, context, place, in_choice, statements, tasks, made)
+        }
+        Task::Close(number) => {
+            made.table.close(number);
+            Ok(())
+        }
+        Task::Refine(owner, first, statements) => {
+            let prefixes = context.named.prefixes();
+            refine(alloc, prefixes, owner, first, statements, made)
+        }
+    }
+}
+
+/// Adds what the first of some statements defines or uses, and leaves the others behind.
+fn add_first<'a, 't>(
+    alloc: Global,
+    context: &Context<'a, 't>,
+    place: Place,
+    in_choice: bool,
+    statements: Siblings<'a, Source<'t>>,
+    tasks: &mut Vec<Task<'a, 't>>,
+    made: &mut Made<'a, 't>,
+) -> Result<(), AllocError>
+    requires known { Knows context.now.groupings.now (modules_of context.now.named.now) }
+    requires ends { AllEnd (modules_of context.now.named.now) place.depth
+        (chosen in_choice (laid (row_by source_view statements))) }
+    ensures { let m = modules_of context.now.named.now in
+        let parts = chosen in_choice (laid (row_by source_view statements.entry)) in
+        OnOk result (Leads m (AddsParts m place.parent place.owner place.depth parts)
+        (toll_of m place.depth (size (row_view statements.entry)) parts)
+        tasks.old.items tasks.new.items made.old made.new) }
+{
+    let mut others = statements;
+    let Some(statement) = others.next() else {
+        return Ok(());
+    };
+    tasks.push(Task::Add(place, in_choice, others))?;
+    add_statement(alloc, context, place, in_choice, statement, tasks, made)
+}
+
+/// Adds what a statement defines or uses.
+fn add_statement<'a, 't>(
+    alloc: Global,
+    context: &Context<'a, 't>,
+    place: Place,
+    in_choice: bool,
+    statement: Node<'a, Source<'t>>,
+    tasks: &mut Vec<Task<'a, 't>>,
+    made: &mut Made<'a, 't>,
+) -> Result<(), AllocError>
+    requires known { Knows context.now.groupings.now (modules_of context.now.named.now) }
+    requires ends { AllEnd (modules_of context.now.named.now) place.depth (chosen in_choice
+        (laid (node (label_by source_view statement) (row_by source_view statement.children) end))) }
+    ensures { let m = modules_of context.now.named.now in
+        let parts = chosen in_choice (laid (node (label_by source_view statement.entry)
+        (row_by source_view statement.entry.children) end)) in
+        OnOk result (Leads m (AddsParts m place.parent place.owner place.depth parts)
+        (toll_of m place.depth (size (row_view statement.entry.children)) parts)
+        tasks.old.items tasks.new.items made.old made.new) }
+{
+    if !is_laid(statement) {
+        return Ok(());
+    }
+    if is_single(in_choice, statement) {
+        return add_case(alloc, context, place, statement, tasks, made);
+    }
+    add_alone(alloc, context, place, statement, tasks, made)
+}
+
+/// Adds the case for which a single statement of a choice stands, with what that defines or uses in it.
+fn add_case<'a, 't>(
+    alloc: Global,
+    context: &Context<'a, 't>,
+    place: Place,
+    statement: Node<'a, Source<'t>>,
+    tasks: &mut Vec<Task<'a, 't>>,
+    made: &mut Made<'a, 't>,
+) -> Result<(), AllocError>
+    requires known { Knows context.now.groupings.now (modules_of context.now.named.now) }
+    requires laid { is_laid (label_by source_view statement) ≡ true }
+    requires ends { AllEnd (modules_of context.now.named.now) place.depth
+        (laid (node (label_by source_view statement) (row_by source_view statement.children) end)) }
+    ensures { let m = modules_of context.now.named.now in
+        let s = label_by source_view statement.entry in
+        let below = row_by source_view statement.entry.children in
+        let parts = node (case_for (part_of s below)) (laid (node s below end)) end in
+        OnOk result (Leads m (AddsParts m place.parent place.owner place.depth parts)
+        (toll_of m place.depth (size (row_view statement.entry.children)) parts)
+        tasks.old.items tasks.new.items made.old made.new) }
+{
+    let label = ExpandedNode::new(alloc, statement, true, place.owner);
+    let number = made.table.open(place.parent, label)?;
+    tasks.push(Task::Close(number))?;
+    let inside = Place {
+        parent: Some(number),
+        ..place
+    };
+    add_alone(alloc, context, inside, statement, tasks, made)
+}
+
+/// Adds what a statement defines or uses, whether or not it stands for a case.
+fn add_alone<'a, 't>(
+    alloc: Global,
+    context: &Context<'a, 't>,
+    place: Place,
+    statement: Node<'a, Source<'t>>,
+    tasks: &mut Vec<Task<'a, 't>>,
+    made: &mut Made<'a, 't>,
+) -> Result<(), AllocError>
+    requires known { Knows context.now.groupings.now (modules_of context.now.named.now) }
+    requires laid { is_laid (label_by source_view statement) ≡ true }
+    requires ends { AllEnd (modules_of context.now.named.now) place.depth
+        (laid (node (label_by source_view statement) (row_by source_view statement.children) end)) }
+    ensures { let m = modules_of context.now.named.now in
+        let parts = laid (node (label_by source_view statement.entry)
+        (row_by source_view statement.entry.children) end) in
+        OnOk result (Leads m (AddsParts m place.parent place.owner place.depth parts)
+        (toll_of m place.depth (size (row_view statement.entry.children)) parts)
+        tasks.old.items tasks.new.items made.old made.new) }
+{
+    if has_keyword(statement, Keyword::Uses) {
+        return add_uses(context, place, statement, tasks, made);
+    }
+    add_node(alloc, context, place, statement, tasks, made)
+}
+
+/// Adds the node that a statement defines, and leaves behind what stands below it.
+fn add_node<'a, 't>(
+    alloc: Global,
+    context: &Context<'a, 't>,
+    place: Place,
+    statement: Node<'a, Source<'t>>,
+    tasks: &mut Vec<Task<'a, 't>>,
+    made: &mut Made<'a, 't>,
+) -> Result<(), AllocError>
+    requires node { is_uses (part_of (label_by source_view statement)
+        (row_by source_view statement.children)) ≡ false }
+    requires ends { let s = label_by source_view statement in
+        AllEnd (modules_of context.now.named.now) place.depth
+        (within s (laid (row_by source_view statement.children))) }
+    ensures { let m = modules_of context.now.named.now in
+        let s = label_by source_view statement.entry in
+        let below = row_by source_view statement.entry.children in
+        let parts = node (part_of s below) (within s (laid below)) end in
+        OnOk result (Leads m (AddsParts m place.parent place.owner place.depth parts)
+        (toll_of m place.depth (size (row_view statement.entry.children)) parts)
+        tasks.old.items tasks.new.items made.old made.new) }
+{
+    let in_choice = has_keyword(statement, Keyword::Choice);
+    let label = ExpandedNode::new(alloc, statement, false, place.owner);
+    let number = made.table.open(place.parent, label)?;
+    tasks.push(Task::Close(number))?;
+    let inside = Place {
+        parent: Some(number),
+        ..place
+    };
+    tasks.push(Task::Add(inside, in_choice, statement.children()))?;
+    Ok(())
+}
+
+/// Leaves behind what a `uses` stands for: the nodes of its grouping, and then its refines.
+fn add_uses<'a, 't>(
+    context: &Context<'a, 't>,
+    place: Place,
+    uses: Node<'a, Source<'t>>,
+    tasks: &mut Vec<Task<'a, 't>>,
+    made: &mut Made<'a, 't>,
+) -> Result<(), AllocError>
+    requires known { Knows context.now.groupings.now (modules_of context.now.named.now) }
+    requires uses { is_uses (part_of (label_by source_view uses)
+        (row_by source_view uses.children)) ≡ true }
+    requires ends { let m = modules_of context.now.named.now in
+        ends_within m (groupings_of m) place.depth (part_of (label_by source_view uses)
+        (row_by source_view uses.children)) ≡ true }
+    ensures { let m = modules_of context.now.named.now in
+        let parts = node (part_of (label_by source_view uses.entry)
+        (row_by source_view uses.entry.children)) end end in
+        OnOk result (Leads m (AddsParts m place.parent place.owner place.depth parts)
+        (toll_of m place.depth (size (row_view uses.entry.children)) parts)
+        tasks.old.items tasks.new.items made.old made.new) }
+{
+    if place.depth == 0 {
+        return Ok(());
+    }
+    let inside = Place {
+        depth: place.depth - 1,
+        ..place
+    };
+    let first = made.table.len();
+    tasks.push(Task::Refine(place.owner, first, uses.children()))?;
+    add_grouping(context, inside, uses.number(), tasks, made)
+}
+
+/// Leaves behind the nodes of the grouping that the statement of a number uses. One without nodes isn't gone through: its
+/// refines are known.
+fn add_grouping<'a, 't>(
+    context: &Context<'a, 't>,
+    place: Place,
+    number: u32,
+    tasks: &mut Vec<Task<'a, 't>>,
+    made: &mut Made<'a, 't>,
+) -> Result<(), AllocError>
+    requires known { Knows context.now.groupings.now (modules_of context.now.named.now) }
+    requires ends { AllEnd (modules_of context.now.named.now) place.depth
+        (row_named (modules_of context.now.named.now) number) }
+    ensures { let m = modules_of context.now.named.now in
+        OnOk result (Leads m (AddsParts m place.parent place.owner place.depth (row_named m number))
+        (toll_of m place.depth (size m) (row_named m number) + 1)
+        tasks.old.items tasks.new.items made.old made.new) }
+{
+    if context.groupings.is_without_nodes(context.named, number) {
+        made.told = least_of(
+            made.told,
+            context.groupings.refine_in(context.named, number),
+        );
+        return Ok(());
+    }
+    if let Some(row) = context.named.grouping_used(number) {
+        tasks.push(Task::Add(place, false, row))?;
+    }
+    Ok(())
+}

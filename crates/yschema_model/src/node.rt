@@ -1,0 +1,189 @@
+//! Schema nodes.
+
+ghost use Rattle.std.specs.Prelude.{◌≡◌, ◌<◌, ◌^◌};
+
+use std::alloc::{AllocError, Global};
+use ybase_words::{BuiltIn, Status};
+use ytype::{Val, YType};
+
+/// A schema node, named by its number in preorder over all nodes of the schema, modules as given.
+#[derive(Clone, Copy, Debug, PartialEq, Eq, PartialOrd, Ord, Hash)]
+pub struct SchemaId(pub u32);
+
+impl SchemaId {
+    /// The node of a number.
+    pub fn new(number: u32) -> SchemaId
+        ensures { result ≡ record { 0 = number } }
+    {
+        SchemaId(number)
+    }
+
+    /// Its number, from 0.
+    pub fn number(self) -> usize
+        ensures value { result ≡ self.0 }
+        ensures bound { result < 2 ^ 32 }
+    {
+        self.0 as usize
+    }
+}
+
+/// The name of a type as its `type` statement has it, with its prefix (RFC 7950, 7.4).
+#[derive(Debug, Drop)]
+pub enum TypeName {
+    /// That of a built-in type.
+    BuiltIn(BuiltIn),
+    /// Any other: that of a derived type.
+    Derived(String),
+}
+
+impl TypeName {
+    ghost use Rattle.std.specs.Prelude.{◌≡◌, IfOk};
+    ghost use Rattle.yschema_model.specs.Layout.{type_name_view};
+
+    /// The name that a text is. That of a built-in type takes no memory.
+    pub fn of(alloc: Global, text: &str) -> Result<TypeName, AllocError>
+        ensures { IfOk result (λ name. type_name_view name ≡ text.now) }
+    {
+        match BuiltIn::named(text) {
+            Some(built_in) => Ok(TypeName::BuiltIn(built_in)),
+            None => Ok(TypeName::Derived(String::from_str(alloc, text)?)),
+        }
+    }
+
+    /// Its text.
+    pub fn text(&self) -> &str
+        ensures { result.now ≡ type_name_view self.now }
+    {
+        match self {
+            TypeName::BuiltIn(built_in) => built_in.name(),
+            TypeName::Derived(text) => text.as_str(),
+        }
+    }
+}
+
+/// The type of a leaf or of items, and its name in the `type` statement; of a leafref it is that of its target, which
+/// stands beside it (RFC 7950, 9.9).
+#[derive(Debug, Drop)]
+pub struct LeafType {
+    pub name: TypeName,
+    pub value_type: YType,
+    pub target: Option<SchemaId>,
+}
+
+/// What it means that a leaf isn't stored.
+#[derive(Debug, Drop)]
+pub enum Absence {
+    /// Nothing.
+    Allowed,
+    /// Its default is in use (RFC 7950, 7.6.1).
+    DefaultUsed(Val),
+    /// It is mandatory (RFC 7950, 7.6.5).
+    Mandatory,
+    /// It is a key of its list (RFC 7950, 7.8.2).
+    Key,
+}
+
+/// How many entries or items there may be: min-elements and max-elements (RFC 7950, 7.7.5 and 7.7.6).
+#[derive(Clone, Copy, Debug, PartialEq, Eq)]
+pub struct Amount {
+    pub min_elements: u32,
+    pub max_elements: Option<u32>,
+}
+
+/// The leafs of a list whose values tell its entries apart (RFC 7950, 7.8.2 and 7.8.3).
+#[derive(Debug, Drop)]
+pub struct Tuples {
+    /// Those of its key, which stand directly in it.
+    pub keys: Vec<SchemaId>,
+    /// Those of each `unique`, each by the containers that lead to it and itself.
+    pub uniques: Vec<Vec<Vec<SchemaId>>>,
+}
+
+/// What only one kind of node has.
+#[derive(Debug, Drop)]
+pub enum Kind {
+    /// A container, and whether its presence means something (RFC 7950, 7.5.1).
+    Container {
+        presence: bool,
+    },
+    /// RFC 7950, 7.6.
+    Leaf {
+        leaf_type: LeafType,
+        absence: Absence,
+    },
+    /// With its defaults (RFC 7950, 7.7).
+    LeafList {
+        leaf_type: LeafType,
+        defaults: Vec<Val>,
+        amount: Amount,
+    },
+    /// RFC 7950, 7.8.
+    List {
+        tuples: Tuples,
+        amount: Amount,
+    },
+    /// With its default case (RFC 7950, 7.9).
+    Choice {
+        default_case: Option<SchemaId>,
+        mandatory: bool,
+    },
+    Case,
+}
+
+impl Kind {
+    ghost use Rattle.std.specs.Prelude.{◌≡◌, option_map};
+    ghost use Rattle.yspec.specs.schema.Schema as spec;
+    ghost use Rattle.yschema_model.specs.Layout.{kind_view, leaf_type_view, numbers_of};
+
+    /// Whether it stands in documents: all but choices and cases.
+    pub fn is_data(&self) -> bool
+        ensures { result ≡ spec.is_data (kind_view self.now) }
+    {
+        !matches!(self, Kind::Choice { .. } | Kind::Case)
+    }
+
+    /// Whether it may be stored more than once in a row.
+    pub fn is_many(&self) -> bool
+        ensures { result ≡ spec.is_many (kind_view self.now) }
+    {
+        matches!(self, Kind::List { .. } | Kind::LeafList { .. })
+    }
+
+    /// Whether it holds a value.
+    pub fn has_value(&self) -> bool
+        ensures { result ≡ spec.has_value (kind_view self.now) }
+    {
+        matches!(self, Kind::Leaf { .. } | Kind::LeafList { .. })
+    }
+
+    /// The key leafs of a list; none of another kind, nor of a list without key.
+    pub fn keys(&self) -> &[SchemaId]
+        ensures { numbers_of result.now ≡ spec.keys_in (kind_view self.now) }
+    {
+        match self {
+            Kind::List { tuples, .. } => tuples.keys.as_slice(),
+            _ => &[],
+        }
+    }
+
+    /// The type of a leaf or of items; none of a kind without a value.
+    pub fn leaf_type(&self) -> Option<&LeafType>
+        ensures { option_map (λ t. leaf_type_view t.now) result
+            ≡ spec.type_in (kind_view self.now) }
+    {
+        match self {
+            Kind::Leaf { leaf_type, .. } | Kind::LeafList { leaf_type, .. } => Some(leaf_type),
+            _ => None,
+        }
+    }
+}
+
+/// All that a schema holds of a node. The module is given by its number in the set.
+#[derive(Debug, Drop)]
+pub struct SchemaNode {
+    pub module: usize,
+    pub name: String,
+    pub config: bool,
+    pub status: Status,
+    pub kind: Kind,
+}

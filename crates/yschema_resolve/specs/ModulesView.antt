@@ -1,0 +1,34 @@
+-- What the modules of a set call themselves and one another, as the specification's.
+use Rattle.std.specs.Prelude.{◌≡◌, ℕ, List, [], map, slice_get, Option}
+use Rattle.std.specs.Option.{option_map_or}
+use Rattle.std.specs.String.{string_bytes}
+use Rattle.yspec.specs.Forest.{Forest}
+use Rattle.yspec.specs.types.Identities.{ModuleNames}
+use Rattle.yspec.specs.types.Types.{YangType, Val}
+use Rattle.yspec.specs.types.Values.{value_of_text}
+use Rattle.yspec.specs.linking.Source.{Source, Stated}
+use Rattle.yspec.specs.linking.Identities.{names_of}
+use Rattle.ytype.specs.Identities.{pair_view}
+use Rattle.yschema_resolve.specs.declared.modules.NamedModule.{NamedModule}
+use Rattle.yschema_resolve.specs.declared.modules.ModuleTable.{ModuleTable}
+
+abbrev pub named_view : NamedModule → ModuleNames
+named_view m = record { own = string_bytes m.own.value; prefixed = map pair_view m.prefixed.items }
+
+-- what is said of a module that isn't there
+abbrev pub nothing_named : ModuleNames
+nothing_named = record { own = []; prefixed = [] }
+
+abbrev pub names_at : List NamedModule → ℕ → ModuleNames
+names_at modules number = option_map_or named_view (slice_get modules number) nothing_named
+
+abbrev pub names_in : ModuleTable → ℕ → ModuleNames
+names_in table number = names_at table.modules.items number
+
+-- These are the names of each module of a set.
+abbrev pub AreNamesOf : ModuleTable → Forest Source → Type 0
+AreNamesOf table modules = (number : ℕ) → names_in table number ≡ names_of modules number
+
+-- what a type makes of a text of a module
+abbrev pub value_by : ModuleTable → YangType → Stated → Option Val
+value_by table type t = value_of_text (names_in table t.home) type t.text

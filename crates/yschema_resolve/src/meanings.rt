@@ -1,0 +1,139 @@
+//! What the `type` statements of nodes mean, and to which nodes leafrefs refer (RFC 7950, 9.9).
+
+ghost use Rattle.std.specs.Prelude.{◌≡◌, map, option_map, None, IfOk};
+ghost use Rattle.yspec.specs.linking.Planned as spec;
+ghost use Rattle.yspec.specs.linking.Planned.{meant_in, nodes_of};
+ghost use Rattle.yspec.specs.linking.Prefixes.{node_name};
+ghost use Rattle.yspec.specs.linking.SchemaNodes.{number_in};
+ghost use Rattle.ylink_grammar.specs.NameView.{names_view};
+ghost use Rattle.ylink.specs.TypeView.{meant_view};
+ghost use Rattle.ylink.specs.LinkedView.{IsOf};
+ghost use Rattle.yschema_plan.specs.NodesView.{node_view};
+ghost use Rattle.yschema_plan.specs.PlannedView.{planned_view};
+ghost use Rattle.yschema_plan.specs.PlanView.{view};
+ghost use Rattle.yschema_resolve.specs.TypesView.{meants_view};
+
+use std::alloc::{AllocError, Global};
+use ybase_words::Keyword;
+use ylink::{Linked, Meant};
+use ylink_grammar::Name;
+use yschema_plan::{Plan, PlanNode, Planned};
+
+/// What the type of each node means, and the node to which it refers, by number.
+#[derive(Drop)]
+pub(crate) struct Meanings<'l, 't> {
+    pub meant: Vec<Option<&'l Meant<'t>>>,
+    pub targets: Vec<Option<u32>>,
+}
+
+/// What the `type` statement of a node means; nothing where it has none that is right.
+fn meaning_of<'l, 't>(linked: &'l Linked<'t>, planned: &Planned<'_, 't>) -> Option<&'l Meant<'t>>
+    ensures { (plan : spec.Plan) (number : _) → IsOf linked.entry.now plan.modules
+        → option_map (λ m. meant_view m.now) result
+        ≡ meant_in plan (planned_view number planned.now) }
+{
+    match planned.first_own(Keyword::Type) {
+        Some(statement) => linked.meant(statement.number()),
+        None => None,
+    }
+}
+
+/// The number of a node, where there is one.
+fn number_of(node: Option<PlanNode<'_, '_>>) -> Option<u32>
+    ensures { result ≡ option_map number_in (option_map node_view node.entry) }
+{
+    match node {
+        Some(node) => Some(node.number),
+        None => None,
+    }
+}
+
+/// The data node to which the steps of a path lead that stands in a module; a name without a prefix is of the owner.
+fn data_node_at<'a, 't>(
+    plan: &Plan<'a, 't>,
+    home: usize,
+    owner: usize,
+    steps: &[Name<'_>],
+) -> Option<PlanNode<'a, 't>>
+    ensures { let p = view plan.now in option_map node_view result
+        ≡ spec.data_node_at p None (map (node_name p.modules home owner) (names_view steps.now)) }
+{
+    let mut found: Option<PlanNode<'a, 't>> = None;
+    for step in steps {
+        let name = plan.node_name(home, owner, *step);
+        found = Some(plan.data_child_called(number_of(found), name)?);
+    }
+    found
+}
+
+/// The node that is found, where it is a leaf or a leaf-list.
+fn leaf_found<'a, 't>(found: Option<PlanNode<'a, 't>>) -> Option<PlanNode<'a, 't>>
+    ensures { option_map node_view result ≡ spec.leaf_found (option_map node_view found.entry) }
+{
+    match found {
+        Some(node) => {
+            if node.planned.is_leaf_or_leaf_list() {
+                Some(node)
+            } else {
+                None
+            }
+        }
+        None => None,
+    }
+}
+
+/// The leaf or leaf-list to which a type of a node of a module refers.
+pub(crate) fn target_meant<'a, 't>(
+    plan: &Plan<'a, 't>,
+    owner: usize,
+    meant: &Meant<'_>,
+) -> Option<PlanNode<'a, 't>>
+    ensures { (p : spec.Planned) → owner ≡ p.part.owner → option_map node_view result
+        ≡ spec.target_meant (view plan.now) p (meant_view meant.now) }
+{
+    match meant {
+        Meant::Own(_) => None,
+        Meant::OfTarget { home, steps, .. } => {
+            leaf_found(data_node_at(plan, *home, owner, steps.as_slice()))
+        }
+    }
+}
+
+/// The number of the leaf or leaf-list to which the type of a node refers.
+fn target_of<'a, 't>(
+    plan: &Plan<'a, 't>,
+    planned: &Planned<'a, 't>,
+    meant: Option<&Meant<'t>>,
+) -> Option<u32>
+    ensures { (number : _) → option_map (λ m. meant_view m.now) meant.entry
+        ≡ meant_in (view plan.now) (planned_view number planned.now)
+        → result ≡ option_map number_in
+        (spec.target_of (view plan.now) (planned_view number planned.now)) }
+{
+    match meant {
+        Some(meant) => number_of(target_meant(plan, planned.owner(), meant)),
+        None => None,
+    }
+}
+
+/// Those of all nodes.
+pub(crate) fn meanings_of<'l, 't>(
+    alloc: Global,
+    plan: &Plan<'_, 't>,
+    linked: &'l Linked<'t>,
+) -> Result<Meanings<'l, 't>, AllocError>
+    requires named { IsOf linked.now (view plan.now).modules }
+    ensures meant { IfOk result (λ m. meants_view m.meant.items
+        ≡ map (meant_in (view plan.now)) (nodes_of (view plan.now))) }
+    ensures targets { let p = view plan.now in IfOk result (λ m. m.targets.items
+        ≡ map (λ q. option_map number_in (spec.target_of p q)) (nodes_of p)) }
+{
+    let mut meant = Vec::with_capacity(alloc, plan.nodes())?;
+    let mut targets = Vec::with_capacity(alloc, plan.nodes())?;
+    for node in plan.iter() {
+        let meaning = meaning_of(linked, &node.planned);
+        targets.push(target_of(plan, &node.planned, meaning))?;
+        meant.push(meaning)?;
+    }
+    Ok(Meanings { meant, targets })
+}

@@ -1,0 +1,84 @@
+//! What the nodes of a plan refer to, all in one.
+
+ghost use Rattle.yspec.specs.linking.Planned as spec;
+
+use crate::modules::ModuleTable;
+use crate::tuples::keys;
+use crate::types::{Types, types_of};
+use std::alloc::{AllocError, Global};
+use ylink::Linked;
+use yschema_plan::Plan;
+use ytype::YType;
+
+/// The types of a plan's nodes, to what leafrefs refer, which leafs are keys, what modules are called, and the statements,
+/// linked.
+#[derive(Drop)]
+pub struct Resolved<'l, 't> {
+    pub(crate) types: Types<'l, 't>,
+    keys: Vec<bool>,
+    pub(crate) modules: ModuleTable<'t>,
+    pub(crate) linked: &'l Linked<'t>,
+}
+
+impl<'l, 't> Resolved<'l, 't> {
+    ghost use Rattle.std.specs.Prelude.{◌≡◌, Some, IfOk, slice_get, option_map};
+    ghost use Rattle.yspec.specs.linking.Planned as spec;
+    ghost use Rattle.yspec.specs.linking.SchemaNodes as nodes;
+    ghost use Rattle.ylink.specs.LinkedView as linked_as;
+    ghost use Rattle.yschema_plan.specs.PlanView.{view};
+    ghost use Rattle.yschema_resolve.specs.ResolvedView.{IsOf};
+
+    /// Those of a plan, given its statements, linked.
+    pub fn of(
+        alloc: Global,
+        plan: &Plan<'_, 't>,
+        linked: &'l Linked<'t>,
+    ) -> Result<Resolved<'l, 't>, AllocError>
+        requires named { linked_as.IsOf linked.now (view plan.now).modules }
+        ensures { IfOk result (λ resolved. IsOf resolved (view plan.now)) }
+    {
+        let modules = ModuleTable::of(alloc, linked)?;
+        Ok(Resolved {
+            types: types_of(alloc, plan, linked, &modules)?,
+            keys: keys(alloc, plan)?,
+            modules,
+            linked,
+        })
+    }
+
+    /// The type of the node of a number, in its module; a leafref has its target's, and none where it leads nowhere.
+    pub fn value_type(&self, number: u32) -> Option<&YType>
+        ensures { (plan : spec.Plan) (p : spec.Planned) → IsOf self.now plan
+            → slice_get (spec.nodes_of plan) number ≡ Some p
+            → option_map (λ t. t.now) result ≡ spec.type_of plan p }
+    {
+        match self.types.types.get(number as usize) {
+            Some(Some(value_type)) => Some(value_type),
+            _ => None,
+        }
+    }
+
+    /// The number of the leaf or leaf-list to which the type of a node refers.
+    pub fn target(&self, number: u32) -> Option<u32>
+        ensures { (plan : spec.Plan) (p : spec.Planned) → IsOf self.now plan
+            → slice_get (spec.nodes_of plan) number ≡ Some p
+            → result ≡ option_map nodes.number_in (spec.target_of plan p) }
+    {
+        match self.types.targets.get(number as usize) {
+            Some(target) => *target,
+            None => None,
+        }
+    }
+
+    /// Whether the node of a number is a key of the list right above it.
+    pub fn is_key(&self, number: u32) -> bool
+        ensures { (plan : spec.Plan) (p : spec.Planned) → IsOf self.now plan
+            → slice_get (spec.nodes_of plan) number ≡ Some p
+            → result ≡ nodes.is_key plan p }
+    {
+        match self.keys.get(number as usize) {
+            Some(is_key) => *is_key,
+            None => false,
+        }
+    }
+}

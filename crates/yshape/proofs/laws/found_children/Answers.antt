@@ -1,6 +1,0 @@
-use Rattle.yshape.proofs.HangingLemmas.{at_end}
-use Rattle.yshape.proofs.FoundLemmas.{found_at, counted_at, around_more, end_more, goes_more}
-use Rattle.yshape.proofs.laws.found_children.Goals as goal
-
-pub returns : goal.returns
-returns c = record { found = found_at; count = counted_at; row = at_end; further = around_more; ends = end_more; steps = goes_more }

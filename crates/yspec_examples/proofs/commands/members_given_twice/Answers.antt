@@ -1,0 +1,15 @@
+use Rattle.std.proofs.Common.{refl}
+use Rattle.ysay_codes.specs.Codes.{explanation_of}
+use Rattle.yspec_run.proofs.ProgramLiterals.{yprogram_on_literals}
+use Rattle.yspec_examples.proofs.commands.members_given_twice.Goals as goal
+
+pub returns : goal.returns
+unfolding yprogram_on_literals explanation_of
+returns c = record {
+  last_counts = refl;
+  once = refl;
+  twice = refl;
+  refused_before = refl;
+  values = refl;
+  moves = refl;
+}

@@ -1,0 +1,13 @@
+use Rattle.std.proofs.Common.{refl}
+use Rattle.yspec_run.proofs.ProgramLiterals.{yprogram_on_literals}
+use Rattle.yspec_examples.proofs.diagrams.augments.Goals as goal
+
+pub returns : goal.returns
+unfolding yprogram_on_literals
+returns c = record {
+  target = refl;
+  outer = refl;
+  inner = refl;
+  own = refl;
+  nothing = refl;
+}

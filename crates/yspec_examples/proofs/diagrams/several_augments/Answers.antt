@@ -1,0 +1,12 @@
+use Rattle.std.proofs.Common.{refl}
+use Rattle.yspec_run.proofs.ProgramLiterals.{yprogram_on_literals}
+use Rattle.yspec_examples.proofs.diagrams.several_augments.Goals as goal
+
+pub returns : goal.returns
+unfolding yprogram_on_literals
+returns c = record {
+  choices = refl;
+  cases = refl;
+  order = refl;
+  column = refl;
+}

@@ -1,0 +1,7 @@
+use Rattle.std.proofs.Common.{refl}
+use Rattle.yspec_run.proofs.ProgramLiterals.{yprogram_on_literals}
+use Rattle.yspec_examples.proofs.examples.sets_of_modules.Goals as goal
+
+pub returns : goal.returns
+unfolding yprogram_on_literals
+returns c = record { two = refl; one_name = refl; before_names_of_siblings = refl; after_statements = refl }

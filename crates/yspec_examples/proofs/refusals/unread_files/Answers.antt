@@ -1,0 +1,13 @@
+use Rattle.std.proofs.Common.{refl}
+use Rattle.ysay_codes.specs.Codes.{explanation_of}
+use Rattle.yspec_run.proofs.ProgramLiterals.{yprogram_on_literals}
+use Rattle.yspec_examples.proofs.refusals.unread_files.Goals as goal
+
+pub returns : goal.returns
+unfolding yprogram_on_literals explanation_of
+returns c = record {
+  of_a_module = refl;
+  of_a_document = refl;
+  escaped = refl;
+  as_text = refl;
+}

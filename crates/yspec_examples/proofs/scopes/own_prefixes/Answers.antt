@@ -1,0 +1,10 @@
+use Rattle.std.proofs.Common.{refl}
+use Rattle.yspec_run.proofs.ProgramLiterals.{yprogram_on_literals}
+use Rattle.yspec_examples.proofs.scopes.own_prefixes.Goals as goal
+
+pub returns : goal.returns
+unfolding yprogram_on_literals
+returns c = record {
+  typedef = refl;
+  grouping = refl;
+}

@@ -1,0 +1,80 @@
+-- What is said below a line that tells a code, above the reason of the code: what stands there, and what may have been
+-- meant.
+use Rattle.std.specs.Prelude.{ℕ, zero, suc, ◌==◌, ◌++◌, Bool, false, List, [], ◌∷◌, Option, codes, if◌then◌else◌, nat_le, slice_get, unwrap_or}
+use Rattle.std.specs.Option.{option_map_or}
+use Rattle.yspec.specs.Forest.{Forest, end, node}
+use Rattle.yspec.specs.text.Text.{Text, open_brace, space}
+use Rattle.yspec.specs.text.Statement.{Statement}
+use Rattle.yspec.specs.schema.Breaks.{Break}
+use Rattle.yspec.specs.schema.Schema.{Schema}
+use Rattle.yspec.specs.document.Document.{Step}
+use Rattle.yspec.specs.document.Reading.{Refusal}
+use Rattle.ysay_text.specs.Line.{shown, shown_line}
+use Rattle.ysay_text.specs.Sentence.{of_line}
+use Rattle.yspec.specs.edit.EditText.{Edit}
+use Rattle.ysay_refusal.specs.Part.{said_of_edit}
+use Rattle.ysay_refusal.specs.Sentence.{said_of_refusal}
+use Rattle.ysay_refusal.specs.Spelling.{said_of_line}
+use Rattle.ysay_repeated.specs.Said.{said_of_repeated}
+use Rattle.yspec_run.specs.Part.{Part}
+
+abbrev pub hinted : Text → Part → Part
+hinted hint p = record p { reason = hint ++ p.reason }
+
+-- a text as a line, behind its front; nothing of an empty one
+abbrev pub as_line : Text → Text → Text
+as_line front [] = []
+as_line front (x ∷ text) = front ++ ((x ∷ text) ++ codes "\n")
+
+-- the line of a text that is told, behind a bar
+abbrev pub line_hint : ℕ → List ℕ → Text
+line_hint line bytes = as_line (codes "  | ") (shown_line line bytes)
+
+-- a text that begins as a JSON object does, behind white space
+abbrev pub begins_object : List ℕ → Bool
+begins_object [] = false
+begins_object (x ∷ bytes) = if nat_le x space then begins_object bytes else x == open_brace
+
+abbrev pub object_hint : Bool → Text
+object_hint is_object = if is_object then codes "  this begins as JSON, not as a module; a document stands before the modules.\n" else []
+
+-- of a text that is refused in a line: that line, and whether it is a document's
+abbrev pub slip_hint : ℕ → List ℕ → Text
+slip_hint line bytes = line_hint line bytes ++ object_hint (begins_object bytes)
+
+-- what is said of the statements of a line, of C1 alone
+abbrev pub statement_hint : ℕ → ℕ → Forest Statement → Text
+statement_hint code line top = if code == 1 then as_line (codes "  ") (of_line line top) else []
+
+-- the statement of a module, by its number, among those of several
+abbrev pub module_at : ℕ → Forest Statement → Forest Statement
+module_at number end = end
+module_at zero (node s below after) = node s below end
+module_at (suc number) (node s below after) = module_at number after
+
+-- of a rule that a module breaks, by the contents of the files and the statements of all
+abbrev pub break_hint : List (List ℕ) → Forest Statement → Break → Text
+break_hint contents modules b = line_hint b.line (unwrap_or (slice_get contents b.module_number) [])
+    ++ statement_hint b.code b.line (module_at b.module_number modules)
+
+-- of a document that is refused, by its bytes
+abbrev pub refusal_hint : Schema → List ℕ → Refusal → Text
+refusal_hint schema bytes r = as_line (codes "  ") (said_of_refusal schema bytes r)
+
+-- of a document with a member that is given twice, by the place of its node
+abbrev pub repeated_hint : Schema → List Step → Text
+repeated_hint schema place = as_line (codes "  ") (said_of_repeated schema place)
+
+-- of an edit that is refused with this number
+abbrev pub edit_hint : Schema → Edit → ℕ → Text
+edit_hint schema e code = as_line (codes "  ") (said_of_edit schema e code)
+
+-- of a line that is refused with this number before it is tried: where it spells no edit
+abbrev pub spelling_hint : Text → ℕ → Text
+spelling_hint line code = if code == 1 then as_line (codes "  ") (said_of_line line) else []
+
+-- of a line of a script that is refused with this number: itself, behind a bar, and what is said of the edit that it asks for,
+-- if it asks for one
+abbrev pub script_hint : Schema → Text → Option Edit → ℕ → Text
+script_hint schema line asked code = as_line (codes "  | ") (shown line)
+    ++ option_map_or (λ e. edit_hint schema e code) asked (spelling_hint line code)

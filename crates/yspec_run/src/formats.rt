@@ -1,0 +1,18 @@
+//! The law of formats: what tells of faults and refusals as JSON is told on the output alone.
+
+ghost use Rattle.std.specs.Prelude.{ℕ, List, Option, false, true};
+ghost use Rattle.yspec.specs.text.Text.{Text};
+ghost use Rattle.yspec_run.specs.Output.{Options, edit, outcome, validate};
+ghost use Rattle.yspec_run.specs.Format.{AlikeBesides, in_format};
+
+/// A run prints the same on the error side with `--format json` and without, and ends with the same status and file.
+pub fn formats_differ_on_the_output()
+    ensures validated { (options : Options) (document : Text) (modules : List Text)
+        (answers : List (Option (List ℕ)))
+        → AlikeBesides (outcome (validate (in_format true options) document modules) answers)
+        (outcome (validate (in_format false options) document modules) answers) }
+    ensures edited { (options : Options) (document script : Text) (modules : List Text)
+        (answers : List (Option (List ℕ)))
+        → AlikeBesides (outcome (edit (in_format true options) document script modules) answers)
+        (outcome (edit (in_format false options) document script modules) answers) }
+{}

@@ -1,6 +1,0 @@
-use Rattle.ytell.proofs.LawLemmas.{climbs_beside, climbs_inside}
-use Rattle.ytell.proofs.TotalLemmas.{totals_same}
-use Rattle.ytell.proofs.laws.kept_totals.Goals as goal
-
-pub returns : goal.returns
-returns c = record { totals = λ before after f same all. totals_same before after same f all; climbs = climbs_beside; beside = climbs_inside }

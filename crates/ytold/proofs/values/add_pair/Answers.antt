@@ -1,5 +1,0 @@
-use Rattle.std.proofs.Common.{refl}
-use Rattle.ytold.proofs.values.add_pair.Goals as goal
-
-pub returns-clause-reads : goal.returns-clause-reads
-returns-clause-reads c held f tree agrees totals = (c.add_value.ensures.follows held f tree agrees totals refl refl).reads
