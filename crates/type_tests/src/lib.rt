@@ -6,4 +6,6 @@ mod described;
 #[cfg(test)]
 mod refusals;
 #[cfg(test)]
+mod rows;
+#[cfg(test)]
 mod values;

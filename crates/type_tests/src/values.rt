@@ -102,6 +102,10 @@ uint8 > range:1..10~wide > range:2..5~narrow/20/wide
 uint8 > range:1..10 > range:2..5~narrow/20/-
 uint8 > range:1..10~wide > range:2..5/7/-
 uint8 > range:2..5:tag~narrow/7/narrow
+uint8 > range:0..200~a > range:10..150~b > range:20..100~c/250/a
+uint8 > range:0..200~a > range:10..150~b > range:20..100~c/160/b
+uint8 > range:0..200~a > range:10..150~b > range:20..100~c/120/c
+uint8 > range:0..200~a > range:10..150~b > range:20..100~c/100/-
 uint8 > range:2..5~narrow/3/-
 uint8 > range:2..5~narrow/300/-
 string > length:2..5~too short/'a/too short
@@ -194,6 +198,15 @@ uint8 > range:1..10 > range:2..5:t2/7/!t2
 uint8 > range:1..10 > range:2..5:t2/20/!
 uint8 > range:1..10:t1 > range:2..5/7/!
 uint8 > range:1..10:t1 > range:2..5/20/!t1
+uint8 > range:0..200:a > range:10..150:b > range:20..100:c > range:30..90:d > range:40..80:e/300/!
+uint8 > range:0..200:a > range:10..150:b > range:20..100:c > range:30..90:d > range:40..80:e/250/!a
+uint8 > range:0..200:a > range:10..150:b > range:20..100:c > range:30..90:d > range:40..80:e/160/!b
+uint8 > range:0..200:a > range:10..150:b > range:20..100:c > range:30..90:d > range:40..80:e/5/!b
+uint8 > range:0..200:a > range:10..150:b > range:20..100:c > range:30..90:d > range:40..80:e/120/!c
+uint8 > range:0..200:a > range:10..150:b > range:20..100:c > range:30..90:d > range:40..80:e/95/!d
+uint8 > range:0..200:a > range:10..150:b > range:20..100:c > range:30..90:d > range:40..80:e/35/!e
+uint8 > range:0..200:a > range:10..150:b > range:20..100:c > range:30..90:d > range:40..80:e/81/!e
+uint8 > range:0..200:a > range:10..150:b > range:20..100:c > range:30..90:d > range:40..80:e/80/80
 uint16 > range:1..1024|8080:bad-port/1024/1024
 uint16 > range:1..1024|8080:bad-port/1025/!bad-port
 uint16 > range:1..1024|8080:bad-port/8080/8080
@@ -224,6 +237,11 @@ boolean > uint8 > string > union > union/256/!
 boolean > uint8 > string > union > union/null/!
 boolean > uint8 > string > union > union/'5/5
 uint8 > string > union/256/!
+decimal64:1 > range:0..1 > decimal64:2 > range:2..3 > union > decimal64:3 > union/'1/1.0
+decimal64:1 > range:0..1 > decimal64:2 > range:2..3 > union > decimal64:3 > union/'2.25/2.25
+decimal64:1 > range:0..1 > decimal64:2 > range:2..3 > union > decimal64:3 > union/'3.125/3.125
+decimal64:1 > range:0..1 > decimal64:2 > range:2..3 > union > decimal64:3 > union/'1.05/1.05
+decimal64:1 > range:0..1 > decimal64:2 > range:2..3 > union > decimal64:3 > union/'4.0001/!
 uint8 > leafref > instance:true/255/255
 uint8 > leafref > instance:true/256/!
 identityref:a|a:x=3,a:y=4,b:x=7,b:z=9|3,9/'x/a:x
@@ -360,7 +378,10 @@ enumeration:a,b=5,c,d=2,e/'c<'e
 identityref:a|a:y=3,b:x=7,a:x=9|3,7,9/'y<'b:x
 identityref:a|a:y=3,b:x=7,a:x=9|3,7,9/'b:x<'x
 uint8 > string > union/5<'5
-boolean > uint8 > string > union > union/5<'5";
+boolean > uint8 > string > union > union/5<'5
+string > length:1..1 > string > length:2..2 > union > string > length:3..3 > string > union > union/'c<'bb
+string > length:1..1 > string > length:2..2 > union > string > length:3..3 > string > union > union/'bb<'aaa
+string > length:1..1 > string > length:2..2 > union > string > length:3..3 > string > union > union/'aaa<'aa aa";
     for row in rows.lines() {
         assert!(rt; is_below(rt.alloc(), row) == Some(true), "{row:?}");
     }

@@ -1,8 +1,11 @@
 -- One step of a loop over the members of a union.
-use Rattle.std.proofs.Common.{◌≡◌, ℕ, ◌+◌, ◌<◌, List, ◌∷◌, ◌++◌, Option, Some, None, length, drop, get_or, refl, sym, ap, ◌∙◌, append_assoc}
-use Rattle.std.proofs.lemmas.List.{at_drop_more}
-use Rattle.yspec.specs.types.Types.{Content, value, YangType, SimpleType, first_value}
-use Rattle.yspec.specs.types.Restriction.{members_of, all_members}
+use Rattle.std.proofs.Common.{◌≡◌, ℕ, ◌+◌, List, ◌∷◌, ◌++◌, Bool, ◌||◌, Option, Some, None, drop, refl, sym, ap, ◌∙◌, map, append_assoc}
+use Rattle.std.specs.Prelude.{slice_get, option_and_then, option_to_list}
+use Rattle.std.proofs.lemmas.List.{map-append}
+use Rattle.std.proofs.lemmas.List.Folds.{list_any-append}
+use Rattle.std.specs.List.{list_any}
+use Rattle.ytype.proofs.RowLemmas.{here, past, gone, at_place}
+use Rattle.yspec.specs.types.Types.{Content, value, SimpleType, first_value}
 
 by_none : (given : SimpleType → Option Content) (n : ℕ) (m : SimpleType) (rest : List SimpleType) → None ≡ given m
     → first_value given (n + 1) rest ≡ first_value given n (m ∷ rest)
@@ -12,19 +15,32 @@ by_some : (given : SimpleType → Option Content) (n : ℕ) (m : SimpleType) (re
     → Some (value (Some n) found) ≡ first_value given n (m ∷ rest)
 by_some given n m rest found e = rw (← e) refl
 
-pub not_first : (given : SimpleType → Option Content) (ms : List SimpleType) (n : ℕ) (d : SimpleType) → n < length ms → None ≡ given (get_or ms n d)
-    → first_value given (n + 1) (drop (n + 1) ms) ≡ first_value given n (drop n ms)
-not_first given ms n d l e =
-    by_none given n (get_or ms n d) (drop (n + 1) ms) e ∙ sym (at_drop_more (first_value given n) ms n d l)
+module _ (given : SimpleType → Option Content) (ms : List SimpleType) (n : ℕ) where
+  not_this : (o : Option SimpleType) → o ≡ slice_get ms n → None ≡ option_and_then given o
+      → first_value given (n + 1) (drop (n + 1) ms) ≡ first_value given n (drop n ms)
+  not_this None is e = ap (first_value given (n + 1)) (past ms n is ∙ gone ms n is) ∙ sym (ap (first_value given n) (gone ms n is))
+  not_this (Some m) is e = by_none given n m (drop (n + 1) ms) e ∙ sym (ap (first_value given n) (here ms n m is))
 
-pub is_first : (given : SimpleType → Option Content) (ms : List SimpleType) (n : ℕ) (d : SimpleType) (found : Content) → n < length ms → Some found ≡ given (get_or ms n d)
-    → Some (value (Some n) found) ≡ first_value given n (drop n ms)
-is_first given ms n d found l e =
-    by_some given n (get_or ms n d) (drop (n + 1) ms) found e ∙ sym (at_drop_more (first_value given n) ms n d l)
+  is_this : (o : Option SimpleType) → o ≡ slice_get ms n → (found : Content) → Some found ≡ option_and_then given o
+      → Some (value (Some n) found) ≡ first_value given n (drop n ms)
+  is_this None is found e = absurd cc
+  is_this (Some m) is found e = by_some given n m (drop (n + 1) ms) found e ∙ sym (ap (first_value given n) (here ms n m is))
 
-pub members_more : (so_far new : List SimpleType) (types : List YangType) (i : ℕ) (d : YangType) → i < length types → new ≡ so_far ++ members_of (get_or types i d).shape
-    → new ++ all_members (drop (i + 1) types) ≡ so_far ++ all_members (drop i types)
-members_more so_far new types i d l e =
-    let rest : List SimpleType = all_members (drop (i + 1) types) in
-    ap (λ (ms : List SimpleType). ms ++ rest) e ∙ append_assoc so_far (members_of (get_or types i d).shape) rest
-    ∙ ap (λ (ms : List SimpleType). so_far ++ ms) (sym (at_drop_more all_members types i d l))
+  pub not_first : None ≡ option_and_then given (slice_get ms n) → first_value given (n + 1) (drop (n + 1) ms) ≡ first_value given n (drop n ms)
+  not_first e = not_this (slice_get ms n) refl e
+
+  pub is_first : (found : Content) → Some found ≡ option_and_then given (slice_get ms n) → Some (value (Some n) found) ≡ first_value given n (drop n ms)
+  is_first found e = is_this (slice_get ms n) refl found e
+
+pub any_of_both : (p : SimpleType → Bool) (xs ys : List SimpleType) → list_any p (xs ++ ys) ≡ (list_any p xs || list_any p ys)
+any_of_both p xs ys = list_any-append p xs ys
+
+pub made_more : (f : SimpleType → SimpleType) (made next : List SimpleType) (ms : List SimpleType) (n : ℕ) → next ≡ map f (option_to_list (slice_get ms n))
+    → (made ++ next) ++ map f (drop (n + 1) ms) ≡ made ++ map f (drop n ms)
+made_more f made next ms n e =
+    append_assoc made next (map f (drop (n + 1) ms))
+    ∙ ap (λ (xs : List SimpleType). made ++ xs) (ap (λ (ys : List SimpleType). ys ++ map f (drop (n + 1) ms)) e
+    ∙ (sym (map-append f (option_to_list (slice_get ms n)) (drop (n + 1) ms)) ∙ ap (map f) (at_place ms n)))
+
+pub pushed_more : (all : List SimpleType) (ms : List SimpleType) (n : ℕ) → (all ++ option_to_list (slice_get ms n)) ++ drop (n + 1) ms ≡ all ++ drop n ms
+pushed_more all ms n = append_assoc all (option_to_list (slice_get ms n)) (drop (n + 1) ms) ∙ ap (λ (xs : List SimpleType). all ++ xs) (at_place ms n)

@@ -5,4 +5,4 @@ use Rattle.ytype.specs.declared.ytype.Shape.TheVariants as shape
 
 abbrev pub shape_of : Shape → types.Shape
 shape_of (shape.Single s) = types.single s
-shape_of (shape.Union members) = types.union members.value.items
+shape_of (shape.Union members) = types.union members

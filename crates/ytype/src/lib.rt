@@ -5,6 +5,7 @@ mod base;
 mod canonical;
 mod fault;
 mod identity;
+mod members;
 mod raw;
 mod simple;
 mod val;

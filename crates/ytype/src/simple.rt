@@ -1,6 +1,6 @@
 //! Types that are no unions: a built-in type with its restrictions.
 
-ghost use Rattle.std.specs.Prelude.{◌≡◌, ◌++◌, ◌∷◌, [], option_and_then, ok_or, ◌≤◌, IfOk, IfSome};
+ghost use Rattle.std.specs.Prelude.{◌≡◌, ◌++◌, ◌∷◌, [], option_and_then, slice_get, ok_or, ◌≤◌, IfOk, IfSome};
 ghost use Rattle.std.specs.Option.{ForSome};
 ghost use Rattle.std.specs.String.{string_bytes};
 ghost use Rattle.yspec.specs.types.Ranges.{holds};
@@ -23,6 +23,7 @@ use std::alloc::{AllocError, Global};
 use std::marker::Model;
 use std::rc::Rc;
 use std::slice;
+use ybase_row::Row;
 use ytype_numbers::{ErrorText, NarrowFault, Part, Range, Restriction, Span, restricted};
 
 /// A range or length, with what it says of other values.
@@ -68,19 +69,31 @@ impl Limit {
         self.range.parts()
     }
 
-    fn holds(&self, number: i128) -> bool
-        ensures { result ≡ holds self.now.parts number }
+    fn excluding(&self, number: i128) -> Option<&Limit>
+        ensures { now_of result ≡ excluding (self.now ∷ []) number }
     {
-        self.range.holds(number)
+        if self.range.holds(number) {
+            None
+        } else {
+            Some(self)
+        }
     }
 }
 
-fn excluding(limits: &[Limit], number: i128) -> Option<&Limit>
+fn excluding_at(limits: &Row<Limit>, index: usize, number: i128) -> Option<&Limit>
+    ensures { now_of result
+        ≡ option_and_then (λ l. excluding (l ∷ []) number) (slice_get limits.now index) }
+{
+    limits.get(index)?.excluding(number)
+}
+
+fn excluding(limits: &Row<Limit>, number: i128) -> Option<&Limit>
     ensures { now_of result ≡ excluding limits.now number }
 {
-    'limits: for limit in limits {
-        if !limit.holds(number) {
-            return Some(limit);
+    'limits: for index in 0..limits.len() {
+        match excluding_at(limits, index, number) {
+            None => {}
+            Some(limit) => return Some(limit),
         }
     }
     None
@@ -90,8 +103,8 @@ fn excluding(limits: &[Limit], number: i128) -> Option<&Limit>
 #[derive(Debug, Drop)]
 struct LimitedType {
     base: Base,
-    inner: Vec<Limit>,
-    outermost: Limit,
+    inner: Row<Limit>,
+    outermost: Rc<Limit>,
 }
 
 impl Model for LimitedType {
@@ -102,7 +115,7 @@ impl Model for LimitedType {
 
     ghost use Rattle.ytype.specs.View.{base_of};
 
-    ghost view = { λ l. record { base = base_of l.base; limits = l.inner.items ++ l.outermost ∷ [] } };
+    ghost view = { λ l. record { base = base_of l.base; limits = l.inner ++ l.outermost.value ∷ [] } };
 }
 
 impl LimitedType {
@@ -117,7 +130,7 @@ impl LimitedType {
     {
         match excluding(&self.inner, number) {
             Some(limit) => Some(limit),
-            None => excluding(slice::from_ref(&self.outermost), number),
+            None => self.outermost.excluding(number),
         }
     }
 
@@ -137,12 +150,11 @@ impl LimitedType {
         self.outermost.parts()
     }
 
-    fn limits(&self) -> Result<Vec<Limit>, AllocError>
-        ensures { IfOk result (λ limits. limits.items ≡ self.now.limits) }
+    fn limits(&self, alloc: Global) -> Result<Row<Limit>, AllocError>
+        ensures { IfOk result (λ limits. limits ≡ self.now.limits) }
     {
-        let mut limits = self.inner.clone()?;
-        limits.push(self.outermost.clone()?)?;
-        Ok(limits)
+        let outermost = Row::one(self.outermost.clone()?);
+        Row::joined(alloc, &self.inner, &outermost)
     }
 }
 
@@ -332,12 +344,12 @@ impl SimpleType {
         }
     }
 
-    fn limits(&self, alloc: Global) -> Result<Vec<Limit>, AllocError>
-        ensures { IfOk result (λ limits. limits.items ≡ self.now.limits) }
+    fn limits(&self, alloc: Global) -> Result<Row<Limit>, AllocError>
+        ensures { IfOk result (λ limits. limits ≡ self.now.limits) }
     {
         match &self.form {
-            Form::Plain(_) => Ok(Vec::new(alloc)),
-            Form::Limited(limited) => limited.limits(),
+            Form::Plain(_) => Ok(Row::new()),
+            Form::Limited(limited) => limited.limits(alloc),
         }
     }
 
@@ -380,7 +392,7 @@ impl SimpleType {
         let limited = LimitedType {
             base: self.base().clone()?,
             inner: self.limits(alloc)?,
-            outermost: Limit { range, error },
+            outermost: Rc::new(alloc, Limit { range, error })?,
         };
         Ok(SimpleType {
             form: Form::Limited(Rc::new(alloc, limited)?),

@@ -1,8 +1,8 @@
 //! Types.
 
-ghost use Rattle.std.specs.Prelude.{◌≡◌, ◌++◌, Ok, IfOk, OnOk, Some, None, map, option_map, ok_or, string_bytes};
-ghost use Rattle.yspec.specs.types.Types.{taken, error_text_of, app_tag_of, message_of, simple_taken, first_value, simple_in, shape_in, type_in, plain, integer_type, string_type, uint8_type, int8, int16, int32, int64, uint8, uint16, uint32, uint64, boolean_base, empty_base, decimal_base, enumeration_base, bits_base};
-ghost use Rattle.yspec.specs.types.Values.{value_of_text, simple_read, taker};
+ghost use Rattle.std.specs.Prelude.{◌≡◌, ◌++◌, Ok, IfOk, OnOk, Some, None, option_map, ok_or, string_bytes};
+ghost use Rattle.yspec.specs.types.Types.{taken, error_text_of, app_tag_of, message_of, shape_in, type_in, plain, integer_type, string_type, uint8_type, int8, int16, int32, int64, uint8, uint16, uint32, uint64, boolean_base, empty_base, decimal_base, enumeration_base, bits_base};
+ghost use Rattle.yspec.specs.types.Values.{value_of_text, taker};
 ghost use Rattle.yspec.specs.types.Names as names;
 ghost use Rattle.yspec.specs.types.Restriction.{members_of, union_type, leafref_type, narrowed};
 ghost use Rattle.ytype_numbers.specs.View.{restriction_of, text_of};
@@ -11,20 +11,19 @@ ghost use Rattle.ytype_numbers.specs.Words.{narrow_refusal, same};
 ghost use Rattle.ytype.specs.View.{raw_of, base_of, integer_of};
 ghost use Rattle.ytype.specs.Founds.{now_of};
 ghost use Rattle.ytype.specs.Shapes.{shape_of};
-ghost use Rattle.std.specs.List.{list_any};
-ghost use Rattle.ytype.specs.Identities.{identities_view, is_identity, module_names_view};
+ghost use Rattle.ytype.specs.Identities.{identities_view, module_names_view};
 ghost use Rattle.ytype.specs.Refusals.{value_refusal};
 
 use crate::base::{Base, Integer};
 use crate::fault::BadValue;
 use crate::identity::{Identities, ModuleNames};
+use crate::members::{Members, all_of, first_read, first_taken, members_in};
 use crate::raw::Raw;
 use crate::simple::SimpleType;
 use crate::val::Val;
 use std::alloc::{AllocError, Global};
 use std::marker::Model;
 use std::rc::Rc;
-use std::slice;
 use ytype_numbers::{
     ErrorText, FractionDigits, Naming, NarrowFault, Restriction, bit_names, enum_names,
 };
@@ -32,7 +31,7 @@ use ytype_numbers::{
 #[derive(Debug, Drop)]
 enum Shape {
     Single(SimpleType),
-    Union(Rc<Vec<SimpleType>>),
+    Union(Members),
 }
 
 impl Clone for Shape {
@@ -215,16 +214,17 @@ impl YType {
         Ok(plain(Base::Identity(identities.clone()?)))
     }
 
-    /// What one of its members takes (9.12).
+    /// What one of its members takes (9.12). A union of more than 2^20 members is too large, which counts as want of memory.
     pub fn union(alloc: Global, types: &[YType]) -> Result<YType, NarrowFault>
         ensures { Gives same narrow_refusal result (Ok (union_type types.now)) }
     {
-        let mut members = Vec::with_capacity(alloc, types.len())?;
+        let mut members = Members::new();
         'types: for member in types {
-            member.shape.add_to(&mut members)?;
+            let more = member.shape.members(alloc)?;
+            members = Members::joined(alloc, &members, &more)?;
         }
         Ok(YType {
-            shape: Shape::Union(Rc::new(alloc, members)?),
+            shape: Shape::Union(members),
             requires_instance: None,
         })
     }
@@ -241,51 +241,14 @@ impl YType {
 }
 
 impl Shape {
-    fn add_to(&self, members: &mut Vec<SimpleType>) -> Result<(), AllocError>
-        ensures { OnOk result (members.new.items ≡ members.old.items
-            ++ members_of (shape_of self.now)) }
+    fn members(&self, alloc: Global) -> Result<Members, AllocError>
+        ensures { IfOk result (λ members. members ≡ members_of (shape_of self.now)) }
     {
         match self {
-            Shape::Single(simple) => members.push(simple.clone()?)?,
-            Shape::Union(others) => {
-                'others: for other in others.iter() {
-                    members.push(other.clone()?)?;
-                }
-            }
-        }
-        Ok(())
-    }
-}
-
-fn first_taken(alloc: Global, members: &[SimpleType], raw: &Raw) -> Result<Option<Val>, AllocError>
-    ensures { IfOk result (λ val. val
-        ≡ first_value (λ s. simple_taken s (raw_of raw.now)) 0 members.now) }
-{
-    'members: for (number, member) in members.iter().enumerate() {
-        match member.taken(alloc, raw)? {
-            None => {}
-            Some(content) => return Ok(Some(Val::new(Some(number), content))),
+            Shape::Single(simple) => Members::one(alloc, simple.clone()?),
+            Shape::Union(members) => members.clone(),
         }
     }
-    Ok(None)
-}
-
-fn first_read(
-    alloc: Global,
-    members: &[SimpleType],
-    names: &ModuleNames<'_>,
-    text: &str,
-) -> Result<Option<Val>, AllocError>
-    ensures { IfOk result (λ val. val
-        ≡ first_value (λ s. simple_read (module_names_view names.now) s text.now) 0 members.now) }
-{
-    'members: for (number, member) in members.iter().enumerate() {
-        match member.read(alloc, names, text)? {
-            None => {}
-            Some(content) => return Ok(Some(Val::new(Some(number), content))),
-        }
-    }
-    Ok(None)
 }
 
 impl Shape {
@@ -295,37 +258,9 @@ impl Shape {
     {
         match self {
             Shape::Single(simple) => Ok(Shape::Single(simple.of_module(alloc, home)?)),
-            Shape::Union(members) => {
-                if !have_identities(members) {
-                    return self.clone();
-                }
-                let made = members_in(alloc, members, home)?;
-                Ok(Shape::Union(Rc::new(alloc, made)?))
-            }
+            Shape::Union(members) => Ok(Shape::Union(members_in(alloc, members, home)?)),
         }
     }
-}
-
-/// Whether a member is an identityref.
-fn have_identities(members: &[SimpleType]) -> bool
-    ensures { result ≡ list_any (λ s. is_identity s.base) members.now }
-{
-    members.iter().any(SimpleType::is_identity)
-}
-
-fn members_in(
-    alloc: Global,
-    members: &[SimpleType],
-    home: &Rc<String>,
-) -> Result<Vec<SimpleType>, AllocError>
-    ensures { IfOk result (λ made. made.items
-        ≡ map (simple_in (string_bytes home.now.value)) members.now) }
-{
-    let mut made = Vec::with_capacity(alloc, members.len())?;
-    'members: for member in members {
-        made.push(member.of_module(alloc, home)?)?;
-    }
-    Ok(made)
 }
 
 impl YType {
@@ -351,13 +286,10 @@ impl YType {
     }
 
     /// The members of a union, of unions in it as well; of another type itself, as its only one.
-    pub fn members(&self) -> &[SimpleType]
-        ensures { result.now ≡ members_of self.now.shape }
+    pub fn members(&self, alloc: Global) -> Result<Vec<SimpleType>, AllocError>
+        ensures { IfOk result (λ members. members.items ≡ members_of self.now.shape) }
     {
-        match &self.shape {
-            Shape::Single(simple) => slice::from_ref(simple),
-            Shape::Union(members) => members.as_slice(),
-        }
+        all_of(alloc, &self.shape.members(alloc)?)
     }
 
     /// Whether a leafref requires an instance; none for another type.

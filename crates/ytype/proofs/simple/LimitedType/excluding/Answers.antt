@@ -1,4 +1,4 @@
-use Rattle.std.proofs.Common.{List, sym, ap, ◌∙◌}
+use Rattle.std.proofs.Common.{[], ◌∷◌, sym, ap, ◌∙◌}
 use Rattle.std.proofs.lemmas.Int.{to_z-of_z}
 use Rattle.std.specs.Int.{w128}
 use Rattle.yspec.specs.types.Ranges.{Limit}
@@ -10,16 +10,14 @@ use Rattle.ytype.proofs.simple.LimitedType.excluding.Goals as goal
 pub returns-in-Some : goal.returns-in-Some
 returns-in-Some c =
     let z = c.args.number in
-    let inner = c.self.inside.inner.items in
-    excluded_inside inner c.self.inside.outermost z c.in-Some.limit.now
-    (sym (ap now_of c.in-Some.is) ∙ (rw (to_z-of_z w128 z c.ranges.number) at c.excluding.ensures) ∙ ap (λ (ls : List Limit). excluding ls z) c.deref.ensures.value)
+    excluded_inside c.self.inside.inner c.self.inside.outermost.value z c.in-Some.limit.now
+    (sym (ap now_of c.in-Some.is) ∙ (rw (to_z-of_z w128 z c.ranges.number) at c.excluding.ensures))
     ∙ ap (λ (s : SimpleType). excluding s.limits z) c.self.view_is
 
 pub returns-in-None : goal.returns-in-None
 returns-in-None c =
     let z = c.args.number in
-    let inner = c.self.inside.inner.items in
-    (rw (to_z-of_z w128 z c.ranges.number) at c.excluding-in-None.ensures) ∙ ap (λ (ls : List Limit). excluding ls z) c.from_ref.ensures.value
-    ∙ excluded_last inner c.self.inside.outermost z
-    (sym (ap now_of c.in-None.is) ∙ (rw (to_z-of_z w128 z c.ranges.number) at c.excluding.ensures) ∙ ap (λ (ls : List Limit). excluding ls z) c.deref.ensures.value)
+    (rw (to_z-of_z w128 z c.ranges.number) at c.excluding-in-None.ensures) ∙ ap (λ (l : Limit). excluding (l ∷ []) z) c.deref.ensures
+    ∙ excluded_last c.self.inside.inner c.self.inside.outermost.value z
+    (sym (ap now_of c.in-None.is) ∙ (rw (to_z-of_z w128 z c.ranges.number) at c.excluding.ensures))
     ∙ ap (λ (s : SimpleType). excluding s.limits z) c.self.view_is
