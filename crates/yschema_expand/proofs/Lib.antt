@@ -2,6 +2,8 @@ pub mod GroupingLemmas
 pub mod UsedLemmas
 pub mod NodeLemmas
 pub mod TargetLemmas
+pub mod IndexLemmas
+pub mod IndexedLemmas
 pub mod RefineLemmas
 pub mod TableLemmas
 pub mod DepthLemmas

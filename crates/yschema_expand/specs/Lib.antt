@@ -8,6 +8,7 @@ pub mod Targets
 pub mod Walk
 pub mod Counting
 pub mod Knowing
+pub mod Indexing
 pub mod Stating
 pub mod Tasks
 pub mod Turns

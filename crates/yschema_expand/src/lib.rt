@@ -6,6 +6,7 @@ mod bodies;
 mod counting;
 mod expanding;
 mod groupings;
+mod indexing;
 mod laying;
 mod named;
 mod nodes;

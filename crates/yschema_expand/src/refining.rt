@@ -1,50 +1,83 @@
 //! Refines (RFC 7950, 7.13.2).
 
-ghost use Rattle.std.specs.Prelude.{◌≡◌, ◌&&◌, IfOk, OnOk, not};
+ghost use Rattle.std.specs.Prelude.{◌≡◌, ◌++◌, ◌&&◌, ℕ, List, Option, Some, None, IfOk, IfSome, OnOk, false, length, not, option_and_then, if◌then◌else◌};
+ghost use Rattle.std.specs.Option.{option_map_or};
 ghost use Rattle.yspec.specs.Forest.{Forest};
 ghost use Rattle.yspec.specs.linking.Expansion as spec;
 ghost use Rattle.yspec.specs.linking.Parts.{Part};
 ghost use Rattle.yspec.specs.linking.Source as sources;
 ghost use Rattle.yspec.specs.schema.Breaks.{broken, when};
+ghost use Rattle.ybase_preorder.specs.Layout.{Place, places};
 ghost use Rattle.ybase_preorder.specs.View.{row_by, label_by};
 ghost use Rattle.ylink_grammar.specs.SourceView.{source_view};
 ghost use Rattle.ylink_names.specs.PrefixView.{IsOf};
-ghost use Rattle.yschema_expand.specs.NodeView.{numbered_part};
+ghost use Rattle.yschema_expand.specs.Indexing.{part_in, Indexes};
+ghost use Rattle.yschema_expand.specs.TableView.{parts_in, slots_of};
 ghost use Rattle.yschema_expand.specs.Targets.{target_in};
 ghost use Rattle.yschema_expand.specs.Walk.{Changes};
 
 use crate::expanding::Made;
-use crate::nodes::ExpandedNode;
-use crate::target::node_at;
+use crate::indexing::TargetIndex;
+use crate::table::NodeTable;
+use crate::target::{LastNodes, number_at};
 use std::alloc::{AllocError, Global};
 use ybase_preorder::{Node, Siblings};
 use ybase_words::Keyword;
 use ylink_grammar::{CompileCode, Source, argument_of, broken, least, may_bear, relative_path};
 use ylink_names::Prefixes;
 
-/// The number of a refine's target among some nodes, where it may bear what the refine gives.
+/// How many statements a `uses` has at least whose refines find their targets by an index.
+const MANY: usize = 64;
+
+/// Whether the node of a number may bear what a refine gives.
+fn bears(table: &NodeTable<'_, '_>, number: u32, given: Siblings<'_, Source<'_>>) -> bool
+    ensures { result ≡ option_map_or (λ p. spec.may_bear p (row_by source_view given.entry))
+        (part_in (slots_of table.now) number) false }
+{
+    match table.node(number) {
+        Some(node) => may_bear(node.keyword(), given),
+        None => false,
+    }
+}
+
+/// The number of a node, where there is one and it may bear what a refine gives.
+fn fit(
+    table: &NodeTable<'_, '_>,
+    number: Option<u32>,
+    given: Siblings<'_, Source<'_>>,
+) -> Option<u32>
+    ensures { result ≡ option_and_then (λ n. if option_map_or (λ p. spec.may_bear p
+        (row_by source_view given.entry)) (part_in (slots_of table.now) n) false
+        then Some n else None) number }
+{
+    match number {
+        Some(number) if bears(table, number, given) => Some(number),
+        _ => None,
+    }
+}
+
+/// The number of a refine's target among the last nodes of a table, where it may bear what the refine gives.
 fn target_in(
     alloc: Global,
     prefixes: &Prefixes<'_>,
     owner: usize,
     refine: Node<'_, Source<'_>>,
-    nodes: Siblings<'_, ExpandedNode<'_, '_>>,
+    nodes: LastNodes<'_, '_, '_>,
 ) -> Result<Option<u32>, AllocError>
-    ensures { (modules : Forest sources.Source) → IsOf prefixes.now modules
+    requires { IfSome nodes.index (λ x. Indexes nodes.first x.now (parts_in nodes.table.now)) }
+    ensures { let first = nodes.entry.first in
+        (modules : Forest sources.Source) (earlier : List (Place Part)) (parent : Option ℕ) (f : Forest Part)
+        → IsOf prefixes.now modules → length earlier ≡ first
+        → parts_in nodes.entry.table.now ≡ earlier ++ places parent first f
         → IfOk result (λ number. number ≡ target_in modules owner
-        (label_by source_view refine.entry) (row_by source_view refine.entry.children)
-        nodes.entry.number (row_by numbered_part nodes.entry)) }
+        (label_by source_view refine.entry) (row_by source_view refine.entry.children) first f) }
 {
     let Some(path) = relative_path(alloc, argument_of(refine))? else {
         return Ok(None);
     };
     let home = refine.label().home;
-    match node_at(prefixes, home, owner, &path, nodes) {
-        Some(node) if may_bear(node.label().keyword(), refine.children()) => Ok(Some(
-            node.number(),
-        )),
-        _ => Ok(None),
-    }
+    let number = number_at(prefixes, home, owner, &path, nodes);
+    Ok(fit(nodes.table, number, refine.children()))
 }
 
 /// Changes the target of a refine among the nodes from that of a number on, or tells the refine; other statements change
@@ -54,21 +87,30 @@ fn apply<'a, 't>(
     prefixes: &Prefixes<'t>,
     owner: usize,
     first: u32,
+    index: Option<&TargetIndex<'t>>,
     refine: Node<'a, Source<'t>>,
     made: &mut Made<'a, 't>,
 ) -> Result<(), AllocError>
-    ensures { let s = label_by source_view refine.entry in
+    requires { IfSome index (λ x. Indexes first x.now (parts_in made.old.table)) }
+    ensures changes { let s = label_by source_view refine.entry in
         let given = row_by source_view refine.entry.children in
         (modules : Forest sources.Source) (nodes : Forest Part) → IsOf prefixes.now modules
         → OnOk result (Changes first nodes (spec.after_refine modules owner s given nodes)
         (when (spec.is_refine s && not (spec.is_fit modules owner s given nodes))
         (broken 14 s.home s.statement.line)) made.old made.new) }
+    ensures indexed { (x : TargetIndex) → Indexes first x (parts_in made.old.table)
+        → OnOk result (Indexes first x (parts_in made.new.table)) }
 {
     let source = refine.label();
     if !Keyword::Refine.is(source.keyword) {
         return Ok(());
     }
-    match target_in(alloc, prefixes, owner, refine, made.table.from(first))? {
+    let nodes = LastNodes {
+        table: &made.table,
+        first,
+        index,
+    };
+    match target_in(alloc, prefixes, owner, refine, nodes)? {
         Some(number) => made.table.refine(number, refine.children()),
         None => {
             let found = broken(CompileCode::C14, source.home, source.statement);
@@ -76,6 +118,21 @@ fn apply<'a, 't>(
             Ok(())
         }
     }
+}
+
+/// The index of the nodes of a table from that of a number on, where refines among some statements may be many.
+fn index_for<'t>(
+    alloc: Global,
+    table: &NodeTable<'_, 't>,
+    first: u32,
+    statements: Siblings<'_, Source<'t>>,
+) -> Result<Option<TargetIndex<'t>>, AllocError>
+    ensures { IfOk result (λ made. IfSome made (λ x. Indexes first x (parts_in table.now))) }
+{
+    if statements.count() < MANY {
+        return Ok(None);
+    }
+    TargetIndex::of(alloc, table, first)
 }
 
 /// Applies the refines of a row, one after another, to the nodes from that of a number on.
@@ -92,8 +149,17 @@ pub(crate) fn refine<'a, 't>(
         → OnOk result (Changes first nodes (spec.refined modules owner own nodes)
         (spec.refine_breaks modules owner own nodes) made.old made.new) }
 {
+    let index = index_for(alloc, &made.table, first, statements)?;
     for statement in statements {
-        apply(alloc, prefixes, owner, first, statement, made)?;
+        apply(
+            alloc,
+            prefixes,
+            owner,
+            first,
+            index.as_ref(),
+            statement,
+            made,
+        )?;
     }
     Ok(())
 }

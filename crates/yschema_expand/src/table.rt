@@ -39,6 +39,15 @@ impl<'a, 't> NodeTable<'a, 't> {
         self.from(0)
     }
 
+    /// The nodes as they lie from that of a number on.
+    pub(crate) fn slots_from(&self, number: u32) -> &[Slot<ExpandedNode<'a, 't>>]
+        ensures { result.now ≡ drop number (slots_of self.now) }
+    {
+        let slots = self.slots.as_slice();
+        let (_, from) = slots.split_at((number as usize).min(slots.len()));
+        from
+    }
+
     /// The nodes from that of a number on.
     pub(crate) fn from(&self, number: u32) -> Siblings<'_, ExpandedNode<'a, 't>>
         ensures row { row_by numbered_part result

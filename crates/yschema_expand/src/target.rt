@@ -1,17 +1,23 @@
 //! The nodes to which the paths of refines lead (RFC 7950, 6.5 and 7.13.2).
 
-ghost use Rattle.std.specs.Prelude.{◌≡◌, ◌+◌, IfSome, map, option_map};
+ghost use Rattle.std.specs.Prelude.{◌≡◌, ◌+◌, ◌++◌, ℕ, List, Option, IfSome, length, map, option_map};
 ghost use Rattle.yspec.specs.Forest.{Forest};
+ghost use Rattle.yspec.specs.linking.Parts.{Part};
 ghost use Rattle.yspec.specs.linking.Source as sources;
 ghost use Rattle.yspec.specs.linking.Prefixes as spec;
 ghost use Rattle.yspec.specs.linking.Expansion.{is_step};
+ghost use Rattle.ybase_preorder.specs.Layout.{Place, places};
 ghost use Rattle.ybase_preorder.specs.View.{row_by};
 ghost use Rattle.ylink_grammar.specs.NameView.{names_view};
 ghost use Rattle.ylink_names.specs.PrefixView.{IsOf, node_name_view};
+ghost use Rattle.yschema_expand.specs.Indexing.{Indexes};
 ghost use Rattle.yschema_expand.specs.NodeView.{numbered_part, part_view};
+ghost use Rattle.yschema_expand.specs.TableView.{parts_in};
 ghost use Rattle.yschema_expand.specs.Targets.{node_seen, found_in, found_at};
 
+use crate::indexing::TargetIndex;
 use crate::nodes::ExpandedNode;
+use crate::table::NodeTable;
 use ybase_preorder::{Node, Siblings};
 use ylink_grammar::Name;
 use ylink_names::{NodeName, Prefixes};
@@ -45,7 +51,7 @@ fn child_called<'p, 'a, 't>(
 
 /// The node at a path that begins among some siblings, the names of which stand in a module; those without a prefix are of
 /// a module that is given.
-pub(crate) fn node_at<'p, 'a, 't>(
+fn node_at<'p, 'a, 't>(
     prefixes: &Prefixes<'_>,
     home: usize,
     owner: usize,
@@ -64,4 +70,39 @@ pub(crate) fn node_at<'p, 'a, 't>(
         left = steps;
     }
     Some(found)
+}
+
+/// The nodes of a table from that of a number on, with an index of them where there is one.
+#[derive(Clone, Copy)]
+pub(crate) struct LastNodes<'b, 'a, 't> {
+    pub table: &'b NodeTable<'a, 't>,
+    pub first: u32,
+    pub index: Option<&'b TargetIndex<'t>>,
+}
+
+/// The number of the node at a path that begins among the last nodes of a table, the names of which stand in a module; those
+/// without a prefix are of a module that is given.
+pub(crate) fn number_at(
+    prefixes: &Prefixes<'_>,
+    home: usize,
+    owner: usize,
+    path: &[Name<'_>],
+    nodes: LastNodes<'_, '_, '_>,
+) -> Option<u32>
+    requires { IfSome nodes.index (λ x. Indexes nodes.first x.now (parts_in nodes.table.now)) }
+    ensures { let first = nodes.entry.first in
+        (modules : Forest sources.Source) (earlier : List (Place Part)) (parent : Option ℕ) (f : Forest Part)
+        → IsOf prefixes.now modules → length earlier ≡ first
+        → parts_in nodes.entry.table.now ≡ earlier ++ places parent first f
+        → result ≡ option_map (λ x. x.number)
+        (found_at (map (spec.node_name modules home owner) (names_view path.now)) first f) }
+{
+    match nodes.index {
+        Some(index) => index.number_at(prefixes, home, owner, path),
+        None => {
+            let row = nodes.table.from(nodes.first);
+            let found = node_at(prefixes, home, owner, path, row)?;
+            Some(found.number())
+        }
+    }
 }

@@ -1,4 +1,5 @@
 use Rattle.std.proofs.Common.{◌++◌, ◌∙◌, ◌&&◌, not, sym, ap}
+use Rattle.std.proofs.lemmas.Option.{IfSome_then}
 use Rattle.yspec.specs.linking.Expansion.{after_refine, refined, refine_breaks, is_refine, is_fit}
 use Rattle.yspec.specs.schema.Breaks.{broken, least_from, when}
 use Rattle.yspec.proofs.SchemaProofs.LeastLemmas.{least_of_both}
@@ -7,6 +8,7 @@ use Rattle.ybase_preorder.specs.View.{row_by, label_by}
 use Rattle.ybase_preorder.proofs.RowLemmas.{takes_by, takes_none_by}
 use Rattle.ylink_grammar.specs.BreakView.{seen}
 use Rattle.ylink_grammar.specs.SourceView.{source_view}
+use Rattle.yschema_expand.proofs.IndexedLemmas.{by_ref}
 use Rattle.yschema_expand.proofs.RefineLemmas.{refined_first, refined_none}
 use Rattle.yschema_expand.proofs.refining.refine.Goals as goal
 
@@ -22,10 +24,11 @@ loop-statement-preserved c =
     record {
       more = tt;
       ends = tt;
+      indexed = IfSome_then c.loop-statement.index-1 c.loop-statement.invariant.indexed (λ x holds. c.in_ok-apply.ensures.indexed x holds);
       so_far = λ modules nodes earlier parent of_it count at.
           let here = c.loop-statement.invariant.so_far modules nodes earlier parent of_it count at in
           let now = here.0 in
-          let one = c.in_ok-apply.ensures modules now of_it earlier parent count here.1 in
+          let one = c.in_ok-apply.ensures.changes modules now of_it earlier parent count here.1 in
           let told = when (is_refine s && not (is_fit modules owner s given now)) (broken 14 s.home s.statement.line) in
           let next = after_refine modules owner s given now in (
             next,
@@ -36,6 +39,9 @@ loop-statement-preserved c =
                 ∙ (ap (λ r. least_from (seen c.loop-statement.made.told) (refine_breaks modules owner r now)) (sym taken) ∙ here.3)),
           );
     }
+
+pub apply-requires : goal.apply-requires
+apply-requires c = by_ref c.as_ref.result c.loop-statement.index-1 _ c.as_ref.ensures.value c.loop-statement.invariant.indexed
 
 pub returns : goal.returns
 returns c = λ modules nodes of_it. λ earlier parent count at.

@@ -1,4 +1,5 @@
 use Rattle.std.proofs.Common.{◌≡◌, ◌++◌, ℕ, List, length, Option}
+use Rattle.std.specs.Option.{IfSome}
 use Rattle.yspec.specs.Forest.{Forest}
 use Rattle.yspec.specs.linking.Expansion.{refined, refine_breaks}
 use Rattle.yspec.specs.linking.Parts.{Part}
@@ -9,6 +10,7 @@ use Rattle.ybase_preorder.specs.View.{row_by}
 use Rattle.ylink_grammar.specs.BreakView.{seen}
 use Rattle.ylink_grammar.specs.SourceView.{source_view}
 use Rattle.ylink_names.specs.PrefixView.{IsOf}
+use Rattle.yschema_expand.specs.Indexing.{Indexes}
 use Rattle.yschema_expand.specs.TableView.{parts_in}
 use Rattle.yschema_expand.proofs.refining.refine.Given as goal
 
@@ -17,6 +19,7 @@ abbrev pub invariant-loop-statement : goal.invariant-loop-statement
 invariant-loop-statement l = record {
   more : (goal.iterator-loop-statement).can_next l.statement-iterator;
   ends : (goal.iterator-loop-statement).is_finite l.statement-iterator;
+  indexed : IfSome l.index (λ x. Indexes l.first x (parts_in l.made.table));
   so_far : (modules : Forest Source) (nodes : Forest Part) (earlier : List (Place Part)) (parent : Option ℕ) → IsOf l.prefixes modules → length earlier ≡ l.first
       → parts_in l.fn.made.table ≡ earlier ++ places parent l.first nodes
       → (now : Forest Part) × (parts_in l.made.table ≡ earlier ++ places parent l.first now)
