@@ -2,7 +2,8 @@
 use Rattle.std.proofs.Common.{◌≡◌, ℕ, zero, suc, ◌+◌, ◌<◌, ◌&&◌, ℤ, pos, Bool, true, false, cond, List, [], ◌∷◌, ◌++◌, length, get_or, take, map, filter, Option, Some, None, refl, sym, ap, ap₂, ◌∙◌, arith, subst}
 use mathlib.Core.Path.{fun_ext}
 use Rattle.std.specs.Prelude.{int_lt, option_map, unwrap_or, slice_get, slice_set}
-use Rattle.std.specs.List.{flat_map, list_all}
+use Rattle.std.specs.List.{flat_map, list_all, list_any}
+use Rattle.std.specs.Ordering.{int_eq}
 use Rattle.std.specs.Option.{option_map_or}
 use Rattle.std.specs.BTreeSet.{BTreeSet}
 use Rattle.std.specs.declared.alloc.Global.{Global}
@@ -28,10 +29,10 @@ use Rattle.ybase_preorder.specs.declared.slot.Slot.{Slot}
 use Rattle.ybase_preorder.proofs.LabelLemmas.{preorder_by}
 use Rattle.ylink_grammar.specs.declared.source.Source as held
 use Rattle.ylink_grammar.specs.SourceView.{source_view}
-use Rattle.ylink.specs.DerivedView.{base_by, type_bases, Ascend, common_among, derived_among, set_at, AreSets}
+use Rattle.ylink.specs.DerivedView.{base_by, type_bases, Ascend, derived_among, set_at, AreSets}
 use Rattle.ylink.specs.IdentityView.{home_view, listed, identity_view, number_of, name_among, assigned_by}
 use Rattle.ylink.specs.declared.identities.Identity.{Identity}
-use Rattle.ylink.proofs.NumberLemmas.{ascend_from, ascend_before, both_kept}
+use Rattle.ylink.proofs.NumberLemmas.{ascend_from, ascend_before, both_kept, kept_ascend}
 
 -- ---- statements of a row, one after another
 
@@ -192,20 +193,39 @@ module _ (edges : List Edge) (numbers : List ℕ) where
   marked_so marked base are = ap (λ (test : ℕ → Bool). map pos (filter test numbers)) (fun_ext (λ n. are n ∙ sym (and_true (derives edges n base))))
 
   -- those that derive from one more
-  pub common_so : (bases : List ℕ) (base : ℕ) (one other both : List ℤ) → one ≡ derived_among edges numbers bases → other ≡ derived_among edges numbers (base ∷ [])
-      → both ≡ common_among numbers one other → both ≡ derived_among edges numbers (bases ++ base ∷ [])
-  common_so bases base one other both one_is other_is is =
-      is ∙ (ap₂ (common_among numbers) one_is other_is
+  one_more : (bases : List ℕ) (base : ℕ) (other : List ℤ) → other ≡ derived_among edges numbers (base ∷ [])
+      → filter (λ n. list_any (int_eq (pos n)) other) (filter (λ n. list_all (derives edges n) bases) numbers)
+      ≡ filter (λ n. list_all (derives edges n) (bases ++ base ∷ [])) numbers
+  one_more bases base other other_is =
+      ap (λ (keys : List ℤ). filter (λ n. list_any (int_eq (pos n)) keys) (filter (λ n. list_all (derives edges n) bases) numbers)) other_is
       ∙ (both_kept (λ n. list_all (derives edges n) bases) (λ n. list_all (derives edges n) (base ∷ [])) numbers
-      ∙ ap (λ (test : ℕ → Bool). map pos (filter test numbers)) (fun_ext (λ n. sym (list_all-append (derives edges n) bases (base ∷ []))))))
+      ∙ ap (λ (test : ℕ → Bool). filter test numbers) (fun_ext (λ n. sym (list_all-append (derives edges n) bases (base ∷ [])))))
+
+all_numbers : (ns : List ℕ) → filter (λ n. true) ns ≡ ns
+all_numbers [] = refl
+all_numbers (n ∷ ns) = ap (λ (l : List ℕ). n ∷ l) (all_numbers ns)
 
 -- the same of a set
-pub common_derived : (set : Forest Source) (numbers : List ℕ) → numbers ≡ map (λ (p : Placed). p.source.number) (identities_of set)
-    → (bases : List ℕ) (base : ℕ) (one other both : List ℤ) → one ≡ numbers_derived set bases → other ≡ numbers_derived set (base ∷ [])
-    → both ≡ common_among numbers one other → both ≡ numbers_derived set (bases ++ base ∷ [])
-common_derived set numbers are bases base one other both one_is other_is is =
-    common_so (definition_edges set) numbers bases base one other both (one_is ∙ sym (derived_so set numbers are bases)) (other_is ∙ sym (derived_so set numbers are (base ∷ []))) is
-    ∙ derived_so set numbers are (bases ++ base ∷ [])
+module _ (set : Forest Source) (numbers : List ℕ) (are : numbers ≡ map (λ (p : Placed). p.source.number) (identities_of set)) where
+  abbrev pub derived_numbers : List ℕ → List ℕ
+  derived_numbers bases = filter (λ n. list_all (derives (definition_edges set) n) bases) numbers
+
+  pub next_kept : (bases : List ℕ) (base : ℕ) (more : List ℕ) (other : List ℤ) → more ≡ bases ++ base ∷ [] → other ≡ numbers_derived set (base ∷ [])
+      → filter (λ n. list_any (int_eq (pos n)) other) (derived_numbers bases) ≡ derived_numbers more
+  next_kept bases base more other more_is other_is =
+      one_more (definition_edges set) numbers bases base other (other_is ∙ sym (derived_so set numbers are (base ∷ [])))
+      ∙ ap derived_numbers (sym more_is)
+
+  pub first_kept : (base : ℕ) (one : List ℤ) → one ≡ numbers_derived set (base ∷ [])
+      → filter (λ n. list_any (int_eq (pos n)) one) numbers ≡ derived_numbers (base ∷ [])
+  first_kept base one one_is =
+      ap (λ (ns : List ℕ). filter (λ n. list_any (int_eq (pos n)) one) ns) (sym (all_numbers numbers)) ∙ next_kept [] base (base ∷ []) one refl one_is
+
+  pub all_derived : (bases kept : List ℕ) (keys : List ℤ) → Ascend 0 numbers → (Ascend 0 kept → keys ≡ map pos kept) → kept ≡ derived_numbers bases
+      → keys ≡ numbers_derived set bases
+  all_derived bases kept keys ascend put is =
+      put (subst (Ascend 0) (sym is) (kept_ascend (λ n. list_all (derives (definition_edges set) n) bases) 0 numbers ascend))
+      ∙ (ap (map pos) is ∙ derived_so set numbers are bases)
 
 -- ---- sets by number
 

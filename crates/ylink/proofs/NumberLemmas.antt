@@ -1,5 +1,5 @@
 -- Numbers that ascend, and the sets that are made of them.
-use Rattle.std.proofs.Common.{◌≡◌, ℕ, zero, suc, ◌+◌, ◌<◌, ◌≤◌, ◌&&◌, ℤ, pos, Bool, true, false, cond, List, [], ◌∷◌, ◌++◌, length, get_or, take, map, filter, refl, sym, ap, ap₂, ◌∙◌, arith, inl, inr}
+use Rattle.std.proofs.Common.{◌≡◌, ℕ, zero, suc, ◌+◌, ◌<◌, ◌≤◌, ◌&&◌, ℤ, pos, Bool, true, false, cond, List, [], ◌∷◌, ◌++◌, length, get_or, take, drop, map, filter, append_assoc, refl, sym, ap, ap₂, ◌∙◌, arith, inl, inr}
 use Rattle.std.specs.Prelude.{int_lt}
 use Rattle.std.specs.List.{Contains, list_all, list_any}
 use Rattle.std.specs.Cmp.{signed_Decides}
@@ -8,8 +8,8 @@ use Rattle.std.specs.declared.cmp.Ordering.TheVariants.{Less, Equal, Greater}
 use Rattle.std.specs.BTreeSet.{insert_key}
 use Rattle.std.proofs.lemmas.Bool.{and_from, and_parts, or_cases, or_left, or_right, false≢true}
 use Rattle.std.proofs.lemmas.Int.{ints}
-use Rattle.std.proofs.lemmas.List.{take_more}
-use Rattle.ylink.specs.DerivedView.{Ascend, common_among}
+use Rattle.std.proofs.lemmas.List.{drop_more, map-append, take_more}
+use Rattle.ylink.specs.DerivedView.{Ascend}
 
 -- ---- one key more
 
@@ -148,6 +148,50 @@ filter_same p q (n ∷ ns) same =
     ap₂ (λ b (l : List ℕ). cond b (n ∷ l) l) (same n (0, omega arith, refl))
     (filter_same p q ns (λ m at. same m (suc at.0, (let low = at.1 in omega (arith, low)), at.2)))
 
--- those that both keep
-pub both_kept : (one other : ℕ → Bool) (ns : List ℕ) → common_among ns (map pos (filter one ns)) (map pos (filter other ns)) ≡ map pos (filter (λ n. one n && other n) ns)
-both_kept one other ns = ap (map pos) (filter_same _ _ ns (λ n at. ap₂ (λ a b. a && b) (kept_exactly one ns n at) (kept_exactly other ns n at)))
+filter_twice : (p q : ℕ → Bool) (ns : List ℕ) → filter q (filter p ns) ≡ filter (λ n. p n && q n) ns
+filter_twice p q [] = refl
+filter_twice p q (n ∷ ns) = by (p n) (filter_twice p q ns)
+  where
+    by : (b : Bool) → filter q (filter p ns) ≡ filter (λ m. p m && q m) ns
+        → filter q (cond b (n ∷ filter p ns) (filter p ns)) ≡ cond (b && q n) (n ∷ filter (λ m. p m && q m) ns) (filter (λ m. p m && q m) ns)
+    by true rest = ap (λ (l : List ℕ). cond (q n) (n ∷ l) l) rest
+    by false rest = rest
+
+-- of those that a test keeps, the ones that are among those that another keeps
+pub both_kept : (one other : ℕ → Bool) (ns : List ℕ)
+    → filter (λ n. list_any (int_eq (pos n)) (map pos (filter other ns))) (filter one ns) ≡ filter (λ n. one n && other n) ns
+both_kept one other ns = filter_twice one (λ n. list_any (int_eq (pos n)) (map pos (filter other ns))) ns
+    ∙ filter_same _ _ ns (λ n at. ap (λ b. one n && b) (kept_exactly other ns n at))
+
+-- ---- those that a test keeps, one after another
+
+pub next_held : (keep : ℕ → Bool) (ns : List ℕ) (i d : ℕ) (held after total : List ℕ) (b : Bool) → i < length ns → b ≡ keep (get_or ns i d)
+    → after ≡ held ++ cond b (get_or ns i d ∷ []) [] → held ++ filter keep (drop i ns) ≡ total → after ++ filter keep (drop (i + 1) ns) ≡ total
+next_held keep ns i d held after total b within is added so_far =
+    let x = get_or ns i d in
+    let rest = filter keep (drop (i + 1) ns) in
+    ap (λ l. l ++ rest) added
+    ∙ (append_assoc held (cond b (x ∷ []) []) rest
+    ∙ (ap (λ l. held ++ l) (in_front b rest ∙ ap (λ c. cond c (x ∷ rest) rest) is)
+    ∙ (sym (ap (λ l. held ++ filter keep l) (drop_more ns i d within)) ∙ so_far)))
+  where
+    in_front : (c : Bool) (rest : List ℕ) → cond c (get_or ns i d ∷ []) [] ++ rest ≡ cond c (get_or ns i d ∷ rest) rest
+    in_front true rest = refl
+    in_front false rest = refl
+
+-- ---- the set of some numbers
+
+pub kept_ascend : (keep : ℕ → Bool) (low : ℕ) (ns : List ℕ) → Ascend low ns → Ascend low (filter keep ns)
+kept_ascend keep low [] all = tt
+kept_ascend keep low (n ∷ ns) all = by (keep n) (kept_ascend keep (suc n) ns all.1)
+  where
+    by : (b : Bool) → Ascend (suc n) (filter keep ns) → Ascend low (cond b (n ∷ filter keep ns) (filter keep ns))
+    by true rest = (all.0, rest)
+    by false rest = ascend_from (suc n) low (filter keep ns) (let a = all.0 in omega (arith, a)) rest
+
+pub number_put : (ns : List ℕ) (i d : ℕ) → i < length ns → (keys after : List ℤ) → Ascend 0 ns → after ≡ insert_key int_cmp keys (pos (get_or ns i d))
+    → keys ≡ map pos (take i ns) → after ≡ map pos (take (i + 1) ns)
+number_put ns i d within keys after ascend put so_far =
+    put ∙ (ap (λ ks. insert_key int_cmp ks (pos (get_or ns i d))) so_far
+    ∙ (insert_last (map pos (take i ns)) (pos (get_or ns i d)) (ascend_before 0 ns i d ascend within)
+    ∙ sym (ap (map pos) (take_more ns i d within) ∙ map-append pos (take i ns) (get_or ns i d ∷ []))))

@@ -3,6 +3,7 @@ use Rattle.std.proofs.Common.{◌≡◌, ℕ, zero, suc, ◌+◌, ◌<◌, Bool,
 use Rattle.std.specs.Prelude.{IfOk, is_some, option_map, option_and_then, ◌==◌, ◌||◌, if◌then◌else◌}
 use Rattle.std.specs.List.{range_with_len, flat_map, filter_map, cons_option, list_any}
 use Rattle.std.specs.List.Sorted.{IsPermutation}
+use Rattle.std.specs.Global.{Box}
 use Rattle.std.specs.Option.{option_map_or}
 use Rattle.std.proofs.lemmas.Bool.{and_parts}
 use Rattle.std.proofs.lemmas.Bool.Decides.{Decides-eqb}
@@ -27,7 +28,7 @@ use Rattle.ylink_grammar.specs.SourceView.{source_view}
 use Rattle.ylink_names.specs.MeaningView.{meaning_at, AreMeanings}
 use Rattle.ylink_names.specs.Ordered.{IsNamed, AreInOrder}
 use Rattle.ylink_names.proofs.NumberedLemmas.{length_placed}
-use Rattle.ylink.specs.TypedefView.{known_at, known_view, row_at, AreRows}
+use Rattle.ylink.specs.TypedefView.{known_at, known_held, row_at, AreRows}
 use Rattle.ylink.specs.declared.typedefs.Known as known_in_code
 use Rattle.ylink.proofs.KnownLemmas.{same_known}
 use Rattle.ylink_names.proofs.OrderedLemmas.{edge_named, place_of}
@@ -223,13 +224,13 @@ rows_count f rows are =
 
 -- ---- a table in which what is known of one typedef is set
 
-set_same : (items : List (Option known_in_code.Known)) (n : ℕ) (k : Option known_in_code.Known) → n < length items
-    → known_at (slice_set items n k) n ≡ option_map_or known_view k unknown
+set_same : (items : List (Option (Box known_in_code.Known))) (n : ℕ) (k : Option (Box known_in_code.Known)) → n < length items
+    → known_at (slice_set items n k) n ≡ known_held k
 set_same [] n k within = absurd (omega (arith, within))
 set_same (x ∷ xs) zero k within = refl
 set_same (x ∷ xs) (suc n) k within = set_same xs n k (omega (arith, within))
 
-set_other : (items : List (Option known_in_code.Known)) (n e : ℕ) (k : Option known_in_code.Known) → (e ≡ n → ⊥)
+set_other : (items : List (Option (Box known_in_code.Known))) (n e : ℕ) (k : Option (Box known_in_code.Known)) → (e ≡ n → ⊥)
     → known_at (slice_set items n k) e ≡ known_at items e
 set_other [] n e k other = refl
 set_other (x ∷ xs) zero zero k other = absurd (other refl)
@@ -237,8 +238,8 @@ set_other (x ∷ xs) zero (suc e) k other = refl
 set_other (x ∷ xs) (suc n) zero k other = refl
 set_other (x ∷ xs) (suc n) (suc e) k other = set_other xs n e k (λ same. other (ap suc same))
 
-pub known_set : (items : List (Option known_in_code.Known)) (n e : ℕ) (k : Option known_in_code.Known) (own : Known) → n < length items
-    → option_map_or known_view k unknown ≡ own → known_at (slice_set items n k) e ≡ (if e == n then own else known_at items e)
+pub known_set : (items : List (Option (Box known_in_code.Known))) (n e : ℕ) (k : Option (Box known_in_code.Known)) (own : Known) → n < length items
+    → known_held k ≡ own → known_at (slice_set items n k) e ≡ (if e == n then own else known_at items e)
 known_set items n e k own within is = by (e == n) refl
   where
     by : (b : Bool) → (e == n) ≡ b → known_at (slice_set items n k) e ≡ cond b own (known_at items e)

@@ -1,7 +1,6 @@
 -- Those of a set's identities that derive from others, as the specification's.
 use Rattle.std.specs.Prelude.{◌≡◌, ◌≤◌, ◌&&◌, ⊤, ℕ, suc, ℤ, pos, Bool, List, [], ◌∷◌, ◌++◌, Option, Some, None, map, filter, option_and_then, slice_get, if◌then◌else◌}
-use Rattle.std.specs.List.{list_all, list_any, filter_map}
-use Rattle.std.specs.Ordering.{int_eq}
+use Rattle.std.specs.List.{list_all, filter_map}
 use Rattle.std.specs.BTreeSet.{BTreeSet}
 use Rattle.std.specs.declared.alloc.Global.{Global}
 use Rattle.std.specs.declared.rc.Rc.{Rc}
@@ -19,10 +18,6 @@ Ascend low (n ∷ ns) = (low ≤ n) × Ascend (suc n) ns
 -- those of some numbers that derive from all of some
 abbrev pub derived_among : List Edge → List ℕ → List ℕ → List ℤ
 derived_among edges numbers bases = map pos (filter (λ n. list_all (derives edges n) bases) numbers)
-
--- those of some numbers that are among both of two lists
-abbrev pub common_among : List ℕ → List ℤ → List ℤ → List ℤ
-common_among numbers one other = map pos (filter (λ n. list_any (int_eq (pos n)) one && list_any (int_eq (pos n)) other) numbers)
 
 abbrev pub set_at : List (Option (Rc (BTreeSet ℤ) Global)) → ℕ → Option (Rc (BTreeSet ℤ) Global)
 set_at sets n = option_and_then (λ s. s) (slice_get sets n)

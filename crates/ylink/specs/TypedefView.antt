@@ -1,5 +1,6 @@
 -- What is known of typedefs, as the specification's.
 use Rattle.std.specs.Prelude.{◌≡◌, ℕ, List, Option, Some, None, option_map, option_and_then, slice_get, if◌then◌else◌, map}
+use Rattle.std.specs.Global.{Box}
 use Rattle.std.specs.Option.{option_map_or}
 use Rattle.yspec.specs.Forest.{Forest}
 use Rattle.yspec.specs.linking.Keyword.{typedef_word}
@@ -20,9 +21,12 @@ use Rattle.ylink.specs.declared.typedefs.Typedefs.{Typedefs}
 abbrev pub known_view : Known → spec.Known
 known_view k = record { verdict = verdict_view k.verdict; default = option_map stated_view k.default }
 
+abbrev pub known_held : Option (Box Known) → spec.Known
+known_held known = option_map_or (λ k. known_view k.value) known spec.unknown
+
 -- what a table holds of the typedef of a number
-abbrev pub known_at : List (Option Known) → ℕ → spec.Known
-known_at table number = option_map_or known_view (option_and_then (λ k. k) (slice_get table number)) spec.unknown
+abbrev pub known_at : List (Option (Box Known)) → ℕ → spec.Known
+known_at table number = known_held (option_and_then (λ k. k) (slice_get table number))
 
 -- what is known of the typedef that the statement of a number names
 abbrev pub names_in : Typedefs → ℕ → spec.Known

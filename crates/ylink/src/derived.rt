@@ -1,6 +1,6 @@
 //! Those of a set's identities that derive from others, by number (RFC 7950, 7.18.2 and 9.10).
 
-ghost use Rattle.std.specs.Prelude.{◌≡◌, ◌++◌, ◌∷◌, ◌&&◌, [], ℕ, pos, List, None, false, IfOk, OnOk, map, filter, get_or, option_map, if◌then◌else◌};
+ghost use Rattle.std.specs.Prelude.{◌≡◌, ◌++◌, ◌∷◌, [], ℕ, pos, List, None, false, IfOk, OnOk, map, filter, get_or, option_map, if◌then◌else◌};
 ghost use Rattle.std.specs.BTreeSet.{contains, insert_key};
 ghost use Rattle.std.specs.Ordering.{int_cmp};
 ghost use Rattle.yspec.specs.linking.Graph as graph;
@@ -9,7 +9,7 @@ ghost use Rattle.ybase_graph.specs.Edges.{edge_view};
 ghost use Rattle.ybase_preorder.specs.View.{row_by, label_by};
 ghost use Rattle.ylink_grammar.specs.SourceView.{source_view};
 ghost use Rattle.ylink_names.specs.MeaningView.{meaning_at};
-ghost use Rattle.ylink.specs.DerivedView.{Ascend, AreSets, base_by, bases_by, common_among, derived_among, set_at, type_bases};
+ghost use Rattle.ylink.specs.DerivedView.{Ascend, AreSets, base_by, bases_by, derived_among, set_at, type_bases};
 
 use std::alloc::{AllocError, Global};
 use std::collections::BTreeSet;
@@ -30,13 +30,21 @@ fn is_marked(marks: &[bool], number: u32) -> bool
     marks.get(number as usize).copied().unwrap_or(false)
 }
 
+/// Adds a number to a set.
+fn insert_number(set: &mut BTreeSet<i64>, number: u32) -> Result<(), AllocError>
+    ensures { OnOk result (set.new.keys ≡ insert_key int_cmp set.old.keys (pos number)) }
+{
+    set.insert(i64::from(number))?;
+    Ok(())
+}
+
 /// Adds a number to a set where it is to be there.
 fn add_number(set: &mut BTreeSet<i64>, number: u32, is_there: bool) -> Result<(), AllocError>
     ensures { OnOk result (set.new.keys ≡ if is_there
         then insert_key int_cmp set.old.keys (pos number) else set.old.keys) }
 {
     if is_there {
-        set.insert(i64::from(number))?;
+        insert_number(set, number)?;
     }
     Ok(())
 }
@@ -185,27 +193,40 @@ fn holds(set: &BTreeSet<i64>, number: u32) -> bool
     has_key(set, &i64::from(number))
 }
 
-/// Whether a number is in both of two sets.
-fn is_common(one: &BTreeSet<i64>, other: &BTreeSet<i64>, number: u32) -> bool
-    ensures { result
-        ≡ (contains int_cmp one.now (pos number) && contains int_cmp other.now (pos number)) }
+/// Adds a number to some where it is to be there.
+fn push_number(numbers: &mut Vec<u32>, number: u32, is_there: bool) -> Result<(), AllocError>
+    ensures { OnOk result (numbers.new.items
+        ≡ numbers.old.items ++ (if is_there then number ∷ [] else [])) }
 {
-    holds(one, number) && holds(other, number)
+    if is_there {
+        numbers.push(number)?;
+    }
+    Ok(())
 }
 
-/// Those of some numbers that are in both sets.
-pub(crate) fn common(
+/// Those of some numbers that are in a set.
+pub(crate) fn held_in(
     alloc: Global,
     numbers: &[u32],
-    one: &BTreeSet<i64>,
-    other: &BTreeSet<i64>,
-) -> Result<BTreeSet<i64>, AllocError>
-    ensures { Ascend 0 numbers.now → IfOk result (λ set. set.keys
-        ≡ common_among numbers.now one.now.keys other.now.keys) }
+    set: &BTreeSet<i64>,
+) -> Result<Vec<u32>, AllocError>
+    ensures { IfOk result (λ held. held.items
+        ≡ filter (λ n. contains int_cmp set.now (pos n)) numbers.now) }
+{
+    let mut held = Vec::new(alloc);
+    for number in numbers {
+        push_number(&mut held, *number, holds(set, *number))?;
+    }
+    Ok(held)
+}
+
+/// The set of some numbers.
+pub(crate) fn set_of(alloc: Global, numbers: &[u32]) -> Result<BTreeSet<i64>, AllocError>
+    ensures { Ascend 0 numbers.now → IfOk result (λ set. set.keys ≡ map pos numbers.now) }
 {
     let mut set = BTreeSet::new(alloc);
     for number in numbers {
-        add_number(&mut set, *number, is_common(one, other, *number))?;
+        insert_number(&mut set, *number)?;
     }
     Ok(set)
 }

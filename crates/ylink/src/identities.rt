@@ -10,7 +10,7 @@ ghost use Rattle.ylink_grammar.specs.SourceView.{source_view};
 ghost use Rattle.ylink.specs.DerivedView.{Ascend};
 ghost use Rattle.ylink.specs.IdentityView.{assigned_by, home_view, identity_view, listed, name_among, number_of};
 
-use crate::derived::{Derived, common, derived_among, set_held, sets_of};
+use crate::derived::{Derived, derived_among, held_in, set_held, set_of, sets_of};
 use crate::limit::accepted_type;
 use std::alloc::{AllocError, Global};
 use std::rc::Rc;
@@ -230,12 +230,16 @@ impl Identities {
             → IfOk result (λ set. set.value.keys
             ≡ spec.numbers_derived modules (first ∷ others.now)) }
     {
-        let mut derived = self.derived_from(alloc, first)?;
+        let derived = self.derived_from(alloc, first)?;
+        if others.is_empty() {
+            return Ok(derived);
+        }
+        let mut numbers = held_in(alloc, &self.numbers, &derived)?;
         for base in others {
             let other = self.derived_from(alloc, *base)?;
-            derived = Rc::new(alloc, common(alloc, &self.numbers, &derived, &other)?)?;
+            numbers = held_in(alloc, &numbers, &other)?;
         }
-        Ok(derived)
+        Ok(Rc::new(alloc, set_of(alloc, &numbers)?)?)
     }
 
     /// The type of an identityref that has these bases and stands in the module of a number; none without a base.

@@ -20,6 +20,7 @@ mod verdicts;
 pub use fault::CompileFault;
 pub use linked::{Linked, StmtId};
 pub use linking::link;
+pub use modules::prefixed_in;
 pub use statements::Statements;
 pub use types::Meant;
 pub use ylink_grammar::CompileCode;

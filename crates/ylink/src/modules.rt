@@ -51,7 +51,7 @@ fn add_prefix<'t>(
 }
 
 /// The prefixes that the row of a module of a name declares, each with the name of the module for which it stands.
-pub(crate) fn prefixed_in<'t>(
+pub fn prefixed_in<'t>(
     alloc: Global,
     own: &'t str,
     body: Siblings<'_, Source<'t>>,

@@ -30,7 +30,7 @@ pub(crate) struct Typedefs<'t> {
     // The number of the definition that each statement names.
     meanings: Vec<Option<u32>>,
     // What is known of each statement that is a typedef, by its number.
-    known: Vec<Option<Known<'t>>>,
+    known: Vec<Option<Box<Known<'t>>>>,
     // The identities of the set, over which types stand.
     identities: Identities,
 }
@@ -92,7 +92,7 @@ fn row_of<'a, 't>(
 }
 
 /// So many typedefs of which nothing is known.
-fn none_known<'t>(alloc: Global, count: usize) -> Result<Vec<Option<Known<'t>>>, AllocError>
+fn none_known<'t>(alloc: Global, count: usize) -> Result<Vec<Option<Box<Known<'t>>>>, AllocError>
     ensures { IfOk result (λ table. length table.items ≡ count) }
 {
     let mut table = Vec::with_capacity(alloc, count)?;
@@ -112,7 +112,7 @@ impl<'t> Typedefs<'t> {
     ghost use Rattle.ylink_names.specs.MeaningView.{meaning_at, AreMeanings};
     ghost use Rattle.ylink_names.specs.Ordered.{AreInOrder};
     ghost use Rattle.ylink.specs.IdentityView as identity;
-    ghost use Rattle.ylink.specs.TypedefView.{known_at, known_view, names_in, IsOf, RestsOn};
+    ghost use Rattle.ylink.specs.TypedefView.{known_at, known_held, known_view, names_in, IsOf, RestsOn};
 
     /// The number of the definition that each statement names.
     pub(crate) fn meanings(&self) -> &[Option<u32>]
@@ -141,7 +141,10 @@ impl<'t> Typedefs<'t> {
             ≡ names_in self.now number }
     {
         match self.meanings.get(number as usize)? {
-            Some(definition) => self.known.get(*definition as usize)?.as_ref(),
+            Some(definition) => match self.known.get(*definition as usize) {
+                Some(Some(known)) => Some(&**known),
+                _ => None,
+            },
             None => None,
         }
     }
@@ -179,9 +182,9 @@ impl<'t> Typedefs<'t> {
         alloc: Global,
         sources: &Sources<'t>,
         row: Option<Siblings<'_, Source<'t>>>,
-    ) -> Result<Option<Known<'t>>, AllocError>
+    ) -> Result<Option<Box<Known<'t>>>, AllocError>
         requires { RestsOn self.now (view sources.now) }
-        ensures { IfOk result (λ known. option_map_or known_view known spec.unknown
+        ensures { IfOk result (λ known. known_held known
             ≡ option_map_or (spec.known_in_row (view sources.now) (names_in self.now))
             (option_map (row_by source_view) row.entry) spec.unknown) }
     {
@@ -189,7 +192,10 @@ impl<'t> Typedefs<'t> {
             return Ok(None);
         };
         match found_with(Keyword::Type, row) {
-            Some(found) => Ok(Some(self.known_by(alloc, sources, row, found)?)),
+            Some(found) => {
+                let known = self.known_by(alloc, sources, row, found)?;
+                Ok(Some(Box::new(alloc, known)?))
+            }
             None => Ok(None),
         }
     }

@@ -1,19 +1,28 @@
 -- What the modules of a set call themselves and one another, as the specification's.
-use Rattle.std.specs.Prelude.{◌≡◌, ℕ, List, [], map, slice_get, Option}
+use Rattle.std.specs.Prelude.{◌≡◌, ℕ, List, [], ◌∷◌, map, slice_get, Option}
 use Rattle.std.specs.Option.{option_map_or}
 use Rattle.std.specs.String.{string_bytes}
-use Rattle.yspec.specs.Forest.{Forest}
+use Rattle.yspec.specs.Forest.{Forest, end, node}
 use Rattle.yspec.specs.types.Identities.{ModuleNames}
 use Rattle.yspec.specs.types.Types.{YangType, Val}
 use Rattle.yspec.specs.types.Values.{value_of_text}
-use Rattle.yspec.specs.linking.Source.{Source, Stated}
-use Rattle.yspec.specs.linking.Identities.{names_of}
+use Rattle.yspec.specs.linking.Source.{Source, Stated, argument_in}
+use Rattle.yspec.specs.linking.Identities.{names_of, prefixed_in}
 use Rattle.ytype.specs.Identities.{pair_view}
 use Rattle.yschema_resolve.specs.declared.modules.NamedModule.{NamedModule}
 use Rattle.yschema_resolve.specs.declared.modules.ModuleTable.{ModuleTable}
 
 abbrev pub named_view : NamedModule → ModuleNames
 named_view m = record { own = string_bytes m.own.value; prefixed = map pair_view m.prefixed.items }
+
+-- what a `module` statement calls itself and others
+abbrev pub names_by : Source → Forest Source → ModuleNames
+names_by s below = record { own = argument_in s; prefixed = prefixed_in (argument_in s) below }
+
+-- and each of a row
+abbrev pub names_in_row : Forest Source → List ModuleNames
+names_in_row end = []
+names_in_row (node s below after) = names_by s below ∷ names_in_row after
 
 -- what is said of a module that isn't there
 abbrev pub nothing_named : ModuleNames

@@ -1,13 +1,15 @@
 //! What the modules of a set call themselves and one another (RFC 7950, 7.1.4 and 7.1.5).
 
 ghost use Rattle.std.specs.Prelude.{◌≡◌, IfOk};
-ghost use Rattle.yspec.specs.linking.Identities.{names_of};
-ghost use Rattle.ylink.specs.LinkedView.{view};
-ghost use Rattle.yschema_resolve.specs.ModulesView.{named_view};
+ghost use Rattle.ybase_preorder.specs.View.{row_by, label_by};
+ghost use Rattle.ylink_grammar.specs.SourceView.{source_view};
+ghost use Rattle.yschema_resolve.specs.ModulesView.{named_view, names_by};
 
 use std::alloc::{AllocError, Global};
 use std::rc::Rc;
-use ylink::Linked;
+use ybase_preorder::Node;
+use ylink::{Linked, prefixed_in};
+use ylink_grammar::{Source, argument_of};
 use ytype::{ModuleNames, YType};
 
 /// What a module calls itself, and which modules its prefixes stand for, by name.
@@ -24,19 +26,15 @@ pub(crate) struct ModuleTable<'t> {
     modules: Vec<NamedModule<'t>>,
 }
 
-/// The module of a number.
-fn named_module<'t>(
-    alloc: Global,
-    linked: &Linked<'t>,
-    number: usize,
-) -> Result<NamedModule<'t>, AllocError>
-    ensures { IfOk result (λ m. named_view m ≡ names_of (view linked.now) number) }
+/// What a `module` statement calls itself and others.
+fn named_module<'t>(alloc: Global, top: Node<'_, Source<'t>>) -> Result<NamedModule<'t>, AllocError>
+    ensures { IfOk result (λ m. named_view m ≡ names_by (label_by source_view top.entry)
+        (row_by source_view top.entry.children)) }
 {
-    let own = String::from_str(alloc, linked.module_name(number))?;
-    Ok(NamedModule {
-        own: Rc::new(alloc, own)?,
-        prefixed: linked.prefixed(alloc, number)?,
-    })
+    let name = argument_of(top);
+    let own = Rc::new(alloc, String::from_str(alloc, name)?)?;
+    let prefixed = prefixed_in(alloc, name, top.children())?;
+    Ok(NamedModule { own, prefixed })
 }
 
 impl<'t> ModuleTable<'t> {
@@ -51,9 +49,8 @@ impl<'t> ModuleTable<'t> {
         ensures { IfOk result (λ table. AreNamesOf table (view linked.now)) }
     {
         let mut modules = Vec::new(alloc);
-        for _top in linked.sources().modules() {
-            let number = modules.len();
-            modules.push(named_module(alloc, linked, number)?)?;
+        for top in linked.sources().modules() {
+            modules.push(named_module(alloc, top)?)?;
         }
         Ok(ModuleTable { modules })
     }

@@ -1,26 +1,31 @@
-use Rattle.std.proofs.Common.{◌≡◌, ◌∷◌, take, get_or, sym, ap, ap₂, subst, ◌∙◌, ℕ, ℤ, List}
-use Rattle.std.specs.BTreeSet.{BTreeSet}
-use Rattle.std.proofs.lemmas.List.{take_more}
-use Rattle.yspec.specs.linking.Identities.{numbers_derived}
-use Rattle.ylink.specs.DerivedView.{Ascend, common_among}
-use Rattle.ylink.proofs.IdentityLemmas.{common_derived}
+use Rattle.std.proofs.Common.{◌≡◌, ◌+◌, ◌∷◌, pos, filter, get_or, map, take, arith, ap, ap₂, subst, ◌∙◌, ℕ, ℤ, List}
+use Rattle.std.specs.BTreeSet.{BTreeSet, contains}
+use Rattle.std.specs.Ordering.{int_cmp}
+use Rattle.std.proofs.lemmas.List.{take_all, take_more}
+use Rattle.ylink.specs.DerivedView.{Ascend}
+use Rattle.ylink.proofs.IdentityLemmas.{all_derived, derived_numbers, first_kept, next_kept}
 use Rattle.ylink.proofs.identities.Identities.derived_from_all.Goals as goal
+
+pub loop-base-init : goal.loop-base-init
+loop-base-init c modules is =
+    c.in_ok-numbers.ensures
+    ∙ (ap₂ (λ (ns : List ℕ) (s : BTreeSet ℤ). filter (λ n. contains int_cmp s (pos n)) ns) c.deref.ensures.value c.deref-2.ensures
+    ∙ first_kept modules c.args.self.now.numbers.items is.numbers c.args.first _ (c.in_ok-derived.ensures modules is))
 
 pub loop-base-preserved : goal.loop-base-preserved
 loop-base-preserved c modules is =
     let i = c.loop-base.base-index in
     let others = c.args.others.now in
-    let base = get_or others i 0 in
-    let numbers = c.args.self.now.numbers.items in
-    let one = c.loop-base.derived.value.keys in
-    let other = c.in_ok-other.other.value.keys in
-    let made = c.in_ok-derived-2.derived.value.keys in
-    let same : c.deref.result.now ≡ numbers = c.deref.ensures.value in
-    let common : made ≡ common_among numbers one other =
-    ap (λ s. s.keys) c.in_ok-derived-2.ensures.ok
-    ∙ (c.in_ok-common.ensures (subst (λ (ns : List ℕ). Ascend 0 ns) (sym same) is.ascend)
-    ∙ (ap₂ (λ (a b : BTreeSet ℤ). common_among c.deref.result.now a.keys b.keys) c.deref-in-loop-base.ensures c.deref-in-loop-base-2.ensures
-    ∙ ap (λ (ns : List ℕ). common_among ns one other) same)) in
-    common_derived modules numbers is.numbers (c.args.first ∷ take i others) base one other made
-    (c.loop-base.invariant modules is) (c.in_ok-other.ensures modules is) common
-    ∙ ap (λ l. numbers_derived modules (c.args.first ∷ l)) (sym (take_more others i 0 c.loop-base-test.true))
+    c.in_ok-numbers-2.ensures
+    ∙ (ap₂ (λ (ns : List ℕ) (s : BTreeSet ℤ). filter (λ n. contains int_cmp s (pos n)) ns) (c.deref-in-loop-base.ensures.value ∙ c.loop-base.invariant modules is) c.deref-in-loop-base-2.ensures
+    ∙ next_kept modules c.args.self.now.numbers.items is.numbers (c.args.first ∷ take i others) (get_or others i 0) (c.args.first ∷ take (i + 1) others) _
+    (ap (λ l. c.args.first ∷ l) (take_more others i 0 c.loop-base-test.true)) (c.in_ok-other.ensures modules is))
+
+pub returns : goal.returns
+returns c modules is =
+    let others = c.args.others.now in
+    let all : take c.loop-base.base-index others ≡ others = take_all c.loop-base.base-index others (omega arith) in
+    ap (λ s. s.keys) c.in_ok-new.ensures.ok
+    ∙ all_derived modules c.args.self.now.numbers.items is.numbers (c.args.first ∷ others) c.loop-base.numbers.items _ is.ascend
+    (subst (λ (ns : List ℕ). Ascend 0 ns → c.in_ok-set_of.field-0.keys ≡ map pos ns) c.deref-3.ensures.value c.in_ok-set_of.ensures)
+    (c.loop-base.invariant modules is ∙ ap (λ l. derived_numbers modules c.args.self.now.numbers.items is.numbers (c.args.first ∷ l)) all)
