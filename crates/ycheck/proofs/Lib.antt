@@ -4,6 +4,7 @@ pub mod LineLemmas
 pub mod MarkLemmas
 pub mod ReferenceLemmas
 pub mod RepeatedLemmas
+pub mod SortedLemmas
 pub mod TargetLemmas
 pub mod ValueLemmas
 pub mod WalkLemmas

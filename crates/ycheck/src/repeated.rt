@@ -1,36 +1,73 @@
 //! Entries with the same tuple, and items with the same value (RFC 7950, 7.7, 7.8.2 and 7.8.3).
 
-ghost use Rattle.std.specs.Prelude.{◌≡◌, IfOk, map, option_map};
+ghost use Rattle.std.specs.Prelude.{◌≡◌, IfOk, IsSorted, count_by, map, nat_lt, option_map};
+ghost use Rattle.std.specs.List.{list_any};
 ghost use Rattle.std.specs.Ordering.{eq_by_cmp};
 ghost use Rattle.yspec.specs.types.Order.{same_value};
 ghost use Rattle.yspec.specs.document.Instances.{own_path, paths_of, tuple_of_paths, same_tuple};
 ghost use Rattle.yschema_model.specs.Layout.{numbers_of, tuples_view};
 ghost use Rattle.yschema_model.specs.View as schema_view;
 ghost use Rattle.yinst_tree.specs.View as document_view;
-ghost use Rattle.ycheck.specs.Repeated.{marks, values_of, tuples_of};
+ghost use Rattle.ycheck.specs.Repeated.{marks, times_among, values_of, tuples_of};
 
 use crate::values::{leaf_value, valid_value, value_at};
 use std::alloc::{AllocError, Global};
-use std::collections::BTreeMap;
 use yinst_tree::Stored;
 use yschema_model::{Schema, SchemaId, Tuples};
 use ytype::{Val, YType};
+
+/// The keys that are there, in their order.
+fn sorted_keys<'k, K: Ord>(alloc: Global, keys: &'k [Option<K>]) -> Result<Vec<&'k K>, AllocError>
+    ensures sorted { IfOk result (λ sorted. IsSorted (λ a b. K.cmp a.now b.now) sorted.items) }
+    ensures all { IfOk result (λ sorted. (q : K)
+        → count_by (λ k. eq_by_cmp K.cmp q k.now) sorted.items ≡ times_among (eq_by_cmp K.cmp) keys.now q) }
+{
+    let mut sorted = Vec::with_capacity(alloc, keys.len())?;
+    'collect: for key in keys {
+        if let Some(key) = key {
+            sorted.push(key)?;
+        }
+    }
+    sorted.sort()?;
+    Ok(sorted)
+}
+
+/// Of keys in their order, those that come more than once, in their order.
+fn repeated_keys<'k, K: Ord>(alloc: Global, sorted: &[&'k K]) -> Result<Vec<&'k K>, AllocError>
+    requires { IsSorted (λ a b. K.cmp a.now b.now) sorted.now }
+    ensures sorted { IfOk result (λ twice. IsSorted (λ a b. K.cmp a.now b.now) twice.items) }
+    ensures all { IfOk result (λ twice. (q : K)
+        → list_any (λ k. eq_by_cmp K.cmp q k.now) twice.items
+        ≡ nat_lt 1 (count_by (λ k. eq_by_cmp K.cmp q k.now) sorted.now)) }
+{
+    let mut twice = Vec::new(alloc);
+    'compare: for place in 1..sorted.len() {
+        let next = sorted[place];
+        if sorted[place - 1].cmp(next).is_eq() {
+            twice.push(next)?;
+        }
+    }
+    Ok(twice)
+}
+
+/// Whether a key is among keys in their order.
+fn is_among<K: Ord>(sorted: &[&K], key: &K) -> bool
+    requires { IsSorted (λ a b. K.cmp a.now b.now) sorted.now }
+    ensures { result ≡ list_any (λ k. eq_by_cmp K.cmp key.now k.now) sorted.now }
+{
+    sorted.binary_search(&key).is_ok()
+}
 
 /// Of each of these keys, whether it is there and comes more than once.
 fn repeats<K: Ord>(alloc: Global, keys: &[Option<K>]) -> Result<Vec<bool>, AllocError>
     ensures { IfOk result (λ found. found.items ≡ marks (eq_by_cmp K.cmp) keys.now) }
 {
-    let mut comes_again = BTreeMap::new(alloc);
-    'count: for key in keys {
-        if let Some(key) = key {
-            let again = comes_again.contains_key(&key);
-            comes_again.insert(key, again)?;
-        }
-    }
+    let sorted = sorted_keys(alloc, keys)?;
+    let twice = repeated_keys(alloc, &sorted)?;
     let mut found = Vec::with_capacity(alloc, keys.len())?;
     'mark: for key in keys {
         let again = match key {
-            Some(key) => comes_again.get(&key).copied().unwrap_or(false),
+            Some(key) => is_among(&twice, key),
             None => false,
         };
         found.push(again)?;

@@ -1,6 +1,8 @@
 //! Names of members (RFC 7951, 4).
 
-ghost use Rattle.std.specs.Prelude.{◌≡◌, IfOk, string_bytes};
+ghost use Rattle.std.specs.Prelude.{◌≡◌, IfOk, option_map, string_bytes};
+ghost use Rattle.serde_json.specs.Find.{get_member};
+ghost use Rattle.serde_json.specs.View as json;
 ghost use Rattle.std.specs.List.{list_any};
 ghost use Rattle.yspec.specs.Forest.{row, node, end};
 ghost use Rattle.yspec.specs.text.Text.{is_text};
@@ -11,6 +13,7 @@ ghost use Rattle.yschema_model.specs.Layout.{number_of};
 ghost use Rattle.yschema_model.specs.View.{view, node_view, row_view, label_of, below_of};
 ghost use Rattle.yinst_tree.specs.View.{Means};
 
+use serde_json::{Map, Value};
 use std::alloc::{AllocError, Global};
 use yschema_model::{Child, Children, Schema, SchemaId, SchemaNode};
 
@@ -134,4 +137,30 @@ pub(crate) fn written_name(
         ≡ spec.written_name (view schema.now) parent_module (node_view 0 node.now)) }
 {
     schema.written_name(alloc, parent_module, node)
+}
+
+/// What members have of a node whose parent is of a module, or that stands at the top.
+pub(crate) fn member_of<'m>(
+    alloc: Global,
+    schema: &Schema,
+    parent_module: Option<usize>,
+    node: &SchemaNode,
+    members: &'m Map<String, Value>,
+) -> Result<Option<&'m Value>, AllocError>
+    ensures { let name = spec.written_name (view schema.now) parent_module (node_view 0 node.now) in
+        IfOk result (λ found. option_map (λ v. json.view v.now) found
+        ≡ get_member name (json.members_view members.now.entries)) }
+{
+    if is_module(node.module, parent_module) {
+        return Ok(members.get(node.name.as_str()));
+    }
+    let name = written_name(alloc, schema, parent_module, node)?;
+    Ok(members.get(name.as_str()))
+}
+
+/// Whether a module is the parent's, where there is one.
+fn is_module(number: usize, parent_module: Option<usize>) -> bool
+    ensures { result ≡ spec.is_module number parent_module }
+{
+    parent_module == Some(number)
 }

@@ -14,7 +14,7 @@ ghost use Rattle.yspec.specs.Results.{Gives};
 ghost use Rattle.yinst_tree.specs.Told.{Judges, denoted_at, refused_at, inner_rows, stored_first, told_by};
 
 use crate::fault::{DocCode, DocFault, refused_at_root};
-use crate::names::written_name;
+use crate::names::member_of;
 use crate::tree::{Stored, Tree};
 use crate::values::raw_of;
 use crate::visits::{visit_instance, visit_members};
@@ -130,8 +130,7 @@ fn put_child(
         (json.members_view members.now.entries))) }
 {
     if child.node().kind.is_data() {
-        let name = written_name(alloc, schema, parent_module, child.node())?;
-        match members.get(name.as_str()) {
+        match member_of(alloc, schema, parent_module, child.node(), members)? {
             Some(value) => put_instances(alloc, schema, child, value, row),
             None => Ok(()),
         }

@@ -1,8 +1,6 @@
-use Rattle.std.proofs.Common.{◌≡◌, true, Option, Some, option_map, refl, sym, ap, ◌∙◌, arith}
-use Rattle.serde_json.specs.Data.{Data}
+use Rattle.std.proofs.Common.{◌≡◌, true, Some, option_map, refl, sym, ap, ◌∙◌, arith}
 use Rattle.serde_json.specs.Find.{get_member}
 use Rattle.serde_json.specs.View as json
-use Rattle.serde_json.proofs.Views.{view_of_ref, view-lookup}
 use Rattle.yspec.specs.schema.Schema as spec
 use Rattle.yspec.specs.schema.Schema.{is_data, is_many, written_name}
 use Rattle.ytype.specs.View.{raw_of}
@@ -19,24 +17,18 @@ put_child-returns-in-Some t c =
     let ms = json.members_view c.args.members.now.entries in
     let n = schema_view.label_of c.args.child in
     let stands : is_data n.kind ≡ true = ap (λ (n : spec.SchemaNode). is_data n.kind) (sym c.node.ensures) ∙ (sym c.is_data.ensures ∙ c.if-is_data.true) in
-    let found : Option Data = option_map (λ x. json.view x.now) c.get.result in
-    let here : found ≡ get_member (written_name s c.args.parent_module n) ms =
-    view_of_ref c.get.result ∙ (ap (option_map json.view) c.get.ensures.value ∙ (view-lookup c.as_str.result.now c.args.members.now.entries
-    ∙ ap (λ k. get_member k ms) (c.as_str.ensures.value ∙ (c.in_ok-name.ensures ∙ ap (written_name s c.args.parent_module) c.node-then-is_data.ensures)))) in
+    let here = c.in_ok-value.ensures ∙ ap (λ m. get_member (written_name s c.args.parent_module m) ms) c.node-then-is_data.ensures in
     on_ok c.put_instances.result (at_data s c.args.parent_module n (schema_view.below_of c.args.child) ms (Some (json.view c.in-Some.value.now)) (row_view c.args.row.now.items) _ stands
     (sym (ap (option_map (λ x. json.view x.now)) c.in-Some.is) ∙ here)) c.put_instances.ensures
 
-pub put_child-returns-then-is_data : goal.put_child-returns-then-is_data
-put_child-returns-then-is_data t c =
+pub put_child-returns-in-None : goal.put_child-returns-in-None
+put_child-returns-in-None t c =
     let s = schema_view.view c.args.schema.now in
     let ms = json.members_view c.args.members.now.entries in
     let n = schema_view.label_of c.args.child in
     let stands : is_data n.kind ≡ true = ap (λ (n : spec.SchemaNode). is_data n.kind) (sym c.node.ensures) ∙ (sym c.is_data.ensures ∙ c.if-is_data.true) in
-    let found : Option Data = option_map (λ x. json.view x.now) c.get.result in
-    let here : found ≡ get_member (written_name s c.args.parent_module n) ms =
-    view_of_ref c.get.result ∙ (ap (option_map json.view) c.get.ensures.value ∙ (view-lookup c.as_str.result.now c.args.members.now.entries
-    ∙ ap (λ k. get_member k ms) (c.as_str.ensures.value ∙ (c.in_ok-name.ensures ∙ ap (written_name s c.args.parent_module) c.node-then-is_data.ensures)))) in
-    at_none s c.args.parent_module n (schema_view.below_of c.args.child) ms found (row_view c.args.row.now.items) _ stands here
+    let here = c.in_ok-value.ensures ∙ ap (λ m. get_member (written_name s c.args.parent_module m) ms) c.node-then-is_data.ensures in
+    at_none s c.args.parent_module n (schema_view.below_of c.args.child) ms (option_map (λ x. json.view x.now) c.in_ok-value.field-0) (row_view c.args.row.now.items) _ stands here
     (ap (option_map (λ x. json.view x.now)) c.in-None.is) refl
 
 pub put_instance-returns : goal.put_instance-returns
