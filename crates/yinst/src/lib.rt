@@ -8,6 +8,7 @@ mod rows;
 
 pub use applying::apply;
 pub use branch::part;
+pub use rows::left_of;
 pub use yinst_path::{
     Bound, BoundStep, Edit, EditCode, EditFault, Key, NamedStep, Path, Predicate,
 };

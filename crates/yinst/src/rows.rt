@@ -290,7 +290,7 @@ pub(crate) fn is_over(row: &[Stored], most: usize) -> bool
 
 /// What is left of a number when the nodes of a row and those below them are taken from it; nothing where they are more.
 #[cycle(count)]
-fn left_of(most: usize, row: &[Stored]) -> Option<usize>
+pub fn left_of(most: usize, row: &[Stored]) -> Option<usize>
     ensures { MatchOption result (most < size (row_view row.now)) (λ left. left
         + size (row_view row.now) ≡ most) }
 {

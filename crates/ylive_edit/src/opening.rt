@@ -8,6 +8,7 @@ ghost use Rattle.ylive_edit.specs.Places.{HoldsTold};
 
 use crate::parts::hang_part;
 use std::alloc::{AllocError, Global};
+use yinst::left_of;
 use yinst_tree::Tree;
 use ylive_retell::begin;
 use yschema_model::Schema;
@@ -23,8 +24,12 @@ pub fn told_store(alloc: Global, schema: &Schema, tree: &Tree) -> Result<Nodes, 
     ensures { IfOk result (λ nodes. HoldsTold (schema_view.view schema.now) nodes
         (tree_view tree.now)) }
 {
+    let Some(left) = left_of(MOST_NODES, tree.roots()) else {
+        return Err(AllocError);
+    };
     let mut nodes = Nodes::new(alloc);
     let mut counted = nodes.counted();
+    counted.reserve_nodes(MOST_NODES - left)?;
     begin(&mut counted, schema)?;
     for stored in tree.roots() {
         let is_hung = hang_part(&mut counted, schema, Row::Top, stored, MOST_NODES)?;

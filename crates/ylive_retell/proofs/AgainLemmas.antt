@@ -46,7 +46,7 @@ use Rattle.ylive_retell.proofs.HoldLemmas.{can_hold_all}
 use Rattle.ylive_retell.proofs.InstanceLemmas.{valued_is, valued_none}
 use Rattle.ylive_retell.proofs.JoiningLemmas.{shapes_of}
 use Rattle.ylive_retell.proofs.OwnKeptLemmas.{absences_same, labels_same}
-use Rattle.ylive_retell.proofs.RetellLemmas.{all_comes, all_goes, can_join_all, keyed_then, then, without}
+use Rattle.ylive_retell.proofs.RetellLemmas.{all_comes, all_goes, can_join_all, joins_part, keyed_then, then, without}
 use Rattle.ylive_retell.proofs.RetoldLemmas.{agrees_told, new_stands, own_come, own_told}
 use Rattle.ylive_retell.proofs.TidyLemmas.{tidied_follows}
 use Rattle.ylive_retell.proofs.UnlikeLemmas.{all_in}
@@ -148,7 +148,7 @@ module _ (schema : Schema) (way : Way) (f loose g left_over : Branches) (of : Sc
 
   holds : CanHoldAll told (around way g) plan.joins.items
   holds =
-      can_hold_all schema told (around way g) (joining way g loose) plan.joins.items plans.joins
+      can_hold_all schema told (around way g) (joining way g loose) plan.joins.items (joins_part schema way f loose g left_over of change swaps plan plans start once is)
       (every_join _ (standing (end_of Top way) loose) (on_the_way Top way g)
       (both (standing (end_of Top way) loose) (come_stands (standing (end_of Top way) loose) (all_in (end_of Top way) loose)) (own_come schema way f loose g left_over of change swaps plan plans start once is above at mid changed told follows tells entries news only fresh))
       (both (on_the_way Top way g) stands_all

@@ -153,7 +153,7 @@ module _ (nodes : Nodes) (f : Branches) where
         (hold_held ss all.1)
 
 pub can_hold_all : (schema : Schema) (nodes : Nodes) (f : Branches) (ss : List Standing) (pairs : List (rust.Key × NodeId))
-    → holdings pairs ≡ flat_map (keys_held schema) ss
+    → ((P : Holding → Type 0) → Every P (flat_map (keys_held schema) ss) → Every P (holdings pairs))
     → Every (λ s. StandsIn (Below s.label.id) f × TellsOwn schema nodes s.row s.label s.below) ss → CanHoldAll nodes f pairs
-can_hold_all schema nodes f ss pairs are all =
-    hold_views nodes f pairs (subst (Every (CanHoldAt nodes f)) (sym are) (hold_held nodes f schema ss all))
+can_hold_all schema nodes f ss pairs part all =
+    hold_views nodes f pairs (part (CanHoldAt nodes f) (hold_held nodes f schema ss all))

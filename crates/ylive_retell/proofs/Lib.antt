@@ -20,6 +20,7 @@ pub mod NarrowLemmas
 pub mod NewsLemmas
 pub mod OwnKeptLemmas
 pub mod PlacedLemmas
+pub mod StayingLemmas
 pub mod PlanLemmas
 pub mod ReadLemmas
 pub mod RowLemmas

@@ -1,10 +1,8 @@
 -- A change of a row, prepared and planned.
-use Rattle.std.proofs.Common.{◌≡◌, ℕ, ◌<◌, ◌≤◌, ◌++◌, List, [], ◌∷◌, length, Option, Some, None, option_map, refl, sym, ap, ◌∙◌, arith, subst, append-nil}
+use Rattle.std.proofs.Common.{◌≡◌, ℕ, ◌<◌, ◌≤◌, ◌++◌, List, [], ◌∷◌, length, Option, Some, None, drop, option_map, refl, sym, ap, ap₂, ◌∙◌, arith, subst, append-nil}
 use Rattle.std.specs.Prelude.{IfSome}
-use Rattle.std.specs.List.{flat_map}
-use Rattle.std.proofs.lemmas.Grind.{flat_map-append}
 use Rattle.yspec.specs.Forest.{node, join, size}
-use Rattle.yspec.specs.schema.Schema.{Schema}
+use Rattle.yspec.specs.types.Types.{Val}
 use Rattle.yschema_model.specs.Layout.{number_of}
 use Rattle.ystore.specs.Held.{Label}
 use Rattle.ystore.specs.Store.{label_at, node_count}
@@ -29,7 +27,7 @@ use Rattle.ystore_tree.specs.declared.swapping.Change.{Change}
 use Rattle.ystore_tree.specs.declared.swapping.Change.TheVariants.{Add, Put, Take, Move}
 use Rattle.yschema_model.specs.declared.node.SchemaId.{SchemaId}
 use Rattle.ylive_facts.specs.Given.{given_view}
-use Rattle.ylive_retell.specs.Standing.{Standing, keys_held}
+use Rattle.ylive_retell.proofs.StayingLemmas.{holdings_append}
 use Rattle.ylive_retell.proofs.AccountLemmas.{Last, last_of, top_not, below_same, hangs_read}
 
 -- ---- the schema node above a row
@@ -99,15 +97,28 @@ pub place_is : (a b : Account) (keys : List Holding) (now : List Holding) (value
     → now ≡ holdings a.keys.items ++ keys
 place_is a b keys now values first second = second ∙ ap (λ hs. hs ++ keys) (first.keys_behind ∙ append-nil (holdings a.keys.items))
 
-pub entered_twice : (schema : Schema) (a b c : Account) (xs ys : List Standing) (values more : List Default) → holdings a.keys.items ≡ [] → given_view a.values.items ≡ []
-    → Enters a b (flat_map (keys_held schema) xs) values → Enters b c (flat_map (keys_held schema) ys) more
-    → (holdings c.keys.items ≡ flat_map (keys_held schema) (xs ++ ys)) × (given_view c.values.items ≡ values ++ more)
-entered_twice schema a b c xs ys values more no_keys no_values first second = (
-  second.keys_behind
-      ∙ (ap (λ hs. hs ++ flat_map (keys_held schema) ys) (first.keys_behind ∙ ap (λ hs. hs ++ flat_map (keys_held schema) xs) no_keys)
-      ∙ sym (flat_map-append (keys_held schema) xs ys)),
-  second.values_behind ∙ ap (λ vs. vs ++ more) (first.values_behind ∙ ap (λ vs. vs ++ values) no_values),
+-- what is entered where nothing was
+pub entered_first : (a b : Account) (keys : List Holding) (values : List Default) → holdings a.keys.items ≡ [] → given_view a.values.items ≡ [] → Enters a b keys values
+    → (holdings b.keys.items ≡ keys) × (given_view b.values.items ≡ values)
+entered_first a b keys values no_keys no_values entered = (
+  entered.keys_behind ∙ ap (λ hs. hs ++ keys) no_keys,
+  entered.values_behind ∙ ap (λ vs. vs ++ values) no_values,
 )
+
+-- and what is added to it then, but for so many keys
+pub added_keys : (a b c : Account) (n : ℕ) (keys : List Holding) → holdings a.keys.items ≡ keys → c.keys.items ≡ a.keys.items ++ drop n b.keys.items
+    → holdings c.keys.items ≡ keys ++ holdings (drop n b.keys.items)
+added_keys a b c n keys are added =
+    ap holdings added ∙ (holdings_append a.keys.items (drop n b.keys.items) ∙ ap (λ hs. hs ++ holdings (drop n b.keys.items)) are)
+
+pub added_values : (a b c : Account) (values more : List Default) → given_view a.values.items ≡ values → given_view b.values.items ≡ more
+    → c.values.items ≡ a.values.items ++ b.values.items → given_view c.values.items ≡ values ++ more
+added_values a b c values more are also added =
+    ap given_view added ∙ (given_append a.values.items b.values.items ∙ ap₂ (λ (vs ws : List Default). vs ++ ws) are also)
+  where
+    given_append : (xs ys : List (SchemaId × Val)) → given_view (xs ++ ys) ≡ given_view xs ++ given_view ys
+    given_append [] ys = refl
+    given_append (x ∷ xs) ys = ap (λ vs. (x.0.0, x.1) ∷ vs) (given_append xs ys)
 
 -- ---- what goes
 

@@ -4,7 +4,6 @@ use Rattle.std.proofs.Common.{◌≡◌, ℕ, suc, ◌+◌, ◌*◌, ◌≤◌, 
 use Rattle.std.specs.Prelude.{option_to_list, sum_by, unwrap_or}
 use Rattle.std.specs.List.{flat_map}
 use Rattle.std.specs.Option.{option_map_or}
-use Rattle.std.proofs.lemmas.Grind.{flat_map-append}
 use Rattle.std.proofs.lemmas.List.{length-map}
 use Rattle.std.proofs.lemmas.List.Concat.{length-flat_map}
 use Rattle.std.proofs.lemmas.List.Sums.{sum_by-cons, sum_by-append}
@@ -27,7 +26,7 @@ use Rattle.ylive_facts.specs.Given.{given_view, is_referred, own_values, referre
 use Rattle.ylive_facts.specs.Keys.{Holding, Key, held_by, holdings, key_view}
 use Rattle.ylive_facts.specs.Reads.{names_of}
 use Rattle.ylive_retell.specs.Accounts.{news_of, news_view, News}
-use Rattle.ylive_retell.specs.Plans.{Plans, joining, leaving, row_schema}
+use Rattle.ylive_retell.specs.Plans.{Plans, row_schema}
 use Rattle.ylive_retell.specs.Reads.{names_on}
 use Rattle.ylive_retell.specs.Standing.{Standing, standing, keys_held, on_the_way, values_given, all_given, all_held, defaults_in_row, way_held}
 use Rattle.ylive_retell.specs.declared.account.News as rust_news
@@ -116,17 +115,17 @@ module _ (schema : Schema) where
   way_keys way f =
       let sum = length-flat_map (keys_held schema) (on_the_way Top way f) in let few = way_sum Top way f in omega (arith, sum, few)
 
-  few_moved : (keys : List (rust.Key × NodeId)) (way : Way) (f part : Branches)
-      → holdings keys ≡ flat_map (keys_held schema) (standing (end_of Top way) part ++ on_the_way Top way f)
+  few_moved : (keys : List (rust.Key × NodeId)) (way : Way) (f part : Branches) (changed : List Holding)
+      → holdings keys ≡ all_held schema (end_of Top way) part ++ changed → length changed ≤ length (way_held schema Top way f)
       → length keys ≤ 2 * part_size schema (tree_of part) + 2 * (length way + names_on schema way)
-  few_moved keys way f part is =
+  few_moved keys way f part changed is few =
       let see : rust.Key × NodeId → Holding = λ p. (key_view p.0, p.1) in
       let same = length-map keys see in
-      let whole = ap length (is ∙ flat_map-append (keys_held schema) (standing (end_of Top way) part) (on_the_way Top way f)) in
-      let both = length-append (all_held schema (end_of Top way) part) (way_held schema Top way f) in
+      let whole = ap length is in
+      let both = length-append (all_held schema (end_of Top way) part) changed in
       let own = part_keys schema (end_of Top way) part in
       let on = way_keys way f in
-      omega (arith, same, whole, both, own, on)
+      omega (arith, same, whole, both, own, on, few)
 
   -- ---- values
 
@@ -205,10 +204,12 @@ module _ (schema : Schema) where
 
   module _ (way : Way) (f loose g left : Branches) (plan : Plan) (plans : Plans schema way f loose g left plan) where
     pub few_leaves : length plan.leaves.items ≤ 2 * part_size schema (tree_of left) + 2 * (length way + names_on schema way)
-    few_leaves = few_moved plan.leaves.items way f left plans.leaves
+    few_leaves = few_moved plan.leaves.items way f left plans.changed plans.leaves
+        (part_of plans.keys.front plans.changed plans.keys.back (way_held schema Top way f) plans.keys.old_is)
 
     pub few_joins : length plan.joins.items ≤ 2 * part_size schema (tree_of loose) + 2 * (length way + names_on schema way)
-    few_joins = few_moved plan.joins.items way g loose plans.joins
+    few_joins = few_moved plan.joins.items way g loose plans.changed_then plans.joins
+        (part_of plans.keys.front plans.changed_then plans.keys.back (way_held schema Top way g) plans.keys.new_is)
 
     pub few_goes : length plan.goes.items ≤ (1 + most) * part_size schema (tree_of left) + most * near_count (row_at schema (row_schema None way))
     few_goes =

@@ -120,17 +120,20 @@ module _ (schema : Schema) (held : Assignment Key) where
       (free_with s.label.id free.0 (keys_from (key_at schema s.row (stored_of s.label) (tree_of s.below)) 0 (slots_of schema s.label.schema.0)))
       (all_free_so ss free.1)
 
-pub all_held : (schema : Schema) (held : Keys) (ps : List (rust.Key × NodeId)) → Every (HeldSo schema (viewed held)) (holdings ps) → AllHeld slot_of same_key held ps
-all_held schema held [] so = tt
-all_held schema held (p ∷ ps) so = (
+pub are_held : (schema : Schema) (held : Keys) (ps : List (rust.Key × NodeId)) → Every (HeldSo schema (viewed held)) (holdings ps) → AllHeld slot_of same_key held ps
+are_held schema held [] so = tt
+are_held schema held (p ∷ ps) so = (
   by (held p.1.0 (slot_of p.0)) (ap (viewed held p.1.0) (same_slot p.0) ∙ so.0),
-  all_held schema held ps so.1,
+  are_held schema held ps so.1,
 )
   where
     by : (o : Option rust.Key) → option_map key_view o ≡ Some (key_view p.0) → option_map_or (same_key p.0) o false ≡ true
     by None e = absurd (none-some (key_view p.0) e)
     by (Some k) e = views_same p.0 k (sym (same_Some (key_view k) (key_view p.0) e))
 
-pub none_held : (schema : Schema) (held : Keys) (ps : List (rust.Key × NodeId)) → Every (FreeSo schema (viewed held)) (holdings ps) → NoneHeld slot_of held ps
+pub none_held : (schema : Schema) (held : Keys) (ps : List (rust.Key × NodeId)) → Every (λ p. viewed held p.1.0 (slot_in p.0) ≡ None) (holdings ps) → NoneHeld slot_of held ps
 none_held schema held [] free = tt
-none_held schema held (p ∷ ps) free = (no_view (held p.1.0 (slot_of p.0)) (free.0 (slot_of p.0)), none_held schema held ps free.1)
+none_held schema held (p ∷ ps) free = (
+  no_view (held p.1.0 (slot_of p.0)) (ap (viewed held p.1.0) (same_slot p.0) ∙ free.0),
+  none_held schema held ps free.1,
+)

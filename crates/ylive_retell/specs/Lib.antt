@@ -12,6 +12,7 @@ pub mod Keyed
 pub mod Plans
 pub mod Reads
 pub mod Standing
+pub mod Staying
 pub mod Sums
 pub mod Telling
 pub mod Unlike

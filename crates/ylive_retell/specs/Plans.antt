@@ -1,6 +1,5 @@
 -- A change of a row that is prepared, and the plan of what is told then.
 use Rattle.std.specs.Prelude.{◌≡◌, ℕ, ◌++◌, List, [], ◌∷◌, map, Option, Some, None}
-use Rattle.std.specs.List.{flat_map}
 use Rattle.yspec.specs.schema.Schema.{Schema}
 use Rattle.yspec.specs.document.Sorting.{IsSorted}
 use Rattle.ystore.specs.Store.{has_room}
@@ -16,9 +15,9 @@ use Rattle.yspec_play.specs.Absences.{Default}
 use Rattle.yspec_play.specs.Over.{AlikeBut}
 use Rattle.ylive_facts.specs.Given.{given_view}
 use Rattle.ylive_facts.specs.InPlay.{absence_views}
-use Rattle.ylive_facts.specs.Keys.{holdings}
+use Rattle.ylive_facts.specs.Keys.{Holding, holdings}
 use Rattle.ylive_retell.specs.Accounts.{news_of, news_view}
-use Rattle.ylive_retell.specs.Standing.{Standing, standing, on_the_way, keys_held, all_given, absences_in_row, defaults_in_row}
+use Rattle.ylive_retell.specs.Standing.{Standing, standing, on_the_way, all_given, all_held, absences_in_row, defaults_in_row, way_held}
 use Rattle.ylive_retell.specs.declared.planning.Plan.{Plan}
 
 -- the number of the schema node above the row at the end of a way, given that above the row where it begins
@@ -53,8 +52,12 @@ abbrev pub joining : Way → Branches → Branches → List Standing
 joining way g loose = standing (end_of Top way) loose ++ on_the_way Top way g
 
 pub record Plans (schema : Schema) (way : Way) (f loose g left : Branches) (plan : Plan) : Type 0 where
-  pub leaves : holdings plan.leaves.items ≡ flat_map (keys_held schema) (leaving way f left)
-  pub joins : holdings plan.joins.items ≡ flat_map (keys_held schema) (joining way g loose)
+  -- the keys of the nodes on the way that they hold no more, or only then, and perhaps others that stay
+  pub changed : List Holding
+  pub changed_then : List Holding
+  pub leaves : holdings plan.leaves.items ≡ all_held schema (end_of Top way) left ++ changed
+  pub joins : holdings plan.joins.items ≡ all_held schema (end_of Top way) loose ++ changed_then
+  pub keys : AlikeBut changed changed_then (way_held schema Top way f) (way_held schema Top way g)
   -- the defaults in use in the row that are in use in it no more, or only then, and perhaps others that stay
   pub used : List Default
   pub used_then : List Default

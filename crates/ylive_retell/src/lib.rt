@@ -11,6 +11,7 @@ mod instead;
 mod joining;
 mod planning;
 mod retelling;
+mod staying;
 mod telling;
 mod tidying;
 mod values;

@@ -1,6 +1,6 @@
 //! What a change of a row changes of what is told.
 
-ghost use Rattle.std.specs.Prelude.{◌≡◌, ◌+◌, ◌*◌, ◌≤◌, ◌++◌, ℕ, Option, None, length, option_map, IfOk};
+ghost use Rattle.std.specs.Prelude.{◌≡◌, ◌+◌, ◌*◌, ◌≤◌, ◌++◌, ℕ, Option, None, drop, length, option_map, IfOk, OnOk};
 ghost use Rattle.yspec.specs.Forest.{size};
 ghost use Rattle.yspec.specs.schema.Schema.{row_at};
 ghost use Rattle.yschema_model.specs.Layout.{number_of};
@@ -22,6 +22,7 @@ ghost use Rattle.ylive_retell.specs.Plans.{IsReady, Prepared, Plans, row_schema}
 
 use crate::account::{Account, News, enter_child, enter_new_nodes, enter_nodes, enter_way};
 use crate::instead::told_instead;
+use crate::staying::staying;
 use std::alloc::AllocError;
 use ylive_facts::child_over;
 use yschema_model::{Child, Schema, SchemaId};
@@ -32,9 +33,10 @@ use ytype::Val;
 /// What is to be told of a document once a row of it is changed.
 #[derive(Debug, Drop)]
 pub struct Plan {
-    /// The keys that are left, each by a node that goes or that stands above the row.
+    /// The keys that are left, each by a node that goes or that stands above the row; of the latter those that stay may be
+    /// left out.
     pub leaves: Vec<(Key, NodeId)>,
-    /// The keys that are joined then, by nodes that come and those above the row.
+    /// The keys that are joined then, by nodes that come and those above the row, but for those that stay.
     pub joins: Vec<(Key, NodeId)>,
     /// The values of instances that go, and of defaults in use in the row before, but for some that stay.
     pub goes: Vec<(SchemaId, Val)>,
@@ -66,20 +68,25 @@ pub fn plan_of(
         + (plan_reads s (row_schema None p.ready.way) p.ready.way p.ready.left p.ready.loose + 2 * length (play_at (store_of counted.old) swap.above)) }
     ensures same_reference { lent counted.new ≡ lent counted.old }
 {
+    let mut gone = Account::new(counted.alloc());
     let mut before = Account::new(counted.alloc());
+    let mut come = Account::new(counted.alloc());
     let mut after = Account::new(counted.alloc());
     let of = schema_above(counted, swap.above);
     let child = child_over(schema, of, swap.schema);
-    enter_nodes(counted, schema, old, &mut before)?;
+    enter_nodes(counted, schema, old, &mut gone)?;
     let was = enter_place(counted, schema, swap.above, child, &mut before)?;
-    let news = enter_new_nodes(counted, schema, new, &mut after)?;
+    let news = enter_new_nodes(counted, schema, new, &mut come)?;
     let told = enter_changed(counted, schema, swap, child, &mut after)?;
     let absences = told_instead(counted, swap.above, child, was.len(), told)?;
+    let stay = staying(&before.keys, &after.keys);
+    add_account(&mut gone, before, stay)?;
+    add_account(&mut come, after, stay)?;
     Ok(Plan {
-        leaves: before.keys,
-        joins: after.keys,
-        goes: before.values,
-        comes: after.values,
+        leaves: gone.keys,
+        joins: come.keys,
+        goes: gone.values,
+        comes: come.values,
         absences,
         news,
     })
@@ -97,6 +104,21 @@ fn schema_above(counted: &mut Counted<'_>, row: Row) -> Option<SchemaId>
         Row::Top => None,
         Row::Below(id) => counted.schema(id),
     }
+}
+
+/// Adds what another account has to an account, but for so many of its first keys.
+fn add_account(account: &mut Account, other: Account, first: usize) -> Result<(), AllocError>
+    requires { first ≤ length other.keys.items }
+    ensures keys { OnOk result (account.new.keys.items ≡ account.old.keys.items ++ drop first other.keys.items) }
+    ensures values { OnOk result (account.new.values.items ≡ account.old.values.items ++ other.values.items) }
+{
+    let Account {
+        mut keys,
+        mut values,
+    } = other;
+    account.keys.append(&mut keys.split_off(first)?)?;
+    account.values.append(&mut values)?;
+    Ok(())
 }
 
 /// Enters the defaults in use of one child of a schema row in a row, and the keys of the nodes above that, and answers what is

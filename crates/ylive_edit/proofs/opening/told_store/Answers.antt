@@ -12,13 +12,14 @@ use Rattle.ylive_edit.proofs.opening.told_store.Goals as goal
 
 pub loop-stored-init : goal.loop-stored-init
 loop-stored-init c =
-    let empty : IsEmpty (store_of c.counted-counted.result) =
+    let empty : IsEmpty (store_of c.reserve_nodes.new.self) =
     let stays = c.counted-counted.ensures.store in
+    let room = c.in_ok-reserve_nodes.ensures.store in
     record {
-      top = stays.held Top ∙ c.new-nodes.ensures.top;
-      none_below = λ id. stays.held (Below id) ∙ c.new-nodes.ensures.nodes id;
-      index = λ key. stays.entries key ∙ c.new-nodes.ensures.index key;
-      count = stays.node_count ∙ c.new-nodes.ensures.count;
+      top = room.held Top ∙ (stays.held Top ∙ c.new-nodes.ensures.top);
+      none_below = λ id. room.held (Below id) ∙ (stays.held (Below id) ∙ c.new-nodes.ensures.nodes id);
+      index = λ key. room.entries key ∙ (stays.entries key ∙ c.new-nodes.ensures.index key);
+      count = room.node_count ∙ (stays.node_count ∙ c.new-nodes.ensures.count);
     } in (
       refl,
       end,
