@@ -8,6 +8,7 @@ ghost use Rattle.yspec_run.specs.Output.{Outcome, dump, first_file, left, not_re
 ghost use Rattle.yspec_run.specs.Part.{Part, objects};
 ghost use Rattle.yspec_run.specs.Script.{after_lines, lines_of, refused_lines};
 ghost use Rattle.yspec.specs.schema.Schema as schema_spec;
+ghost use Rattle.ysay_fault.specs.FoundFellows.{fellow_of};
 ghost use Rattle.ysay_fault.specs.Sentences.{explained_fault};
 ghost use Rattle.ysay_json.specs.FaultData as format;
 ghost use Rattle.ycheck.specs.View.{view, views};
@@ -39,7 +40,7 @@ use ycheck::Fault;
 use ycheck_config::{Inspection, inspect};
 use yinst_tree::{DocCode, DocFault, Step, Tree, read, write};
 use ylive::Live;
-use ysay_fault::explanation_of;
+use ysay_fault::{explanation_with_fellow, fellows_of};
 use ysay_json::json_text;
 use ysay_repeated::first_repeated;
 use yschema_model::Schema;
@@ -391,20 +392,28 @@ fn all_explained(alloc: Global, inspection: &Inspection) -> Result<Vec<String>, 
         ≡ map (explained_fault i.schema i.tree) i.faults) }
 {
     let faults = inspection.faults.as_slice();
+    let fellows = fellows_of(alloc, &inspection.schema, &inspection.tree, faults)?;
     let mut texts = Vec::new(alloc);
-    for fault in faults {
-        texts.push(explained(alloc, inspection, fault)?)?;
+    for number in 0..faults.len() {
+        texts.push(explained(alloc, inspection, &faults[number], fellows[number])?)?;
     }
     Ok(texts)
 }
 
-/// What is said of a fault of what is looked at.
-fn explained(alloc: Global, inspection: &Inspection, fault: &Fault) -> Result<String, AllocError>
-    requires { let i = inspection_view inspection.now in IsSound i.schema i.tree }
+/// What is said of a fault of what is looked at, where the other entry or item of which it tells is found.
+fn explained(
+    alloc: Global,
+    inspection: &Inspection,
+    fault: &Fault,
+    fellow: Option<usize>,
+) -> Result<String, AllocError>
+    requires sound { let i = inspection_view inspection.now in IsSound i.schema i.tree }
+    requires found { let i = inspection_view inspection.now in
+        fellow ≡ fellow_of i.schema i.tree (view fault.now) }
     ensures { let i = inspection_view inspection.now in IfOk result (λ text. string_bytes text
         ≡ explained_fault i.schema i.tree (view fault.now)) }
 {
-    explanation_of(alloc, &inspection.schema, &inspection.tree, fault)
+    explanation_with_fellow(alloc, &inspection.schema, &inspection.tree, fault, fellow)
 }
 
 /// The file to which a document is to be written.

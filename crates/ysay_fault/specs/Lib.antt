@@ -7,7 +7,9 @@ pub mod IdentityWords
 pub mod TakenWords
 pub mod TupleWords
 pub mod Fellows
+pub mod Others
 pub mod Cases
 pub mod Messages
 pub mod Sentences
+pub mod FoundFellows
 pub mod Writing

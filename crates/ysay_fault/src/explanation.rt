@@ -7,11 +7,13 @@ ghost use Rattle.ybase_output.specs.Writing.{side};
 ghost use Rattle.yschema_model.specs.View as schema_view;
 ghost use Rattle.yinst_tree.specs.View as document_view;
 ghost use Rattle.ycheck.specs.View as fault_view;
+ghost use Rattle.ysay_fault.specs.FoundFellows as found;
 ghost use Rattle.ysay_fault.specs.Places as places;
 ghost use Rattle.ysay_fault.specs.Sentences as spec;
 ghost use Rattle.ysay_fault.specs.Writing.{WritesOrRunsOut};
 
 use crate::fault::ExplanationFault;
+use crate::known::fellow_of;
 use crate::path::{keyed_path, position_path};
 use crate::place::row_at;
 use crate::sentences::{
@@ -55,7 +57,8 @@ fn subject(
     }
 }
 
-fn unique_in(info: &Info) -> usize
+/// The number of the `unique` of which a fault tells.
+pub(crate) fn unique_in(info: &Info) -> usize
     ensures { result ≡ spec.unique_in (fault_view.info_view info.now) }
 {
     match info {
@@ -81,7 +84,11 @@ fn sentence_at(
     steps: &[Step],
     info: &Info,
     code: FaultCode,
+    fellow: Option<usize>,
 ) -> Result<String, AllocError>
+    requires { fellow ≡ found.fellow_at (schema_view.view schema.now)
+        (document_view.tree_view tree.now) (document_view.place_view steps.now)
+        (fault_view.info_view info.now) (fault_view.code_view code) }
     ensures { IfOk result (λ text. string_bytes text
         ≡ spec.sentence_to (schema_view.view schema.now) (document_view.tree_view tree.now)
         (document_view.place_view steps.now) (fault_view.info_view info.now)
@@ -97,9 +104,9 @@ fn sentence_at(
         FaultCode::V3 => missing_leaf(alloc, schema, above, step.id),
         FaultCode::V6 => too_few(alloc, schema, row, step.id),
         FaultCode::V7 => too_many(alloc, schema, row, step.id),
-        FaultCode::V8 => same_key(alloc, schema, row, above, step),
-        FaultCode::V9 => same_unique(alloc, schema, row, above, step, unique_in(info)),
-        FaultCode::V10 => same_item(alloc, schema, row, above, step),
+        FaultCode::V8 => same_key(alloc, schema, row, above, step, fellow),
+        FaultCode::V9 => { same_unique(alloc, schema, row, above, step, unique_in(info), fellow) }
+        FaultCode::V10 => same_item(alloc, schema, row, above, step, fellow),
         FaultCode::V11 => no_target(alloc, schema, tree, row, step),
         FaultCode::V12 => state_stored(alloc, schema, above, step.id),
         FaultCode::V4 | FaultCode::V5 => Ok(String::new(alloc)),
@@ -111,7 +118,10 @@ fn plain_sentence(
     schema: &Schema,
     tree: &Tree,
     fault: &Fault,
+    fellow: Option<usize>,
 ) -> Result<String, AllocError>
+    requires { fellow ≡ found.fellow_of (schema_view.view schema.now)
+        (document_view.tree_view tree.now) (fault_view.view fault.now) }
     ensures { let t = document_view.tree_view tree.now in let f = fault_view.view fault.now in
         IsSorted t → IfOk result (λ text. string_bytes text
         ≡ spec.plain_sentence (schema_view.view schema.now) t f.steps f.info f.code) }
@@ -121,8 +131,26 @@ fn plain_sentence(
         FaultCode::V5 => {
             several_cases(alloc, schema, tree, &fault.steps, choice_in(&fault.info))
         }
-        code => sentence_at(alloc, schema, tree, &fault.steps, &fault.info, code),
+        code => sentence_at(alloc, schema, tree, &fault.steps, &fault.info, code, fellow),
     }
+}
+
+/// What is said of a fault, where the other entry or item of which it tells is found.
+pub fn sentence_with_fellow(
+    alloc: Global,
+    schema: &Schema,
+    tree: &Tree,
+    fault: &Fault,
+    fellow: Option<usize>,
+) -> Result<String, AllocError>
+    requires { fellow ≡ found.fellow_of (schema_view.view schema.now)
+        (document_view.tree_view tree.now) (fault_view.view fault.now) }
+    ensures { let t = document_view.tree_view tree.now in let f = fault_view.view fault.now in
+        IsSorted t → IfOk result (λ text. string_bytes text
+        ≡ spec.sentence (schema_view.view schema.now) t f.steps f.info f.code) }
+{
+    let said = plain_sentence(alloc, schema, tree, fault, fellow)?;
+    visible(alloc, said.as_str())
 }
 
 /// What is said of a fault of a document whose rows stand in the order of its schema: what stands there or is missing. A
@@ -137,8 +165,8 @@ pub fn sentence(
         IsSorted t → IfOk result (λ text. string_bytes text
         ≡ spec.sentence (schema_view.view schema.now) t f.steps f.info f.code) }
 {
-    let said = plain_sentence(alloc, schema, tree, fault)?;
-    visible(alloc, said.as_str())
+    let fellow = fellow_of(alloc, schema, tree, fault)?;
+    sentence_with_fellow(alloc, schema, tree, fault, fellow)
 }
 
 /// The path of the place of a fault, as an edit names it.
@@ -196,6 +224,25 @@ pub fn own_message(
     }
 }
 
+/// The line that is said of a fault, where the other entry or item of which it tells is found.
+pub fn explanation_with_fellow(
+    alloc: Global,
+    schema: &Schema,
+    tree: &Tree,
+    fault: &Fault,
+    fellow: Option<usize>,
+) -> Result<String, AllocError>
+    requires { fellow ≡ found.fellow_of (schema_view.view schema.now)
+        (document_view.tree_view tree.now) (fault_view.view fault.now) }
+    ensures { let t = document_view.tree_view tree.now in
+        IsSorted t → IfOk result (λ text. string_bytes text
+        ≡ spec.explained_fault (schema_view.view schema.now) t (fault_view.view fault.now)) }
+{
+    let path = subject(alloc, schema, tree, fault.code, &fault.steps)?;
+    let said = sentence_with_fellow(alloc, schema, tree, fault, fellow)?;
+    ["  ", path.as_str(), ": ", said.as_str(), "\n"].concat(alloc)
+}
+
 /// The line that is said of a fault of a document whose rows stand in the order of its schema: two spaces, the path of
 /// what is told, a colon, a sentence and a line feed.
 pub fn explanation_of(
@@ -208,9 +255,8 @@ pub fn explanation_of(
         IsSorted t → IfOk result (λ text. string_bytes text
         ≡ spec.explained_fault (schema_view.view schema.now) t (fault_view.view fault.now)) }
 {
-    let path = subject(alloc, schema, tree, fault.code, &fault.steps)?;
-    let said = sentence(alloc, schema, tree, fault)?;
-    ["  ", path.as_str(), ": ", said.as_str(), "\n"].concat(alloc)
+    let fellow = fellow_of(alloc, schema, tree, fault)?;
+    explanation_with_fellow(alloc, schema, tree, fault, fellow)
 }
 
 /// Writes that line. Where memory runs out, nothing is written.

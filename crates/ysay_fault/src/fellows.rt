@@ -15,7 +15,7 @@ use yschema_model::{Kind, Schema, SchemaId};
 use ytype::Val;
 
 /// The tuple of that number of an entry, from 0 for the key.
-fn entry_tuple(
+pub(crate) fn entry_tuple(
     alloc: Global,
     schema: &Schema,
     stored: &Stored,

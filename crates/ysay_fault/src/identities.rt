@@ -257,7 +257,7 @@ pub(crate) fn hint_words(
         ≡ spec.hint_words value_type.now (option_map (λ r. held.raw_of r.now) raw.entry)) }
 {
     match raw {
-        Some(Raw::Text(text)) => hint_among(alloc, value_type.members(), text.as_str()),
+        Some(Raw::Text(text)) => hint_among(alloc, &value_type.members(alloc)?, text.as_str()),
         _ => String::from_str(alloc, "."),
     }
 }

@@ -7,9 +7,11 @@ mod fault;
 mod fellows;
 mod identities;
 mod joining;
+mod known;
 mod laws;
 mod messages;
 mod near;
+mod others;
 mod path;
 mod place;
 mod sentences;
@@ -18,7 +20,11 @@ mod target;
 mod tuples;
 mod values;
 
-pub use explanation::{explanation_of, fault_path, own_message, sentence, write_fault_explanation};
+pub use explanation::{
+    explanation_of, explanation_with_fellow, fault_path, own_message, sentence,
+    sentence_with_fellow, write_fault_explanation,
+};
 pub use fault::ExplanationFault;
+pub use known::{fellow_of, fellows_of};
 pub use laws::{fellow_is_another, repeated_has_fellow};
 pub use path::{keyed_path, position_path};

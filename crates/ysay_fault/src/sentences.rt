@@ -8,12 +8,13 @@ ghost use Rattle.ytype.specs.View as held;
 ghost use Rattle.yschema_model.specs.Layout.{amount_view, number_of};
 ghost use Rattle.yschema_model.specs.View as schema_view;
 ghost use Rattle.yinst_tree.specs.View as document_view;
+ghost use Rattle.ysay_fault.specs.Fellows.{fellow_entry, fellow_item};
 ghost use Rattle.ysay_fault.specs.Messages.{message_words};
 ghost use Rattle.ysay_fault.specs.Values as values;
 ghost use Rattle.ysay_fault.specs.Sentences as spec;
 
 use crate::cases::stored_case_names;
-use crate::fellows::{fellow_entry, fellow_item, fellow_text};
+use crate::fellows::fellow_text;
 use crate::identities::hint_words;
 use crate::messages::{message_at, message_words, type_at};
 use crate::near::near_words;
@@ -297,13 +298,15 @@ pub(crate) fn same_key(
     row: &[Stored],
     above: &[Step],
     step: &Step,
+    fellow: Option<usize>,
 ) -> Result<String, AllocError>
+    requires { fellow ≡ fellow_entry (schema_view.view schema.now) 0
+        (document_view.row_view row.now) (document_view.step_view step.now) }
     ensures { IfOk result (λ text. string_bytes text
         ≡ spec.same_key (schema_view.view schema.now) (document_view.row_view row.now)
         (document_view.place_view above.now) (document_view.step_view step.now)) }
 {
     let said = keys_said(alloc, schema, row_to(row, step), keys_at(schema, step.id))?;
-    let fellow = fellow_entry(alloc, schema, 0, row, step)?;
     let path = fellow_text(alloc, schema, above, step.id, fellow)?;
     [said.as_str(), path.as_str(), "."].concat(alloc)
 }
@@ -315,14 +318,16 @@ pub(crate) fn same_unique(
     above: &[Step],
     step: &Step,
     number: usize,
+    fellow: Option<usize>,
 ) -> Result<String, AllocError>
+    requires { fellow ≡ fellow_entry (schema_view.view schema.now) number
+        (document_view.row_view row.now) (document_view.step_view step.now) }
     ensures { IfOk result (λ text. string_bytes text
         ≡ spec.same_unique (schema_view.view schema.now) (document_view.row_view row.now)
         (document_view.place_view above.now) (document_view.step_view step.now) number) }
 {
     let paths = unique_at(schema, step.id, number);
     let said = leafs_said(alloc, schema, row_to(row, step), paths)?;
-    let fellow = fellow_entry(alloc, schema, number, row, step)?;
     let path = fellow_text(alloc, schema, above, step.id, fellow)?;
     [said.as_str(), path.as_str(), "."].concat(alloc)
 }
@@ -333,13 +338,15 @@ pub(crate) fn same_item(
     row: &[Stored],
     above: &[Step],
     step: &Step,
+    fellow: Option<usize>,
 ) -> Result<String, AllocError>
+    requires { fellow ≡ fellow_item (schema_view.view schema.now)
+        (document_view.row_view row.now) (document_view.step_view step.now) }
     ensures { IfOk result (λ text. string_bytes text
         ≡ spec.same_item (schema_view.view schema.now) (document_view.row_view row.now)
         (document_view.place_view above.now) (document_view.step_view step.now)) }
 {
     let value = value_to(alloc, row, step)?;
-    let fellow = fellow_item(alloc, schema, row, step)?;
     let path = fellow_text(alloc, schema, above, step.id, fellow)?;
     [
         "its value ",

@@ -230,9 +230,9 @@ fn simple_words(alloc: Global, simple: &SimpleType) -> Result<String, AllocError
 pub(crate) fn taken_words(alloc: Global, value_type: &YType) -> Result<String, AllocError>
     ensures { IfOk result (λ text. string_bytes text ≡ spec.taken_words value_type.now) }
 {
-    let members = value_type.members();
+    let members = value_type.members(alloc)?;
     let mut texts = Vec::with_capacity(alloc, members.len())?;
-    for member in members {
+    for member in &members {
         texts.push(simple_words(alloc, member)?)?;
     }
     joined(alloc, " or ", &texts)

@@ -6,6 +6,7 @@ ghost use Rattle.yspec.specs.document.Sorting.{IsSorted};
 ghost use Rattle.yschema_model.specs.View as schema_view;
 ghost use Rattle.yinst_tree.specs.View as document_view;
 ghost use Rattle.ycheck.specs.View as fault_view;
+ghost use Rattle.ysay_fault.specs.FoundFellows as found;
 ghost use Rattle.ysay_json.specs.FaultData as spec;
 
 use crate::members::{put_line, put_message, put_tags, put_value};
@@ -13,6 +14,7 @@ use serde_json::{Map, Value};
 use std::alloc::{AllocError, Global};
 use ycheck::Fault;
 use yinst_tree::Tree;
+use ysay_fault::{fellow_of, fellows_of};
 use yschema_model::Schema;
 
 /// A fault as an object.
@@ -21,16 +23,36 @@ fn fault_value(
     schema: &Schema,
     tree: &Tree,
     fault: &Fault,
+    fellow: Option<usize>,
 ) -> Result<Value, AllocError>
+    requires { fellow ≡ found.fellow_of (schema_view.view schema.now)
+        (document_view.tree_view tree.now) (fault_view.view fault.now) }
     ensures { let t = document_view.tree_view tree.now in
         IfOk result (λ value. IsSorted t → json.view value
         ≡ spec.fault_data (schema_view.view schema.now) t (fault_view.view fault.now)) }
 {
     let mut members = Map::new(alloc);
     put_tags(alloc, fault, &mut members)?;
-    put_message(alloc, schema, tree, fault, &mut members)?;
+    put_message(alloc, schema, tree, fault, fellow, &mut members)?;
     put_line(alloc, schema, fault, &mut members)?;
     Ok(Value::Object(members))
+}
+
+/// The line of a fault, where the other entry or item of which it tells is found.
+fn line_with_fellow(
+    alloc: Global,
+    schema: &Schema,
+    tree: &Tree,
+    fault: &Fault,
+    fellow: Option<usize>,
+) -> Result<String, AllocError>
+    requires { fellow ≡ found.fellow_of (schema_view.view schema.now)
+        (document_view.tree_view tree.now) (fault_view.view fault.now) }
+    ensures { let t = document_view.tree_view tree.now in
+        IfOk result (λ text. IsSorted t → string_bytes text
+        ≡ spec.json_line (schema_view.view schema.now) t (fault_view.view fault.now)) }
+{
+    fault_value(alloc, schema, tree, fault, fellow)?.to_string(alloc)
 }
 
 /// The line of a fault of a document whose rows stand in the order of its schema: an object with the names of errors in
@@ -45,7 +67,8 @@ pub fn json_line(
         IfOk result (λ text. IsSorted t → string_bytes text
         ≡ spec.json_line (schema_view.view schema.now) t (fault_view.view fault.now)) }
 {
-    fault_value(alloc, schema, tree, fault)?.to_string(alloc)
+    let fellow = fellow_of(alloc, schema, tree, fault)?;
+    line_with_fellow(alloc, schema, tree, fault, fellow)
 }
 
 fn count_value(alloc: Global, count: usize) -> Result<Value, AllocError>
@@ -69,14 +92,17 @@ fn add_line(
     schema: &Schema,
     tree: &Tree,
     fault: &Fault,
+    fellow: Option<usize>,
     text: &mut String,
 ) -> Result<(), AllocError>
+    requires { fellow ≡ found.fellow_of (schema_view.view schema.now)
+        (document_view.tree_view tree.now) (fault_view.view fault.now) }
     ensures { let t = document_view.tree_view tree.now in
         OnOk result (IsSorted t → string_bytes text.new ≡ string_bytes text.old
         ++ (spec.json_line (schema_view.view schema.now) t (fault_view.view fault.now)
         ++ codes "\n")) }
 {
-    let line = json_line(alloc, schema, tree, fault)?;
+    let line = line_with_fellow(alloc, schema, tree, fault, fellow)?;
     text.push_str(line.as_str())?;
     text.push_str("\n")?;
     Ok(())
@@ -93,9 +119,11 @@ fn json_lines(
         IfOk result (λ text. IsSorted t → string_bytes text
         ≡ spec.json_lines (schema_view.view schema.now) t (fault_view.views faults.now)) }
 {
+    let fellows = fellows_of(alloc, schema, tree, faults)?;
     let mut text = String::new(alloc);
-    for fault in faults {
-        add_line(alloc, schema, tree, fault, &mut text)?;
+    for number in 0..faults.len() {
+        let fault = &faults[number];
+        add_line(alloc, schema, tree, fault, fellows[number], &mut text)?;
     }
     Ok(text)
 }

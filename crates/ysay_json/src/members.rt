@@ -7,6 +7,7 @@ ghost use Rattle.yspec.specs.document.Sorting.{IsSorted};
 ghost use Rattle.yschema_model.specs.View as schema_view;
 ghost use Rattle.yinst_tree.specs.View as document_view;
 ghost use Rattle.ycheck.specs.View as fault_view;
+ghost use Rattle.ysay_fault.specs.FoundFellows.{fellow_of};
 ghost use Rattle.ysay_json.specs.FaultData as spec;
 
 use itoa::Buffer;
@@ -14,7 +15,7 @@ use serde_json::{Map, Value};
 use std::alloc::{AllocError, Global};
 use ycheck::{ErrorTag, Fault, FaultCode, Info};
 use yinst_tree::Tree;
-use ysay_fault::{fault_path, own_message, position_path, sentence};
+use ysay_fault::{fault_path, own_message, position_path, sentence_with_fellow};
 use yschema_model::Schema;
 
 // ---- names
@@ -116,14 +117,17 @@ fn message_of(
     schema: &Schema,
     tree: &Tree,
     fault: &Fault,
+    fellow: Option<usize>,
 ) -> Result<String, AllocError>
+    requires { fellow ≡ fellow_of (schema_view.view schema.now)
+        (document_view.tree_view tree.now) (fault_view.view fault.now) }
     ensures { let t = document_view.tree_view tree.now in
         IsSorted t → IfOk result (λ text. string_bytes text
         ≡ spec.message (schema_view.view schema.now) t (fault_view.view fault.now)) }
 {
     match own_message(alloc, schema, tree, fault)? {
         Some(message) => Ok(message),
-        None => sentence(alloc, schema, tree, fault),
+        None => sentence_with_fellow(alloc, schema, tree, fault, fellow),
     }
 }
 
@@ -133,15 +137,18 @@ pub(crate) fn put_message(
     schema: &Schema,
     tree: &Tree,
     fault: &Fault,
+    fellow: Option<usize>,
     members: &mut Map<String, Value>,
 ) -> Result<(), AllocError>
+    requires { fellow ≡ fellow_of (schema_view.view schema.now)
+        (document_view.tree_view tree.now) (fault_view.view fault.now) }
     ensures { let t = document_view.tree_view tree.now in
         OnOk result (IsSorted t → json.members_view members.new.entries
         ≡ spec.with_message (schema_view.view schema.now) t (fault_view.view fault.now)
         (json.members_view members.old.entries)) }
 {
     let path = fault_path(alloc, schema, tree, fault)?;
-    let message = message_of(alloc, schema, tree, fault)?;
+    let message = message_of(alloc, schema, tree, fault, fellow)?;
     put_text(alloc, "error-path", path.as_str(), members)?;
     put_text(alloc, "error-message", message.as_str(), members)
 }

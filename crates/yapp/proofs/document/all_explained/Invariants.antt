@@ -4,8 +4,8 @@ use Rattle.ysay_fault.specs.Sentences.{explained_fault}
 use Rattle.ycheck_config.specs.Inspecting.{inspection_view}
 use Rattle.yapp.proofs.document.all_explained.Given as goal
 
-abbrev pub invariant-loop-fault : goal.invariant-loop-fault
-invariant-loop-fault l =
+abbrev pub invariant-loop-number : goal.invariant-loop-number
+invariant-loop-number l =
     let i = inspection_view l.inspection in
-    map string_bytes l.texts.items ++ map (explained_fault i.schema i.tree) (views (drop l.fault-index l.faults))
+    map string_bytes l.texts.items ++ map (explained_fault i.schema i.tree) (views (drop l.number l.faults))
     ≡ map (explained_fault i.schema i.tree) (views l.faults)

@@ -6,7 +6,7 @@ use Rattle.yinst_tree.specs.View.{tree_view}
 use Rattle.ycheck.specs.View as fault_view
 use Rattle.ysay_json.specs.FaultData.{fault_data}
 use Rattle.ysay_json.proofs.WholeLemmas.{fault_whole, written}
-use Rattle.ysay_json.proofs.line.json_line.Goals as goal
+use Rattle.ysay_json.proofs.line.line_with_fellow.Goals as goal
 
 pub returns : goal.returns
 returns c =
