@@ -1,0 +1,3 @@
+pub mod Checking
+pub mod Compiling
+pub mod Editing
