@@ -253,9 +253,9 @@ def first_line(make):
 
 
 GROWING = {
-    "one-line": (one_line, 20000, 40000), "joined": (joined, 100000, 200000), "doubled-unions": (doubled_unions, 20, 40),
-    "restricted": (first_line(restricted), 2000, 4000), "typedefs": (first_line(typedefs), 30000, 60000),
-    "unions": (first_line(unions), 1000, 2000), "groupings": (first_line(groupings), 30000, 60000),
+    "one-line": (one_line, 20000, 40000), "joined": (joined, 100000, 200000), "doubled-unions": (doubled_unions, 10, 20),
+    "restricted": (first_line(restricted), 20000, 40000), "typedefs": (first_line(typedefs), 30000, 60000),
+    "unions": (first_line(unions), 10000, 20000), "groupings": (first_line(groupings), 30000, 60000),
     "leafrefs": (first_line(leafrefs), 30000, 60000), "augments": (first_line(augments), 30000, 60000),
     "identities": (first_line(identities), 30000, 60000), "refines": (refines, 10000, 20000), "enums": (enums, 30000, 60000),
     "uniques": (uniques, 5000, 10000), "open-brackets": (first_line(open_brackets), 1000000, 2000000),
@@ -272,6 +272,6 @@ DEEP = {make.__name__: make for make in (
 )}  # fmt: skip
 DEEPEST = [
     ("blocks", 64), ("levels", 60), ("brackets", 127), ("brackets", 128), ("objects", 127), ("open_brackets", 1000000),
-    ("typedefs", 60000), ("restricted", 500), ("unions", 500), ("groupings", 60000), ("leafrefs", 60000), ("augments", 60000),
+    ("typedefs", 60000), ("restricted", 60000), ("unions", 60000), ("groupings", 60000), ("leafrefs", 60000), ("augments", 60000),
     ("identities", 60000), ("imports", 1000),
 ]  # fmt: skip
