@@ -4,7 +4,7 @@ ghost use Rattle.std.specs.Prelude.{◌≡◌, map};
 ghost use Rattle.yspec.specs.Forest.{end};
 ghost use Rattle.yspec.specs.Results.{Gives};
 ghost use Rattle.ytext.specs.View.{modules_view};
-ghost use Rattle.yschema_model.specs.View.{view};
+ghost use Rattle.yschema.specs.View.{view};
 ghost use Rattle.yanglive_uses.specs.Compiling.{read_behind, schema_of, told_by};
 ghost use Rattle.yanglive_uses.specs.declared.compiling.Uncompiled.TheVariants.{Memory};
 

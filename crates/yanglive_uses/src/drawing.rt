@@ -2,12 +2,12 @@
 
 ghost use Rattle.std.specs.Prelude.{◌≡◌, IfOk};
 ghost use Rattle.yspec.specs.schema.Diagram.{diagram};
-ghost use Rattle.yschema_model.specs.View.{view};
+ghost use Rattle.yschema.specs.View.{view};
 
 use std::alloc::Global;
 use ybase_output::{CallCount, Sink, SinkFault};
 use ydiagram::{DiagramFault, write};
-use yschema_model::Schema;
+use yschema::Schema;
 
 /// A sink that keeps what it takes.
 #[derive(Drop)]

@@ -2,8 +2,8 @@
 
 ghost use Rattle.std.specs.Prelude.{◌≡◌, true, false, None, option_map, slice_get, IfOk, OnOk, OnErr};
 ghost use Rattle.yspec.specs.edit.Live.{faults_in, made_anew};
-ghost use Rattle.yinst_path.specs.EditView.{edit_view};
-ghost use Rattle.ylive_list.specs.Seen.{seen_view};
+ghost use Rattle.yinst.specs.EditView.{edit_view};
+ghost use Rattle.ylive.specs.Seen.{seen_view};
 ghost use Rattle.ylive.specs.View.{view, edits_view};
 ghost use Rattle.ylive.specs.Answers.{Edits, after_edits};
 ghost use Rattle.yanglive_uses.specs.Editing.{accepted_count};

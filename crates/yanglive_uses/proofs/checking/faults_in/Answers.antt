@@ -3,9 +3,9 @@ use Rattle.yspec.specs.Results.{◌>>=◌}
 use Rattle.yspec.specs.document.Faults.{faults_of}
 use Rattle.yspec.specs.document.Reading.{document_of}
 use Rattle.yspec.proofs.DocumentProofs.SortingLemmas.{in_order}
-use Rattle.yschema_model.specs.View as schema_view
-use Rattle.yinst_tree.specs.Told.{told_by}
-use Rattle.yinst_tree.specs.View.{tree_view}
+use Rattle.yschema.specs.View as schema_view
+use Rattle.yinst.specs.Told.{told_by}
+use Rattle.yinst.specs.View.{tree_view}
 use Rattle.yanglive_uses.proofs.CompilingLemmas.{still_refused}
 use Rattle.yanglive_uses.proofs.checking.faults_in.Goals as goal
 
