@@ -15,7 +15,7 @@ use Rattle.yinst_tree.specs.View.{Labelled, tree_view}
 use Rattle.yinst_tree.specs.Told.{denoted_at, refused_at}
 use Rattle.yspec.specs.Results.{Gives}
 use Rattle.yinst_path.specs.Applying.{told_by}
-use Rattle.yinst_tree.specs.declared.tree.Tree as tree
+use Rattle.yinst_tree.specs.declared.document.Tree as tree
 use Rattle.yinst_path.specs.declared.edit.EditFault.{EditFault}
 
 pub branch_of_value : (s : Schema) (n : ℕ) (bytes text : List ℕ) (d : Data) → bytes ≡ text → json_of bytes ≡ Some d → branch_of s n text ≡ branch_at s n d

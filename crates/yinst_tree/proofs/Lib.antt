@@ -6,3 +6,4 @@ pub mod ValueLemmas
 pub mod VisitLemmas
 pub mod WalkLemmas
 pub mod WriteLemmas
+pub mod OrderLemmas

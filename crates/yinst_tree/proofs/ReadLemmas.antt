@@ -15,7 +15,7 @@ use Rattle.yinst_tree.specs.Told.{Tells, Walks, code_number, told_by}
 use Rattle.yinst_tree.proofs.VisitLemmas.{judged}
 use Rattle.yspec.specs.Results.{Fails, Gives}
 use Rattle.yinst_tree.specs.View.{place_view, tree_view}
-use Rattle.yinst_tree.specs.declared.tree.Tree as tree
+use Rattle.yinst_tree.specs.declared.document.Tree as tree
 use Rattle.yinst_tree.specs.declared.fault.DocFault.{DocFault}
 use Rattle.yinst_tree.specs.declared.fault.DocFault.TheVariants.{Refused, Memory}
 

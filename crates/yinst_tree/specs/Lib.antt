@@ -1,3 +1,5 @@
 pub mod Told
 pub mod View
 pub mod Walk
+pub mod Rows
+pub mod Order

@@ -4,7 +4,8 @@ ghost use Rattle.std.specs.Prelude.{◌≡◌, IfOk, option_map};
 ghost use Rattle.ytype.specs.View.{raw_of};
 ghost use Rattle.yinst_tree.specs.View.{view, row_view, tree_view};
 
-use crate::tree::{Stored, Tree};
+use crate::document::Tree;
+use crate::tree::Stored;
 use std::alloc::{AllocError, Global};
 use ytype::Raw;
 

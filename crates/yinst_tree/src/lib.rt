@@ -2,6 +2,7 @@
 #![tactic(auto)]
 
 mod copying;
+mod document;
 mod fault;
 mod instances;
 mod names;
@@ -11,8 +12,9 @@ mod values;
 mod visits;
 mod writing;
 
+pub use document::Tree;
 pub use fault::{DocCode, DocFault};
 pub use instances::instances_of;
 pub use reading::{DOCUMENT_LIMIT, read, read_node};
-pub use tree::{Step, Stored, Tree};
+pub use tree::{Step, Stored};
 pub use writing::{value_of_leaf, write};

@@ -13,9 +13,10 @@ ghost use Rattle.yinst_tree.specs.View.{view, row_view, tree_view};
 ghost use Rattle.yspec.specs.Results.{Gives};
 ghost use Rattle.yinst_tree.specs.Told.{Judges, denoted_at, refused_at, inner_rows, stored_first, told_by};
 
+use crate::document::Tree;
 use crate::fault::{DocCode, DocFault, refused_at_root};
 use crate::names::member_of;
-use crate::tree::{Stored, Tree};
+use crate::tree::Stored;
 use crate::values::raw_of;
 use crate::visits::{visit_instance, visit_members};
 use serde_json::{Map, Value};

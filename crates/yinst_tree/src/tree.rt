@@ -65,33 +65,3 @@ impl Stored {
         *self.below.allocator()
     }
 }
-
-/// A document under a schema.
-#[derive(Debug, Drop)]
-pub struct Tree {
-    nodes: Vec<Stored>,
-}
-
-impl Tree {
-    ghost use Rattle.std.specs.Prelude.{◌≡◌};
-    ghost use Rattle.yinst_tree.specs.View.{row_view, tree_view};
-
-    /// The document with these top nodes, which stand in the order of their schema nodes.
-    pub fn new(nodes: Vec<Stored>) -> Tree
-        ensures { tree_view result ≡ row_view nodes.items }
-    {
-        Tree { nodes }
-    }
-
-    /// The top nodes, in the order of their schema nodes.
-    pub fn roots(&self) -> &[Stored]
-        ensures { row_view result.now ≡ tree_view self.now }
-    {
-        self.nodes.as_slice()
-    }
-
-    /// Where its nodes lie.
-    pub(crate) fn alloc(&self) -> Global {
-        *self.nodes.allocator()
-    }
-}

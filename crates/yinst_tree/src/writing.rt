@@ -14,9 +14,10 @@ ghost use Rattle.yschema_model.specs.View as schema_view;
 ghost use Rattle.yinst_tree.specs.View.{view, row_view, tree_view};
 ghost use Rattle.yinst_tree.specs.Walk.{walked, members_in};
 
+use crate::document::Tree;
 use crate::instances::instances_of;
 use crate::names::written_name;
-use crate::tree::{Stored, Tree};
+use crate::tree::Stored;
 use serde_json::{Map, Number, Value};
 use std::alloc::{AllocError, Global};
 use yschema_model::{Child, Children, Schema};
