@@ -20,7 +20,7 @@ pub fn part(alloc: Global, schema: &Schema, id: SchemaId, text: &str) -> Result<
         (spec.branch_of (schema_view.view schema.now) id.0 text.now) }
 {
     match Value::from_slice(alloc, text.as_bytes()) {
-        Ok(value) => branch_at(alloc, schema, id, &value),
+        Ok(value) => branch_at(alloc, schema, id, value),
         Err(error) if error.is_memory() => Err(EditFault::Memory),
         Err(_) => Err(refused(EditCode::E9)),
     }
@@ -31,10 +31,10 @@ fn branch_at(
     alloc: Global,
     schema: &Schema,
     id: SchemaId,
-    value: &Value,
+    value: Value,
 ) -> Result<Stored, EditFault>
     ensures { Gives branch_view told_by result
-        (spec.branch_at (schema_view.view schema.now) id.0 (json.view value.now)) }
+        (spec.branch_at (schema_view.view schema.now) id.0 (json.view value)) }
 {
     match read_node(alloc, schema, id, value) {
         Ok(Some(stored)) => Ok(stored),

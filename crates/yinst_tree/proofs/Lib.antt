@@ -1,7 +1,9 @@
+pub mod ApartLemmas
 pub mod InstanceLemmas
 pub mod NameLemmas
 pub mod ReadLemmas
 pub mod RowLemmas
+pub mod TakingLemmas
 pub mod ValueLemmas
 pub mod VisitLemmas
 pub mod WalkLemmas

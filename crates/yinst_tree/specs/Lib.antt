@@ -1,3 +1,4 @@
+pub mod Taking
 pub mod Told
 pub mod View
 pub mod Walk

@@ -1,12 +1,11 @@
 -- Refusals as the specification's.
-use Rattle.std.specs.Prelude.{◌≡◌, ℕ, List, [], ◌++◌, Option, Some, None, option_and_then, option_map, Result, Ok, Err, if◌then◌else◌}
+use Rattle.std.specs.Prelude.{◌≡◌, ℕ, List, [], ◌++◌, Option, Some, None, option_and_then, option_map, Result, Ok, Err}
 use Rattle.std.specs.Option.{option_map_or}
-use Rattle.serde_json.specs.Data.{Data, Members}
-use Rattle.serde_json.specs.Find.{get_member}
+use Rattle.serde_json.specs.Data.{Data}
 use Rattle.yspec.specs.Forest.{Forest}
-use Rattle.yspec.specs.schema.Schema.{Schema, SchemaNode, is_data, written_name, node_at, children_of}
-use Rattle.yspec.specs.document.Document.{Step, Tree}
-use Rattle.yspec.specs.document.Reading.{Refusal, Visit, raw_of, refused_value, instance_visits, first_wrong, first_refusal, stored_node, instance_row, stored_rows, members_of}
+use Rattle.yspec.specs.schema.Schema.{Schema, SchemaNode, node_at, children_of}
+use Rattle.yspec.specs.document.Document.{Step}
+use Rattle.yspec.specs.document.Reading.{Refusal, Visit, raw_of, refused_value, instance_visits, first_wrong, first_refusal, stored_node, stored_rows, members_of}
 use Rattle.yinst_tree.specs.View.{Labelled, place_view}
 use Rattle.yinst_tree.specs.declared.fault.DocCode.{DocCode}
 use Rattle.yinst_tree.specs.declared.fault.DocCode.TheVariants.{J1, J2, J3, J4, J5, J6, J7}
@@ -66,14 +65,3 @@ told_within (Some room) vs = first_refusal room vs
 abbrev pub Walks : Option ℕ → List Visit → Result (Option ℕ) DocFault → Type 0
 Walks room vs (Ok left) = (others : List Visit) → told_within room (vs ++ others) ≡ told_within left others
 Walks room vs (Err fault) = (others : List Visit) → Tells fault (told_within room (vs ++ others))
-
--- ---- rows
-
--- what stands below an instance of a node
-abbrev pub inner_rows : Schema → SchemaNode → Forest SchemaNode → Data → Tree
-inner_rows s n below d = stored_rows s (Some n.module_number) below (members_of d)
-
--- what members denote at one node of a row
-abbrev pub stored_first : Schema → Option ℕ → SchemaNode → Forest SchemaNode → Members → Tree
-stored_first s parent n below ms = if is_data n.kind then instance_row n (inner_rows s n below) (get_member (written_name s parent n) ms)
-    else stored_rows s parent below ms

@@ -15,6 +15,6 @@ mod writing;
 pub use document::Tree;
 pub use fault::{DocCode, DocFault};
 pub use instances::instances_of;
-pub use reading::{DOCUMENT_LIMIT, read, read_node};
+pub use reading::{DOCUMENT_LIMIT, check_node, read, read_node};
 pub use tree::{Step, Stored};
 pub use writing::{value_of_leaf, write};

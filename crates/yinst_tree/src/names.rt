@@ -1,6 +1,6 @@
 //! Names of members (RFC 7951, 4).
 
-ghost use Rattle.std.specs.Prelude.{◌≡◌, IfOk, option_map, string_bytes};
+ghost use Rattle.std.specs.Prelude.{◌≡◌, IfOk, OnOk, option_map, string_bytes};
 ghost use Rattle.serde_json.specs.Find.{get_member};
 ghost use Rattle.serde_json.specs.View as json;
 ghost use Rattle.std.specs.List.{list_any};
@@ -11,6 +11,7 @@ ghost use Rattle.yspec.specs.schema.Schema.{row_at, data_row};
 ghost use Rattle.yspec.specs.document.Reading.{named};
 ghost use Rattle.yschema_model.specs.Layout.{number_of};
 ghost use Rattle.yschema_model.specs.View.{view, node_view, row_view, label_of, below_of};
+ghost use Rattle.yinst_tree.specs.Taking.{without};
 ghost use Rattle.yinst_tree.specs.View.{Means};
 
 use serde_json::{Map, Value};
@@ -139,23 +140,26 @@ pub(crate) fn written_name(
     schema.written_name(alloc, parent_module, node)
 }
 
-/// What members have of a node whose parent is of a module, or that stands at the top.
-pub(crate) fn member_of<'m>(
+/// Takes out of members that of a node whose parent is of a module, or that stands at the top.
+pub(crate) fn take_member(
     alloc: Global,
     schema: &Schema,
     parent_module: Option<usize>,
     node: &SchemaNode,
-    members: &'m Map<String, Value>,
-) -> Result<Option<&'m Value>, AllocError>
-    ensures { let name = spec.written_name (view schema.now) parent_module (node_view 0 node.now) in
-        IfOk result (λ found. option_map (λ v. json.view v.now) found
-        ≡ get_member name (json.members_view members.now.entries)) }
+    members: &mut Map<String, Value>,
+) -> Result<Option<Value>, AllocError>
+    ensures found { let name = spec.written_name (view schema.now) parent_module (node_view 0 node.now) in
+        IfOk result (λ found. option_map json.view found
+        ≡ get_member name (json.members_view members.old.entries)) }
+    ensures left { let name = spec.written_name (view schema.now) parent_module (node_view 0 node.now) in
+        OnOk result (json.members_view members.new.entries
+        ≡ without name (json.members_view members.old.entries)) }
 {
     if is_module(node.module, parent_module) {
-        return Ok(members.get(node.name.as_str()));
+        return Ok(members.remove(node.name.as_str()));
     }
     let name = written_name(alloc, schema, parent_module, node)?;
-    Ok(members.get(name.as_str()))
+    Ok(members.remove(name.as_str()))
 }
 
 /// Whether a module is the parent's, where there is one.

@@ -4,18 +4,19 @@ ghost use Rattle.std.specs.Prelude.{◌≡◌, ◌≤◌, [], IfOk, OnOk, Some, 
 ghost use Rattle.serde_json.specs.View as json;
 ghost use Rattle.yspec.specs.Forest.{size, node, end, join};
 ghost use Rattle.yspec.specs.document.Document.{document_limit};
-ghost use Rattle.yspec.specs.document.Reading.{stored_node, raw_in, item_row, instance_row, stored_rows, tree_or_refusal, document_of};
+ghost use Rattle.yspec.specs.document.Reading.{stored_node, raw_in, item_row, instance_row, tree_or_refusal, document_of};
 ghost use Rattle.yspec.specs.document.Fitting.{Fits};
 ghost use Rattle.yspec.specs.document.Writing.{IsDocument};
 ghost use Rattle.ytype.specs.View.{raw_of};
 ghost use Rattle.yschema_model.specs.View as schema_view;
 ghost use Rattle.yinst_tree.specs.View.{view, row_view, tree_view};
 ghost use Rattle.yspec.specs.Results.{Gives};
-ghost use Rattle.yinst_tree.specs.Told.{Judges, denoted_at, refused_at, inner_rows, stored_first, told_by};
+ghost use Rattle.yinst_tree.specs.Told.{Judges, denoted_at, refused_at, told_by};
+ghost use Rattle.yinst_tree.specs.Taking.{taken, taken_in};
 
 use crate::document::Tree;
 use crate::fault::{DocCode, DocFault, refused_at_root};
-use crate::names::member_of;
+use crate::names::take_member;
 use crate::tree::Stored;
 use crate::values::raw_of;
 use crate::visits::{visit_instance, visit_members};
@@ -38,18 +39,18 @@ pub fn read(alloc: Global, schema: &Schema, bytes: &[u8]) -> Result<Tree, DocFau
     ensures within { IfOk result (λ tree. size (tree_view tree) ≤ document_limit) }
 {
     match Value::from_slice(alloc, bytes) {
-        Ok(value) => tree_of(alloc, schema, &value),
+        Ok(value) => tree_of(alloc, schema, value),
         Err(error) if error.is_memory() => Err(DocFault::Memory),
         Err(_) => Err(refused_at_root(alloc, DocCode::J1)),
     }
 }
 
-/// The document that a value denotes, or its first refusal.
-fn tree_of(alloc: Global, schema: &Schema, value: &Value) -> Result<Tree, DocFault>
+/// The document that a value denotes, or its first refusal. The value is taken apart while the document is made.
+fn tree_of(alloc: Global, schema: &Schema, value: Value) -> Result<Tree, DocFault>
     ensures { Gives tree_view told_by result
-        (tree_or_refusal (schema_view.view schema.now) (json.view value.now)) }
+        (tree_or_refusal (schema_view.view schema.now) (json.view value)) }
 {
-    let Value::Object(members) = value else {
+    let Value::Object(mut members) = value else {
         return Err(refused_at_root(alloc, DocCode::J2));
     };
     let mut place = Vec::new(alloc);
@@ -57,15 +58,33 @@ fn tree_of(alloc: Global, schema: &Schema, value: &Value) -> Result<Tree, DocFau
         alloc,
         schema,
         None,
-        members,
+        &members,
         &mut place,
         Some(DOCUMENT_LIMIT),
     ) {
         Ok(_) => {
             let mut row = Vec::new(alloc);
-            put_rows(alloc, schema, None, schema.roots(), members, &mut row)?;
+            put_rows(alloc, schema, None, schema.roots(), &mut members, &mut row)?;
             Ok(Tree::new(row))
         }
+        Err(fault) => Err(fault),
+    }
+}
+
+/// The first refusal of a value at a node of the schema, which is one entry or item of a list or leaf-list; its place leads
+/// from there. There is no limit of nodes.
+pub fn check_node(
+    alloc: Global,
+    schema: &Schema,
+    id: SchemaId,
+    value: &Value,
+) -> Result<(), DocFault>
+    ensures { Judges result
+        (refused_at (schema_view.view schema.now) id.0 [] (json.view value.now)) }
+{
+    let mut place = Vec::new(alloc);
+    match visit_instance(alloc, schema, id, value, &mut place, None) {
+        Ok(_) => Ok(()),
         Err(fault) => Err(fault),
     }
 }
@@ -76,15 +95,14 @@ pub fn read_node(
     alloc: Global,
     schema: &Schema,
     id: SchemaId,
-    value: &Value,
+    value: Value,
 ) -> Result<Option<Stored>, DocFault>
     ensures refused { Judges result
-        (refused_at (schema_view.view schema.now) id.0 [] (json.view value.now)) }
+        (refused_at (schema_view.view schema.now) id.0 [] (json.view value)) }
     ensures node { IfOk result (λ s. option_map view s
-        ≡ denoted_at (schema_view.view schema.now) id.0 (json.view value.now)) }
+        ≡ denoted_at (schema_view.view schema.now) id.0 (json.view value)) }
 {
-    let mut place = Vec::new(alloc);
-    match visit_instance(alloc, schema, id, value, &mut place, None) {
+    match check_node(alloc, schema, id, &value) {
         Ok(_) => {}
         Err(fault) => return Err(fault),
     }
@@ -94,20 +112,20 @@ pub fn read_node(
     }
 }
 
-/// Puts behind a row what members denote below a node, or at the top, whose children are given.
+/// Takes out of members what they denote below a node, or at the top, whose children are given, and puts it behind a row.
 #[cycle(rows)]
 fn put_rows(
     alloc: Global,
     schema: &Schema,
     parent_module: Option<usize>,
     children: Children<'_>,
-    members: &Map<String, Value>,
+    members: &mut Map<String, Value>,
     row: &mut Vec<Stored>,
 ) -> Result<(), AllocError>
-    ensures { OnOk result (row_view row.new.items
-        ≡ join (row_view row.old.items) (stored_rows (schema_view.view schema.now)
-        parent_module (schema_view.row_view children.entry)
-        (json.members_view members.now.entries))) }
+    ensures { OnOk result (taken (schema_view.view schema.now) parent_module
+        (schema_view.row_view children.entry)
+        (row_view row.old.items, json.members_view members.old.entries)
+        ≡ (row_view row.new.items, json.members_view members.new.entries)) }
 {
     for child in children {
         put_child(alloc, schema, parent_module, child, members, row)?;
@@ -115,23 +133,23 @@ fn put_rows(
     Ok(())
 }
 
-/// Puts behind a row what members denote at a child; choices and cases are passed through.
+/// Takes out of members what they denote at a child, and puts it behind a row; choices and cases are passed through.
 #[cycle(rows)]
 fn put_child(
     alloc: Global,
     schema: &Schema,
     parent_module: Option<usize>,
     child: Child<'_>,
-    members: &Map<String, Value>,
+    members: &mut Map<String, Value>,
     row: &mut Vec<Stored>,
 ) -> Result<(), AllocError>
-    ensures { OnOk result (row_view row.new.items
-        ≡ join (row_view row.old.items) (stored_first (schema_view.view schema.now)
-        parent_module (schema_view.label_of child.entry) (schema_view.below_of child.entry)
-        (json.members_view members.now.entries))) }
+    ensures { OnOk result (taken (schema_view.view schema.now) parent_module
+        (node (schema_view.label_of child.entry) (schema_view.below_of child.entry) end)
+        (row_view row.old.items, json.members_view members.old.entries)
+        ≡ (row_view row.new.items, json.members_view members.new.entries)) }
 {
     if child.node().kind.is_data() {
-        match member_of(alloc, schema, parent_module, child.node(), members)? {
+        match take_member(alloc, schema, parent_module, child.node(), members)? {
             Some(value) => put_instances(alloc, schema, child, value, row),
             None => Ok(()),
         }
@@ -146,36 +164,37 @@ fn put_instances(
     alloc: Global,
     schema: &Schema,
     child: Child<'_>,
-    value: &Value,
+    value: Value,
     row: &mut Vec<Stored>,
 ) -> Result<(), AllocError>
     ensures { let n = schema_view.label_of child.entry in
         OnOk result (row_view row.new.items ≡ join (row_view row.old.items)
-        (instance_row n (inner_rows (schema_view.view schema.now) n
-        (schema_view.below_of child.entry)) (Some (json.view value.now)))) }
+        (instance_row n (taken_in (schema_view.view schema.now) n
+        (schema_view.below_of child.entry)) (Some (json.view value)))) }
 {
     if child.node().kind.is_many() {
         match value {
             Value::Array(items) => put_items(alloc, schema, child, items, row),
-            _ => Ok(()),
+            _other => Ok(()),
         }
     } else {
         put_instance(alloc, schema, child, value, row)
     }
 }
 
+/// Puts behind a row what each item denotes; an item is gone once its node is made.
 #[cycle(rows)]
 fn put_items(
     alloc: Global,
     schema: &Schema,
     child: Child<'_>,
-    items: &[Value],
+    items: Vec<Value>,
     row: &mut Vec<Stored>,
 ) -> Result<(), AllocError>
     ensures { let n = schema_view.label_of child.entry in
         OnOk result (row_view row.new.items ≡ join (row_view row.old.items)
-        (item_row n (inner_rows (schema_view.view schema.now) n (schema_view.below_of child.entry))
-        (json.items_view items.now))) }
+        (item_row n (taken_in (schema_view.view schema.now) n (schema_view.below_of child.entry))
+        (json.items_view items.items))) }
 {
     for item in items {
         put_instance(alloc, schema, child, item, row)?;
@@ -188,13 +207,13 @@ fn put_instance(
     alloc: Global,
     schema: &Schema,
     child: Child<'_>,
-    value: &Value,
+    value: Value,
     row: &mut Vec<Stored>,
 ) -> Result<(), AllocError>
-    ensures { let n = schema_view.label_of child.entry in let d = json.view value.now in
+    ensures { let n = schema_view.label_of child.entry in let d = json.view value in
         OnOk result (row_view row.new.items
         ≡ join (row_view row.old.items) (node (stored_node n d)
-        (inner_rows (schema_view.view schema.now) n (schema_view.below_of child.entry) d) end)) }
+        (taken_in (schema_view.view schema.now) n (schema_view.below_of child.entry) d) end)) }
 {
     row.push(stored_node(
         alloc,
@@ -215,40 +234,39 @@ fn stored_node(
     id: SchemaId,
     node: &SchemaNode,
     children: Children<'_>,
-    value: &Value,
+    value: Value,
 ) -> Result<Stored, AllocError>
-    ensures { let n = schema_view.node_view id.0 node.now in let d = json.view value.now in
+    ensures { let n = schema_view.node_view id.0 node.now in let d = json.view value in
         IfOk result (λ s. view s ≡ (
           stored_node n d,
-          inner_rows (schema_view.view schema.now) n (schema_view.row_view children.entry) d,
+          taken_in (schema_view.view schema.now) n (schema_view.row_view children.entry) d,
         )) }
 {
-    let held = held_of(alloc, node, value)?;
     match value {
-        Value::Object(members) => {
+        Value::Object(mut members) => {
             let mut below = Vec::new(alloc);
             put_rows(
                 alloc,
                 schema,
                 Some(node.module),
                 children,
-                members,
+                &mut members,
                 &mut below,
             )?;
-            Ok(Stored::new(id, held, below))
+            Ok(Stored::new(id, None, below))
         }
-        _ => Ok(Stored::new(id, held, Vec::new(alloc))),
+        other => Ok(Stored::new(id, held_of(node, other), Vec::new(alloc))),
     }
 }
 
 /// What a node of the schema holds of a value: nothing but at a leaf or item.
-fn held_of(alloc: Global, node: &SchemaNode, value: &Value) -> Result<Option<Raw>, AllocError>
-    ensures { IfOk result (λ raw. option_map raw_of raw
-        ≡ raw_in (schema_view.kind_view node.now.kind) (json.view value.now)) }
+fn held_of(node: &SchemaNode, value: Value) -> Option<Raw>
+    ensures { option_map raw_of result
+        ≡ raw_in (schema_view.kind_view node.now.kind) (json.view value) }
 {
     if node.kind.has_value() {
-        raw_of(alloc, value)
+        raw_of(value)
     } else {
-        Ok(None)
+        None
     }
 }

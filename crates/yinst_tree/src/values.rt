@@ -1,6 +1,6 @@
 //! What a leaf has of a JSON value (RFC 7951, 6).
 
-ghost use Rattle.std.specs.Prelude.{◌≡◌, IfOk, is_some, option_map};
+ghost use Rattle.std.specs.Prelude.{◌≡◌, is_some, option_map};
 ghost use Rattle.serde_json.specs.View.{view, items_view, number_view};
 ghost use Rattle.yspec.specs.document.Reading as spec;
 ghost use Rattle.yspec.specs.types.Types.{int};
@@ -9,7 +9,6 @@ ghost use Rattle.yinst_tree.specs.Told.{code_number, leaf_refusal};
 
 use crate::fault::DocCode;
 use serde_json::{Number, Value};
-use std::alloc::{AllocError, Global};
 use ytype::Raw;
 
 /// Why a leaf may not hold a value, where it may not: J6 for a number that is no whole one of 64 bits, else J5.
@@ -45,17 +44,24 @@ fn is_empty_value(items: &[Value]) -> bool
 }
 
 /// What a leaf holds of a value, where it may.
-pub(crate) fn raw_of(alloc: Global, value: &Value) -> Result<Option<Raw>, AllocError>
-    ensures { IfOk result (λ raw. option_map held.raw_of raw ≡ spec.raw_of (view value.now)) }
+pub(crate) fn raw_of(value: Value) -> Option<Raw>
+    ensures { option_map held.raw_of result ≡ spec.raw_of (view value) }
 {
     match value {
-        Value::String(text) => Ok(Some(Raw::Text(String::from_str(alloc, text.as_str())?))),
-        Value::Bool(flag) => Ok(Some(Raw::Bool(*flag))),
-        Value::Number(number) => Ok(match whole_of(number) {
+        Value::String(text) => Some(Raw::Text(text)),
+        Value::Bool(flag) => Some(Raw::Bool(flag)),
+        Value::Number(number) => match whole_of(&number) {
             Some(whole) => Some(Raw::Int(whole)),
             None => None,
-        }),
-        Value::Array(items) if is_empty_value(items) => Ok(Some(Raw::Empty)),
-        _ => Ok(None),
+        },
+        Value::Array(items) => {
+            if is_empty_value(&items) {
+                Some(Raw::Empty)
+            } else {
+                None
+            }
+        }
+        Value::Object(_members) => None,
+        Value::Null => None,
     }
 }

@@ -21,7 +21,7 @@ use crate::step::said_of_path;
 use serde_json::Value;
 use std::alloc::{AllocError, Global};
 use yinst_path::{Edit, EditCode, NamedStep, Path};
-use yinst_tree::{DocCode, DocFault, Step, read_node};
+use yinst_tree::{DocCode, DocFault, Step, check_node};
 use ysay_text::shown;
 use yschema_model::{Kind, Schema, SchemaId};
 
@@ -127,7 +127,7 @@ fn of_value(
     ensures { IfOk result (λ text. string_bytes text
         ≡ spec.of_value (view schema.now) id.0 (json.view value.now)) }
 {
-    match read_node(alloc, schema, id, value) {
+    match check_node(alloc, schema, id, value) {
         Ok(_) => Ok(String::new(alloc)),
         Err(DocFault::Refused { code, place }) => {
             of_refusal(alloc, schema, id, value, code, place.as_slice())

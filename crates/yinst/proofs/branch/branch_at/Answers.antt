@@ -7,10 +7,10 @@ use Rattle.yinst.proofs.branch.branch_at.Goals as goal
 
 pub returns-in-Ok-Some : goal.returns-in-Ok-Some
 returns-in-Ok-Some c =
-    branch_denoted (schema_view.view c.args.schema.now) c.args.id.0 (json.view c.args.value.now) (view c.in-Ok-Some.stored)
+    branch_denoted (schema_view.view c.args.schema.now) c.args.id.0 (json.view c.args.value) (view c.in-Ok-Some.stored)
     c.in-Ok-Some.ensures.refused (rw c.in-Ok-Some.field-0-is at c.in-Ok-Some.ensures.node)
 
 pub returns-in-Err-Refused : goal.returns-in-Err-Refused
 returns-in-Err-Refused c =
-    branch_refused (schema_view.view c.args.schema.now) c.args.id.0 (json.view c.args.value.now) (record { code = code_number c.in-Err-Refused.code; place = _ })
+    branch_refused (schema_view.view c.args.schema.now) c.args.id.0 (json.view c.args.value) (record { code = code_number c.in-Err-Refused.code; place = _ })
     (rw c.in-Err-Refused.field-0-is at c.in-Err-Refused.ensures.refused)

@@ -1,10 +1,10 @@
-use Rattle.std.proofs.Common.{◌≡◌, ◌+◌, ◌*◌, ◌≤◌, drop}
+use Rattle.std.proofs.Common.{◌≡◌, ◌+◌, ◌*◌, ◌≤◌}
 use Rattle.serde_json.specs.View.{items_view, members_view}
 use Rattle.yspec.specs.Forest.{join, size}
-use Rattle.yspec.specs.document.Reading.{item_row, stored_rows}
+use Rattle.yspec.specs.document.Reading.{item_row}
 use Rattle.yschema_model.specs.View as schema_view
 use Rattle.yinst_tree.specs.View.{row_view}
-use Rattle.yinst_tree.specs.Told.{inner_rows}
+use Rattle.yinst_tree.specs.Taking.{taken, taken_in}
 use Rattle.yinst_tree.proofs.reading.+rows.Given as goal
 
 -- what stands below a schema node is smaller than its row
@@ -26,19 +26,21 @@ decreases-put_instance l = 6 * size (schema_view.below_of l.child) + 2
 abbrev pub decreases-stored_node : goal.decreases-stored_node
 decreases-stored_node l = 6 * size (schema_view.row_view l.children) + 1
 
--- what is put in with what is left to put in
+-- what is put in, and what is left, with the schema nodes that are left to walk
 abbrev pub invariant-put_rows-loop-child : goal.invariant-put_rows-loop-child
 invariant-put_rows-loop-child l =
+    let s = schema_view.view l.schema in
     record {
       more : (goal.iterator-put_rows-loop-child).can_next l.child-iterator;
       ends : (goal.iterator-put_rows-loop-child).is_finite l.child-iterator;
       smaller : size (schema_view.row_view l.child-iterator) ≤ size (schema_view.row_view l.children);
-      rows : join (row_view l.row.items) (stored_rows (schema_view.view l.schema) l.parent_module (schema_view.row_view l.child-iterator) (members_view l.members.entries))
-          ≡ join (row_view l.fn.row.items) (stored_rows (schema_view.view l.schema) l.parent_module (schema_view.row_view l.children) (members_view l.members.entries));
+      rows : taken s l.parent_module (schema_view.row_view l.child-iterator) (row_view l.row.items, members_view l.members.entries)
+          ≡ taken s l.parent_module (schema_view.row_view l.children) (row_view l.fn.row.items, members_view l.fn.members.entries);
     }
 
+-- the items so far, with those that are left
 abbrev pub invariant-put_items-loop-item : goal.invariant-put_items-loop-item
 invariant-put_items-loop-item l =
     let n = schema_view.label_of l.child in
-    let inner = inner_rows (schema_view.view l.schema) n (schema_view.below_of l.child) in
-    join (row_view l.row.items) (item_row n inner (items_view (drop l.item-index l.items))) ≡ join (row_view l.fn.row.items) (item_row n inner (items_view l.items))
+    let inner = taken_in (schema_view.view l.schema) n (schema_view.below_of l.child) in
+    join (row_view l.row.items) (item_row n inner (items_view l.item-iterator.rest.items)) ≡ join (row_view l.fn.row.items) (item_row n inner (items_view l.fn.items.items))
