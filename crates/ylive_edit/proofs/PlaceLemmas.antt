@@ -1,12 +1,12 @@
 -- The place of a node among those of its schema node.
-use Rattle.std.proofs.Common.{◌≡◌, ℕ, zero, suc, ◌+◌, ◌≤◌, Bool, true, false, not, cond, eqb, List, [], ◌∷◌, slice_get, Some, refl, sym, ap, ◌∙◌, arith, one-add}
+use Rattle.std.proofs.Common.{◌≡◌, ℕ, zero, suc, ◌+◌, ◌≤◌, Bool, true, false, not, cond, eqb, List, [], ◌∷◌, slice_get, Some, refl, sym, ap, subst, ◌∙◌, arith, one-add}
 use Rattle.std.proofs.lemmas.Bool.{eq-eqb}
 use Rattle.std.proofs.lemmas.Option.{none-some, same_Some}
 use Rattle.yspec.specs.Forest.{end, node, join}
 use Rattle.yspec.specs.schema.Schema.{Schema}
 use Rattle.yspec.specs.document.Document.{Tree, Step, instances_in}
 use Rattle.yschema_model.specs.declared.node.SchemaId.{SchemaId}
-use Rattle.ystore.specs.Entries.{place_of}
+use Rattle.ystore.specs.Entries.{StandsOnce, place_of}
 use Rattle.ystore.specs.Rows.{of_schema}
 use Rattle.ystore.specs.Store.{children_at}
 use Rattle.ystore.specs.declared.row.NodeId.{NodeId}
@@ -48,6 +48,9 @@ only_at it (x ∷ ids) (suc k) few here = by (eqb x.0 it.0) refl (λ less. only_
     by false e more =
         let count = among-cons it.0 x ids in
         ap (λ b. cond (not b) (1 + place_of it ids) 0) e ∙ (ap (λ m. 1 + m) (more (omega (arith, few, count))) ∙ one-add k)
+
+once_listed : (it : NodeId) (ids : List NodeId) → among it.0 ids ≤ 1 → StandsOnce it ids
+once_listed it ids few j k here there = sym (only_at it ids j few here) ∙ only_at it ids k few there
 
 -- ---- rows
 
@@ -97,11 +100,15 @@ few_listed id number (node n below after) = by (eqb n.schema.0 id.0) refl (few_l
 
 -- the node that is found in a row of a document has its index as its place
 pub place_found : (s : Schema) (nodes : Nodes) (tree : Tree) (steps : List Step) (above : Row) (f : Branches) → IsAt s nodes tree steps above f
-    → (id : SchemaId) (k : ℕ) (it : NodeId) → Found id k it f → place_of it (of_schema id (children_at nodes above)) ≡ k
-place_found s nodes tree steps above f at id k it found =
+    → (id : SchemaId) (k : ℕ) (it : NodeId) → Found id k it f
+    → (place : ℕ) → (StandsOnce it (of_schema id (children_at nodes above)) → place ≡ place_of it (of_schema id (children_at nodes above)))
+    → place ≡ k
+place_found s nodes tree steps above f at id k it found place is =
     let hangs = hangs_at s nodes tree steps above f at in
     let once = at.keeps.once it.0 in
     let whole = weigh_around (is_number it.0) at.way f in
-    let few = few_listed id it.0 f in
-    ap (λ cs. place_of it (of_schema id cs)) hangs.listed
-    ∙ only_at it (of_schema id (children_of f)) k (omega (arith, once, whole, few)) (found_listed id k it f found)
+    let listed = few_listed id it.0 f in
+    let few : among it.0 (of_schema id (children_of f)) ≤ 1 = omega (arith, once, whole, listed) in
+    subst (λ cs. StandsOnce it (of_schema id cs) → place ≡ place_of it (of_schema id cs)) hangs.listed is
+    (once_listed it (of_schema id (children_of f)) few)
+    ∙ only_at it (of_schema id (children_of f)) k few (found_listed id k it f found)

@@ -77,7 +77,7 @@ before_prefix p q (c ∷ cs) y fails = by (before_prefix p q cs y fails) (p c) r
         subst (λ (i : ℕ). prefix_len q (insert (c ∷ cs) i y) ≤ i) (sym (ap (λ b. cond b (1 + prefix_len p cs) 0) here))
         (rw fails (omega arith))
 
-out_again : (row : List Child) (i : ℕ) (y : Child) → i ≤ length row → remove (insert row i y) i ≡ row
+pub out_again : (row : List Child) (i : ℕ) (y : Child) → i ≤ length row → remove (insert row i y) i ≡ row
 out_again [] zero y within = refl
 out_again [] (suc i) y within = absurd (omega (arith, within))
 out_again (c ∷ cs) zero y within = refl

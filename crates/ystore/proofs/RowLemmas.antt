@@ -1,13 +1,14 @@
 -- Rows whose schema numbers ascend.
-use Rattle.std.proofs.Common.{◌≡◌, ℕ, zero, suc, ◌+◌, ◌-◌, ◌<◌, ◌≤◌, Bool, true, false, cond, List, [], ◌∷◌, length, get_or, set, take, drop, refl, sym, subst, ap, ◌∙◌, arith, ltb, leb, eqb, map, filter, insert, remove, min, not, slice_get, option_map, Some, None, zero-add, suc-add, one-add, length-drop}
+use Rattle.std.proofs.Common.{◌≡◌, ℕ, zero, suc, ◌+◌, ◌-◌, ◌<◌, ◌≤◌, Bool, true, false, cond, List, [], ◌∷◌, length, get_or, set, take, drop, refl, sym, subst, ap, ◌∙◌, arith, ltb, leb, eqb, map, filter, insert, remove, min, not, slice_get, option_map, Option, Some, None, zero-add, suc-add, one-add, length-drop}
 use Rattle.std.specs.List.{list_all, prefix_len}
+use Rattle.std.specs.Option.{option_map_or}
 use Rattle.std.specs.List.Sorted.{IsNonDecreasingBy, IsPartitionPoint}
-use Rattle.std.proofs.lemmas.Bool.{and_parts, and_from, leb-true, leb-false, ltb-true, ltb-false, le-leb, le-ltb, lt-ltb, eq-eqb, ne_eqb, eqb-true, eqb-false}
+use Rattle.std.proofs.lemmas.Bool.{and_parts, and_from, leb-true, leb-false, ltb-true, ltb-false, le-leb, le-ltb, lt-ltb, eq-eqb, ne_eqb, eqb-true, eqb-false, false≢true}
 use Rattle.std.proofs.lemmas.List.Sums.{prefix_len_is, prefix_len-le-length, passes_at_first}
 use Rattle.std.proofs.lemmas.List.{length-take-le, length-map}
 use Rattle.std.proofs.lemmas.Option.{slice_get-map, slice_get_past, none-some, same_Some}
 use Rattle.yschema_model.specs.declared.node.SchemaId.{SchemaId}
-use Rattle.ystore.specs.Rows.{Child, ascends, first_place, end_place, of_schema, place_of, is_child, added, brought, put}
+use Rattle.ystore.specs.Rows.{Child, ascends, first_place, end_place, of_schema, place_of, place_at, shifted, is_child, added, brought, put}
 use Rattle.ystore.specs.Entries as entries
 use Rattle.ystore.specs.declared.row.NodeId.{NodeId}
 
@@ -381,3 +382,135 @@ place_is child row all =
       λ within. sym (is ∙ ap (λ b. cond b (first_place child.0 row + index) (length row)) (lt-ltb index count (omega (arith, many, order, within)))),
       λ past. sym (is ∙ ap (λ b. cond b (first_place child.0 row + index) (length row)) (le-ltb index count (omega (arith, many, order, past)))),
     )
+
+-- ---- the one at a place among those of a schema node
+
+past_none : (k f n : ℕ) → n ≡ cond (ltb k 0) (f + k) n
+past_none k f n = sym (ap (λ b. cond b (f + k) n) (le-ltb k 0 (omega arith)))
+
+pub place_at_in_row : (s : SchemaId) (k : ℕ) (row : List Child) → ascends row ≡ true
+    → place_at s k row ≡ cond (ltb k (length (of_schema s row))) (first_place s row + k) (length row)
+place_at_in_row s k [] all = past_none k 0 0
+place_at_in_row s k (c ∷ cs) all =
+    by (λ j. place_at_in_row s j cs parts.1) (eqb (number c) s.0) refl (ltb (number c) s.0) refl
+  where
+    parts : (follow c cs ≡ true) × (ascends cs ≡ true)
+    parts = and_parts (follow c cs) (ascends cs) all
+
+    count : ℕ
+    count = length (of_schema s cs)
+
+    first : ℕ
+    first = first_place s cs
+
+    start : eqb (number c) s.0 ≡ true → first ≡ 0
+    start same = first_is_start s cs (follow_from s.0 c cs (omega (arith, eqb-true (number c) s.0 same)) parts.0)
+
+    none_left : (ids : List NodeId) → ids ≡ [] → 1 + cond (ltb k (length ids)) (first + k) (length cs) ≡ cond (ltb k (length ids)) (0 + k) (suc (length cs))
+    none_left ids none =
+        subst (λ (xs : List NodeId). 1 + cond (ltb k (length xs)) (first + k) (length cs) ≡ cond (ltb k (length xs)) (0 + k) (suc (length cs))) (sym none)
+        (ap (λ n. 1 + n) (sym (past_none k first (length cs))) ∙ (one-add (length cs) ∙ past_none k 0 (suc (length cs))))
+
+    inner : ((j : ℕ) → place_at s j cs ≡ cond (ltb j count) (first + j) (length cs)) → first ≡ 0 → (k : ℕ)
+        → cond (eqb k 0) 0 (1 + place_at s (k - 1) cs) ≡ cond (ltb k (suc count)) (0 + k) (suc (length cs))
+    inner later zero_first zero = at_start count (suc (length cs))
+    inner later zero_first (suc j) =
+        let less : suc j - 1 ≡ j = omega arith in
+        let more : suc j ≡ 1 + j = omega arith in
+        ap (λ b. cond b 0 (1 + place_at s (suc j - 1) cs)) (ne_eqb (suc j) 0 (λ same. absurd (omega (arith, same))))
+        ∙ (ap (λ n. 1 + place_at s n cs) less
+        ∙ (ap (λ n. 1 + n) (later j ∙ ap (λ f. cond (ltb j count) (f + j) (length cs)) zero_first)
+        ∙ (one_further j count (length cs)
+        ∙ ap (λ n. cond (ltb n (suc count)) (0 + n) (suc (length cs))) (sym more))))
+
+    by : ((j : ℕ) → place_at s j cs ≡ cond (ltb j count) (first + j) (length cs))
+        → (is_same : Bool) → eqb (number c) s.0 ≡ is_same → (is_less : Bool) → ltb (number c) s.0 ≡ is_less
+        → place_at s k (c ∷ cs) ≡ cond (ltb k (length (of_schema s (c ∷ cs)))) (first_place s (c ∷ cs) + k) (length (c ∷ cs))
+    by later true same true less = absurd (omega (arith, ltb-true (number c) s.0 less, eqb-true (number c) s.0 same))
+    by later true same false less = rw (same, less) (inner later (start same) k)
+    by later false same true less = rw (same, less) (ap (λ n. 1 + n) (later k) ∙ one_more (ltb k count) first k (length cs))
+    by later false same false less =
+        let above = ltb-false (number c) s.0 less in
+        let none = none_above s c cs (omega (arith, above, eqb-false (number c) s.0 same)) parts.0 in
+        rw (same, less) (ap (λ n. 1 + n) (later k) ∙ none_left (of_schema s cs) (ap (map (λ c. c.1)) none))
+
+pub place_at_is : (s : SchemaId) (row : List Child) (k : ℕ) → ascends row ≡ true
+    → (k < end_place s row - first_place s row → first_place s row + k ≡ place_at s k row)
+    × (end_place s row - first_place s row ≤ k → length row ≡ place_at s k row)
+place_at_is s row k all =
+    let count = length (of_schema s row) in
+    let many = count_is s row all in
+    let is = place_at_in_row s k row all in (
+      λ within. sym (is ∙ ap (λ b. cond b (first_place s row + k) (length row)) (lt-ltb k count (omega (arith, many, within)))),
+      λ past. sym (is ∙ ap (λ b. cond b (first_place s row + k) (length row)) (le-ltb k count (omega (arith, many, past)))),
+    )
+
+-- the one at a place is brought to another
+pub shifted_is : (s : SchemaId) (from to at : ℕ) (row : List Child) (child : Child)
+    → at ≡ place_at s (min from (length (of_schema s row) - 1)) row → slice_get row at ≡ Some child
+    → brought child to (remove row at) ≡ shifted s from to row
+shifted_is s from to at row child is there =
+    subst (λ (p : ℕ). brought child to (remove row at) ≡ option_map_or (λ c. brought c to (remove row p)) (slice_get row p) row) is
+    (sym (ap (λ o. option_map_or (λ c. brought c to (remove row at)) o row) there))
+
+pub none_shifted : (s : SchemaId) (from to at : ℕ) (row : List Child)
+    → at ≡ place_at s (min from (length (of_schema s row) - 1)) row → length row ≤ at → row ≡ shifted s from to row
+none_shifted s from to at row is past =
+    subst (λ (p : ℕ). row ≡ option_map_or (λ c. brought c to (remove row p)) (slice_get row p) row) is
+    (sym (ap (λ o. option_map_or (λ c. brought c to (remove row at)) o row) (slice_get_past row at past)))
+
+-- ---- a node that stands once
+
+-- whether it is this node, if there is one
+abbrev pub is_node : NodeId → Option Child → Bool
+is_node node there = option_map_or (λ c. eqb c.1.0 node.0) there false
+
+-- no node is this one among those that stand less far from a place
+abbrev pub NoneNear : NodeId → List Child → ℕ → ℕ → Type 0
+NoneNear node of near far = (k : ℕ) → near ≤ k + far → k < near + far → is_node node (slice_get of k) ≡ false
+
+is_there : (node : NodeId) (o : Option Child) → is_node node o ≡ true → option_map (λ c. c.1) o ≡ Some node
+is_there node (Some c) e = ap (λ (m : ℕ). let n : NodeId = record { 0 = m } in Some n) (eqb-true c.1.0 node.0 e)
+is_there node None e = absurd (false≢true e)
+
+is_other : (node : NodeId) (o : Option Child) → is_node node o ≡ false → option_map (λ c. c.1) o ≡ Some node → ⊥
+is_other node (Some c) e same =
+    let equal : eqb c.1.0 node.0 ≡ true = eq-eqb c.1.0 node.0 (ap (λ (n : NodeId). n.0) (same_Some c.1 node same)) in
+    false≢true (sym e ∙ equal)
+is_other node None e same = none-some node same
+
+pub near_is : (node : NodeId) (of : List Child) (k : ℕ) → entries.StandsOnce node (map (λ c. c.1) of) → is_node node (slice_get of k) ≡ true
+    → k ≡ entries.place_of node (map (λ c. c.1) of)
+near_is node of k once here =
+    let there : slice_get (map (λ c. c.1) of) k ≡ Some node = slice_get-map (λ c. c.1) of k ∙ is_there node (slice_get of k) here in
+    sym (first_is node (map (λ c. c.1) of) k (λ j less held. let same = once j k held there in absurd (omega (arith, less, same))) there)
+
+pub none_near : (node : NodeId) (of : List Child) (near far : ℕ) → near ≤ length of → length of ≤ far → NoneNear node of near far
+    → length of ≡ entries.place_of node (map (λ c. c.1) of)
+none_near node of near far within all none =
+    let long = length-map of (λ (c : Child). c.1) in
+    sym (none_is node (map (λ c. c.1) of) (λ j less held.
+    is_other node (slice_get of j) (none j (omega (arith, within, all)) (omega (arith, less, long, all))) (sym (slice_get-map (λ c. c.1) of j) ∙ held)) ∙ long)
+
+pub none_nearer : (node : NodeId) (of : List Child) (near far : ℕ) → NoneNear node of near far
+    → is_node node (slice_get of (near + far)) ≡ false → (far < near → is_node node (slice_get of (near - 1 - far)) ≡ false)
+    → NoneNear node of near (far + 1)
+none_nearer node of near far none ahead behind k from upto = by (ltb k (near + far)) refl (leb near (k + far)) refl
+  where
+    by : (is_before : Bool) → ltb k (near + far) ≡ is_before → (is_from : Bool) → leb near (k + far) ≡ is_from → is_node node (slice_get of k) ≡ false
+    by false e is_from f =
+        let past = ltb-false k (near + far) e in
+        let same : near + far ≡ k = omega (arith, past, upto) in
+        subst (λ (j : ℕ). is_node node (slice_get of j) ≡ false) same ahead
+    by true e true f = none k (leb-true near (k + far) f) (ltb-true k (near + far) e)
+    by true e false f =
+        let below = leb-false near (k + far) f in
+        let same : near - 1 - far ≡ k = omega (arith, below, from) in
+        subst (λ (j : ℕ). is_node node (slice_get of j) ≡ false) same (behind (omega (arith, below)))
+
+-- what stands before a place, and from it on
+pub ahead_at : (near k : ℕ) (of : List Child) → slice_get (drop near of) k ≡ slice_get of (near + k)
+ahead_at near k of = dropped_at near k of
+
+pub behind_at : (near k : ℕ) (of : List Child) → k < near → slice_get (take near of) k ≡ slice_get of k
+behind_at near k of less = taken_at near k of less

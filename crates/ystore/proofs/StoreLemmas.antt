@@ -1,11 +1,11 @@
 -- What becomes of a store where a record or an entry of it changes.
-use Rattle.std.proofs.Common.{Bool, true, List, ◌∷◌, ◌≡◌, ℕ, ◌+◌, ◌<◌, false, cond, [], length, Option, Some, None, is_some, option_map, Result, Ok, Err, OnOk, refl, sym, ap, ◌∙◌, arith, Less, Equal, Greater, Ordering, is_eq}
+use Rattle.std.proofs.Common.{Bool, true, List, ◌∷◌, ◌≡◌, ℕ, ◌+◌, ◌<◌, false, cond, [], length, Option, Some, None, is_some, option_map, Result, Ok, Err, OnOk, refl, sym, ap, ◌∙◌, subst, arith, Less, Equal, Greater, Ordering, is_eq}
 use Rattle.std.specs.BTreeMap.{BTreeMap}
 use Rattle.std.specs.Cmp.{IsTotalOrder}
 use Rattle.std.specs.Map.{lookup}
 use Rattle.std.specs.Option.{option_map_or}
 use Rattle.std.proofs.lemmas.Cmp.{tied_itself}
-use Rattle.std.proofs.lemmas.Bool.{eq-eqb, false≢true}
+use Rattle.std.proofs.lemmas.Bool.{eq-eqb, eqb-true, false≢true}
 use Rattle.std.proofs.lemmas.List.Sums.{sum_by-set}
 use Rattle.slab.specs.Slab.{Slab, get, slab_len, with_value, Updates}
 use Rattle.slab.proofs.SlabLemmas.{ContainsKey-within, Updates-with_value}
@@ -100,6 +100,37 @@ room_made nodes row was children e same more =
       enough = omega (arith, more, ap length same, ap (λ o. length (option_map_or (λ held. held.shape.children) (option_map held_of o) [])) e);
       changed = record_changed nodes row was (record was { children = children }) (option_map (with_room (room_of children))) e
           (ap (λ row. Some (record (held_of was) { shape = record (held_of was).shape { children = row }; room = room_of children })) same);
+    }
+
+-- ---- a change behind which no row changes
+
+rows_alike : (row other : Row) → same_row row other ≡ true → row ≡ other
+rows_alike Top Top e = refl
+rows_alike (Below m) (Below n) e = ap (λ (k : ℕ). let id : NodeId = record { 0 = k } in Below id) (eqb-true m.0 n.0 e)
+rows_alike Top (Below n) e = absurd (false≢true e)
+rows_alike (Below m) Top e = absurd (false≢true e)
+
+held_still : (row other : Row) (before after : Nodes) → ChangesRow row (λ held. held) before after → held_at after other ≡ held_at before other
+held_still row other before after changes = by (same_row row other) refl
+  where
+    by : (b : Bool) → same_row row other ≡ b → held_at after other ≡ held_at before other
+    by true e = subst (λ (r : Row). held_at after r ≡ held_at before r) (rows_alike row other e) changes.changed
+    by false e = changes.others other e
+
+pub then_kept : (row other : Row) (change : Option Held → Option Held) (before mid after : Nodes)
+    → ChangesRow row change before mid → ChangesRow other (λ held. held) mid after → ChangesRow row change before after
+then_kept row other change before mid after first second =
+    record {
+      changed = held_still other row mid after second ∙ first.changed;
+      others = λ r apart. held_still other r mid after second ∙ first.others r apart;
+      entries = λ key. second.entries key ∙ first.entries key;
+      reads = second.reads ∙ first.reads;
+      node_count =
+          let a = first.node_count in
+          let b = second.node_count in
+          let c = ap there second.changed in
+          let d = ap there (held_still other row mid after second) in
+          omega (arith, a, b, c, d);
     }
 
 pub on_ok : {X Y : Type 0} {P Q : Type 0} (r : Result X Y) → OnOk r P → (P → Q) → OnOk r Q

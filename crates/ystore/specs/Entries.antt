@@ -1,5 +1,5 @@
 -- What an index holds at a key, as contracts see it.
-use Rattle.std.specs.Prelude.{ℕ, ◌+◌, ◌-◌, ◌^◌, min, ltb, eqb, ◌&&◌, Bool, List, [], ◌∷◌, ◌++◌, length, if◌then◌else◌}
+use Rattle.std.specs.Prelude.{◌≡◌, ℕ, ◌+◌, ◌-◌, ◌^◌, min, ltb, eqb, ◌&&◌, Bool, List, [], ◌∷◌, ◌++◌, length, Some, slice_get, if◌then◌else◌}
 use Rattle.std.specs.List.{position_or_len, swap_remove}
 use Rattle.ystore.specs.declared.row.NodeId.{NodeId}
 use Rattle.ystore.specs.declared.entry.Entry as rust
@@ -37,6 +37,10 @@ with_node node e = record e { nodes = e.nodes ++ node ∷ []; awaited = e.awaite
 -- the place of a node, or the end
 abbrev pub place_of : NodeId → List NodeId → ℕ
 place_of node nodes = position_or_len (λ n. eqb n.0 node.0) nodes
+
+-- a node stands at one place at most
+abbrev pub StandsOnce : NodeId → List NodeId → Type 0
+StandsOnce node nodes = (j k : ℕ) → slice_get nodes j ≡ Some node → slice_get nodes k ≡ Some node → j ≡ k
 
 -- without a node, in whose place the last comes
 abbrev pub without : NodeId → List NodeId → List NodeId

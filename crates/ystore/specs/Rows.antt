@@ -1,6 +1,7 @@
 -- Rows of nodes with their schema nodes, and what is made of one.
-use Rattle.std.specs.Prelude.{ℕ, ltb, leb, eqb, ◌+◌, ◌-◌, ◌&&◌, min, Bool, true, List, [], ◌∷◌, length, map, slice_set, if◌then◌else◌}
+use Rattle.std.specs.Prelude.{ℕ, ltb, leb, eqb, ◌+◌, ◌-◌, ◌&&◌, min, Bool, true, List, [], ◌∷◌, length, map, slice_get, slice_set, if◌then◌else◌}
 use Rattle.std.specs.List.{list_all, prefix_len, position_or_len, filter, insert, remove}
+use Rattle.std.specs.Option.{option_map_or}
 use Rattle.yschema_model.specs.declared.node.SchemaId.{SchemaId}
 use Rattle.ystore.specs.declared.row.NodeId.{NodeId}
 
@@ -40,9 +41,15 @@ added child row = insert row (end_place child.0 row) child
 abbrev pub put : Child → NodeId → List Child → List Child
 put child node row = slice_set row (place_of child row) (child.0, node)
 
--- without a child
-abbrev pub taken : Child → List Child → List Child
-taken child row = remove row (place_of child row)
+-- the place in the row of the one at a place among those of a schema node, or the end
+abbrev pub place_at : SchemaId → ℕ → List Child → ℕ
+place_at schema place [] = 0
+place_at schema place (c ∷ row) =
+    if eqb c.0.0 schema.0 then (if eqb place 0 then 0 else 1 + place_at schema (place - 1) row) else 1 + place_at schema place row
+
+-- without the one at a place among those of a schema node
+abbrev pub without_at : SchemaId → ℕ → List Child → List Child
+without_at schema place row = remove row (place_at schema place row)
 
 -- without the last of a schema node, if there is one
 abbrev pub without_last : SchemaId → List Child → List Child
@@ -52,6 +59,8 @@ without_last schema row = if ltb (first_place schema row) (end_place schema row)
 abbrev pub brought : Child → ℕ → List Child → List Child
 brought child place row = insert row (first_place child.0 row + min place (length (of_schema child.0 row))) child
 
--- with a child at another place among those of its schema node
-abbrev pub moved : Child → ℕ → List Child → List Child
-moved child place row = if ltb (place_of child row) (length row) then brought child place (taken child row) else row
+-- with the one at a place among those of a schema node, or the last of them, at another place among them
+abbrev pub shifted : SchemaId → ℕ → ℕ → List Child → List Child
+shifted schema from to row =
+    let at = min from (length (of_schema schema row) - 1) in
+    option_map_or (λ child. brought child to (without_at schema at row)) (slice_get row (place_at schema at row)) row

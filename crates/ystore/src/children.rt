@@ -1,6 +1,8 @@
 //! The nodes of one row.
 
-ghost use Rattle.std.specs.Prelude.{◌≡◌, true};
+ghost use Rattle.std.specs.Prelude.{◌≡◌, eqb, false, map, slice_get, true};
+ghost use Rattle.std.specs.Option.{option_map_or};
+ghost use Rattle.ystore.specs.Entries.{StandsOnce, place_of};
 ghost use Rattle.ystore.specs.Rows.{ascends};
 
 use crate::row::NodeId;
@@ -19,6 +21,7 @@ impl Children {
     ghost use Rattle.ystore.specs.Children.{nodes_of, room_of};
     ghost use Rattle.ystore.specs.Rows as rows;
     ghost use Rattle.ystore.specs.Entries as entries;
+    ghost use Rattle.ystore.specs.Entries.{StandsOnce};
 
     /// None, with room for so many.
     pub fn with_capacity(alloc: Global, room: usize) -> Result<Children, AllocError>
@@ -116,6 +119,18 @@ impl Children {
         count
     }
 
+    /// The same, where the node stands once among them; it is looked for from a place of the row on.
+    pub fn index_near(&self, schema: SchemaId, node: NodeId, near: usize) -> usize
+        ensures { StandsOnce node (rows.of_schema schema (nodes_of self.now))
+            → result ≡ entries.place_of node (rows.of_schema schema (nodes_of self.now)) }
+    {
+        let first = self.first_place(schema);
+        let end = self.end_place(schema);
+        let (_, rest) = self.as_slice().split_at(first);
+        let (of, _) = rest.split_at(end - first);
+        place_near(of, node, near.saturating_sub(first))
+    }
+
     /// The place in the row of a place among those of a schema node, or that behind them.
     fn place_among(&self, schema: SchemaId, place: usize) -> usize
         ensures place { result ≡ rows.first_place schema (nodes_of self.now)
@@ -131,6 +146,19 @@ impl Children {
         }
     }
 
+    /// The place in the row of the one at a place among those of a schema node, or the end.
+    fn place_at(&self, schema: SchemaId, place: usize) -> usize
+        ensures place { result ≡ rows.place_at schema place (nodes_of self.now) }
+        ensures within { result ≤ length (nodes_of self.now) }
+    {
+        let first = self.first_place(schema);
+        if place < self.end_place(schema) - first {
+            first + place
+        } else {
+            self.nodes.len()
+        }
+    }
+
     /// Makes room for one more.
     pub fn reserve(&mut self) -> Result<(), AllocError>
         ensures nodes { nodes_of self.new ≡ nodes_of self.old }
@@ -141,14 +169,15 @@ impl Children {
         self.nodes.reserve(1)
     }
 
-    /// Adds a child behind those of its schema node, where there is room for one.
-    pub fn add(&mut self, child: (SchemaId, NodeId))
+    /// Adds a child behind those of its schema node, where there is room for one, and answers where in the row it stands.
+    pub fn add(&mut self, child: (SchemaId, NodeId)) -> usize
         requires { length (nodes_of self.old) < room_of self.old }
         ensures nodes { nodes_of self.new ≡ rows.added child (nodes_of self.old) }
         ensures room { room_of self.new ≡ room_of self.old }
     {
         let place = self.end_place(child.0);
         let _ = self.nodes.insert(place, child);
+        place
     }
 
     /// Adds a child at a place among those of its schema node, or behind them, where there is room for one.
@@ -161,8 +190,9 @@ impl Children {
         let _ = self.nodes.insert(place, child);
     }
 
-    /// Puts another node of the same schema node in the place of a child, if it is there.
-    pub fn put(&mut self, child: (SchemaId, NodeId), node: NodeId)
+    /// Puts another node of the same schema node in the place of a child, if it is there, and answers that place in the row, or
+    /// the end.
+    pub fn put(&mut self, child: (SchemaId, NodeId), node: NodeId) -> usize
         ensures nodes { nodes_of self.new ≡ rows.put child node (nodes_of self.old) }
         ensures room { room_of self.new ≡ room_of self.old }
     {
@@ -170,14 +200,15 @@ impl Children {
         if place < self.nodes.len() {
             self.nodes[place] = (child.0, node);
         }
+        place
     }
 
-    /// Takes a child away, if it is there.
-    pub fn take(&mut self, child: (SchemaId, NodeId))
-        ensures nodes { nodes_of self.new ≡ rows.taken child (nodes_of self.old) }
+    /// Takes away the one at a place among those of a schema node, if there is one.
+    pub fn take_at(&mut self, schema: SchemaId, place: usize)
+        ensures nodes { nodes_of self.new ≡ rows.without_at schema place (nodes_of self.old) }
         ensures room { room_of self.new ≡ room_of self.old }
     {
-        let place = self.place_of(child);
+        let place = self.place_at(schema, place);
         if place < self.nodes.len() {
             self.nodes.remove(place);
         }
@@ -194,16 +225,48 @@ impl Children {
         }
     }
 
-    /// Brings a child, if it is there, to a place among those of its schema node, or behind them.
-    pub fn shift(&mut self, child: (SchemaId, NodeId), place: usize)
-        ensures nodes { nodes_of self.new ≡ rows.moved child place (nodes_of self.old) }
+    /// Brings the one at a place among those of a schema node, or the last of them, to another place among them, or behind them.
+    /// Answers which one it is, and where in the row it stands then; none where there are none of them.
+    pub fn shift_at(&mut self, schema: SchemaId, from: usize, to: usize) -> Option<(NodeId, usize)>
+        ensures nodes { nodes_of self.new ≡ rows.shifted schema from to (nodes_of self.old) }
         ensures room { room_of self.new ≡ room_of self.old }
     {
-        let from = self.place_of(child);
+        let last = self.count_of(schema).saturating_sub(1);
+        let from = self.place_at(schema, from.min(last));
         if from < self.nodes.len() {
-            self.nodes.remove(from);
-            let to = self.place_among(child.0, place);
+            let child = self.nodes.remove(from);
+            let to = self.place_among(child.0, to);
             let _ = self.nodes.insert(to, child);
+            Some((child.1, to))
+        } else {
+            None
         }
+    }
+}
+
+/// A place at which a node stands among some, or their number. It is looked for from a place on, forward and backward at once.
+fn place_near(of: &[(SchemaId, NodeId)], node: NodeId, near: usize) -> usize
+    ensures { StandsOnce node (map (λ c. c.1) of.now) → result ≡ place_of node (map (λ c. c.1) of.now) }
+{
+    let near = near.min(of.len());
+    let (before, after) = of.split_at(near);
+    for step in 0..of.len() {
+        if is_at(after, step, node) {
+            return near + step;
+        }
+        if step < near && is_at(before, near - 1 - step, node) {
+            return near - 1 - step;
+        }
+    }
+    of.len()
+}
+
+/// Whether the one at a place is this node.
+fn is_at(of: &[(SchemaId, NodeId)], place: usize, node: NodeId) -> bool
+    ensures { result ≡ option_map_or (λ c. eqb c.1.0 node.0) (slice_get of.now place) false }
+{
+    match of.get(place) {
+        Some(child) => child.1 == node,
+        None => false,
     }
 }

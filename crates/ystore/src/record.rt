@@ -48,6 +48,8 @@ pub(crate) struct Record {
     pub(crate) told: Told,
     /// How many faults are told of the node and of all below it.
     pub(crate) total: usize,
+    /// Where in its row the node was put; it may stand elsewhere since.
+    pub(crate) place: usize,
 }
 
 impl Record {
@@ -68,6 +70,7 @@ impl Record {
                 play: Vec::new(alloc),
             },
             total: 0,
+            place: 0,
         }
     }
 
@@ -95,6 +98,12 @@ impl Record {
         if number < self.told.same.len() {
             self.told.same[number] = is_same;
         }
+    }
+
+    pub(crate) fn set_place(&mut self, place: usize)
+        ensures { held_of self.new ≡ held_of self.old }
+    {
+        self.place = place;
     }
 
     pub(crate) fn value(&self) -> Option<&Raw>

@@ -22,6 +22,14 @@ instances-cons n below after number b e =
     sum_by-cons (λ (x : Stored). cond (eqb x.schema_number number) 1 0) (stored_of n) (row (tree_of after))
     ∙ ap (λ x. cond x 1 0 + instances_in (tree_of after) number) e
 
+pub instances_join : (f g : Branches) (number : ℕ) → instances_in (tree_of (join f g)) number ≡ instances_in (tree_of f) number + instances_in (tree_of g) number
+instances_join end g number = omega arith
+instances_join (node n below after) g number =
+    let here = instances-cons n below (join after g) number (eqb n.schema.0 number) refl in
+    let alone = instances-cons n below after number (eqb n.schema.0 number) refl in
+    let rest = instances_join after g number in
+    omega (arith, here, alone, rest)
+
 pub of_schema-cons : (s : SchemaId) (c : Child) (cs : List Child) (b : Bool) → eqb c.0.0 s.0 ≡ b → of_schema s (c ∷ cs) ≡ cond b (c.1 ∷ of_schema s cs) (of_schema s cs)
 of_schema-cons s c cs true e = ap (λ b. map (λ (c : Child). c.1) (cond b (c ∷ filter (λ (d : Child). eqb d.0.0 s.0) cs) (filter (λ (d : Child). eqb d.0.0 s.0) cs))) e
 of_schema-cons s c cs false e = ap (λ b. map (λ (c : Child). c.1) (cond b (c ∷ filter (λ (d : Child). eqb d.0.0 s.0) cs) (filter (λ (d : Child). eqb d.0.0 s.0) cs))) e

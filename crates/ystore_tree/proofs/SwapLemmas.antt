@@ -1,8 +1,10 @@
 -- Changes of a row by one branch, done and undone.
-use Rattle.std.proofs.Common.{◌≡◌, ℕ, zero, suc, ◌+◌, ◌<◌, ◌≤◌, Bool, true, false, List, [], ◌∷◌, ◌++◌, length, min, Option, Some, None, option_map, refl, sym, ap, ap₂, ◌∙◌, arith, subst, cond, eqb, ltb}
+use Rattle.std.proofs.Common.{◌≡◌, ℕ, zero, suc, ◌+◌, ◌<◌, ◌≤◌, Bool, true, false, List, [], ◌∷◌, ◌++◌, length, min, Option, Some, None, option_map, refl, sym, ap, ap₂, ◌∙◌, arith, subst, cond, eqb, leb, ltb, insert, slice_get, ◌-◌}
 use Rattle.std.specs.Prelude.{IfSome}
 use Rattle.std.specs.Option.{option_map_or}
-use Rattle.std.proofs.lemmas.Bool.{ltb-true, ltb-false}
+use Rattle.std.specs.List.{list_all}
+use Rattle.std.proofs.lemmas.Bool.{and_from, eq-eqb, le-leb, le-ltb, lt-ltb, ltb-true, ltb-false}
+use Rattle.std.proofs.lemmas.List.Sums.{prefix_len-le-length}
 use Rattle.yspec.specs.Forest.{end, node, join}
 use Rattle.yspec.specs.document.Document.{instances_in}
 use Rattle.yspec.specs.document.Sorting.{IsSorted}
@@ -15,7 +17,8 @@ use Rattle.ystore.specs.declared.row.NodeId.{NodeId}
 use Rattle.ystore.specs.declared.row.Row.{Row}
 use Rattle.ystore.specs.declared.row.Row.TheVariants.{Top}
 use Rattle.ystore.specs.declared.nodes.Nodes.{Nodes}
-use Rattle.ystore.proofs.CallerLemmas.{added_is_last}
+use Rattle.ystore.proofs.CallerLemmas.{added_is_last, out_again}
+use Rattle.ystore.proofs.RowLemmas.{ascends_brought, ascends_remove, count_is, first_before_end, place_at_in_row, shifted_is}
 use Rattle.ystore_tree.specs.Hanging.{Numbered, Branches, tree_of, child_of, children_of, Keeps, is_number, times}
 use Rattle.ystore_tree.specs.Ways.{Way, around, end_of}
 use Rattle.ystore_tree.specs.Changes.{put_at, with_node_at}
@@ -25,8 +28,8 @@ use Rattle.ystore_tree.specs.declared.swapping.Change.{Change}
 use Rattle.ystore_tree.specs.declared.swapping.Change.TheVariants.{Add, Put, Take, Move}
 use Rattle.ystore_tree.proofs.HangingLemmas.{weigh_join, weigh_around, is_itself, children_join, at_end}
 use Rattle.ystore_tree.proofs.FrameLemmas.{same_rows}
-use Rattle.ystore_tree.proofs.FoundLemmas.{counted, instances-cons}
-use Rattle.ystore_tree.proofs.ChangeLemmas.{children_put, list_taken, list_put, list_moved, added, put, taken, moved}
+use Rattle.ystore_tree.proofs.FoundLemmas.{counted, instances-cons, instances_join, of_schema-cons}
+use Rattle.ystore_tree.proofs.ChangeLemmas.{children_put, list_taken, list_put, list_shifted, added, put, taken, moved}
 
 -- ---- a node that is put into a row parts it
 
@@ -112,14 +115,6 @@ put_between : (first rest : Branches) (m : Numbered) (under : Branches) → put_
 put_between end rest m under = refl
 put_between (node x b after) rest m under = ap (node x b) (put_between after rest m under)
 
-instances_join : (f g : Branches) (number : ℕ) → instances_in (tree_of (join f g)) number ≡ instances_in (tree_of f) number + instances_in (tree_of g) number
-instances_join end g number = omega arith
-instances_join (node n below after) g number =
-    let here = instances-cons n below (join after g) number (eqb n.schema.0 number) refl in
-    let alone = instances-cons n below after number (eqb n.schema.0 number) refl in
-    let rest = instances_join after g number in
-    omega (arith, here, alone, rest)
-
 pub same_place : (first rest : Branches) (m : Numbered) (under : Branches) → IsSorted (tree_of (join first (node m under rest)))
     → with_node_at (instances_in (tree_of first) m.schema.0) m under (join first rest) ≡ join first (node m under rest)
 same_place first rest m under sorted =
@@ -132,37 +127,116 @@ same_place first rest m under sorted =
     omega (arith, place, least))
     ∙ put_between first rest m under
 
--- a node that was put anywhere among the others is brought back to its place
-brought_back : (at : ℕ) (first rest : Branches) (m : Numbered) (under : Branches) → IsSorted (tree_of (join first (node m under rest))) → times m.id.0 (join first rest) ≡ 0
-    → rows.moved (child_of m) (instances_in (tree_of first) m.schema.0) (children_of (put_at at m under (join first rest)))
-    ≡ children_of (join first (node m under rest))
-brought_back at first rest m under sorted none =
-    let place = instances_in (tree_of first) m.schema.0 in
-    let p = parted at m under (join first rest) in
-    ap (λ f. rows.moved (child_of m) place (children_of f)) p.now
-    ∙ (list_moved p.before p.after m under (none_first m.id.0 p.before p.after (ap (times m.id.0) (sym p.was) ∙ none)) place
-    ∙ (ap (λ f. children_of (with_node_at place m under f)) (sym p.was)
-    ∙ ap children_of (same_place first rest m under sorted)))
-
 pub taken_back : (first rest : Branches) (m : Numbered) (under : Branches) → IsSorted (tree_of (join first (node m under rest)))
-    → times m.id.0 first ≡ 0
-    → rows.brought (child_of m) (instances_in (tree_of first) m.schema.0) (rows.taken (child_of m) (children_of (join first (node m under rest))))
+    → rows.brought (child_of m) (instances_in (tree_of first) m.schema.0)
+    (rows.without_at m.schema (instances_in (tree_of first) m.schema.0) (children_of (join first (node m under rest))))
     ≡ children_of (join first (node m under rest))
-taken_back first rest m under sorted before =
+taken_back first rest m under sorted =
     let place = instances_in (tree_of first) m.schema.0 in
     let at = rows.first_place m.schema (children_of (join first rest)) + min place (length (rows.of_schema m.schema (children_of (join first rest)))) in
-    ap (rows.brought (child_of m) place) (list_taken first rest m under before)
+    ap (rows.brought (child_of m) place) (list_taken first rest m under)
     ∙ (sym (children_put at m under (join first rest))
     ∙ ap children_of (same_place first rest m under sorted))
 
-pub moved_back : (to : ℕ) (first rest : Branches) (m : Numbered) (under : Branches) → IsSorted (tree_of (join first (node m under rest))) → times m.id.0 (join first rest) ≡ 0
-    → times m.id.0 first ≡ 0
-    → rows.moved (child_of m) (instances_in (tree_of first) m.schema.0) (rows.moved (child_of m) to (children_of (join first (node m under rest))))
+-- ---- rows in order
+
+sorted_after : (x n : Numbered) (b below f : Branches) → IsSorted (tree_of (node x b (node n below f))) → IsSorted (tree_of (node x b f))
+sorted_after x n b below end sorted = (tt, sorted.1, tt)
+sorted_after x n b below (node y c f) sorted =
+    let first = sorted.0 in let next = sorted.2.0 in (omega (arith, first, next), sorted.1, sorted.2.2)
+
+ascends_from : (x : Numbered) (b f : Branches) → IsSorted (tree_of (node x b f)) → list_all (λ d. leb x.schema.0 d.0.0) (children_of f) ≡ true
+ascends_from x b end sorted = refl
+ascends_from x b (node n below f) sorted =
+    and_from (leb x.schema.0 n.schema.0) (list_all (λ d. leb x.schema.0 d.0.0) (children_of f)) (le-leb x.schema.0 n.schema.0 sorted.0)
+    (ascends_from x b f (sorted_after x n b below f sorted))
+
+row_ascends : (f : Branches) → IsSorted (tree_of f) → rows.ascends (children_of f) ≡ true
+row_ascends end sorted = refl
+row_ascends (node n below f) sorted =
+    and_from (list_all (λ d. leb n.schema.0 d.0.0) (children_of f)) (rows.ascends (children_of f)) (ascends_from n below f sorted) (row_ascends f sorted.2)
+
+-- the others of a row in order stand in order
+others_ascend : (first rest : Branches) (m : Numbered) (under : Branches) → IsSorted (tree_of (join first (node m under rest)))
+    → rows.ascends (children_of (join first rest)) ≡ true
+others_ascend first rest m under sorted =
+    let row = children_of (join first (node m under rest)) in
+    subst (λ (cs : List Child). rows.ascends cs ≡ true) (list_taken first rest m under)
+    (ascends_remove row (rows.place_at m.schema (instances_in (tree_of first) m.schema.0) row) (row_ascends (join first (node m under rest)) sorted))
+
+count_insert : (y : Child) (row : List Child) (i : ℕ) → length (rows.of_schema y.0 (insert row i y)) ≡ suc (length (rows.of_schema y.0 row))
+count_insert y row zero = ap length (of_schema-cons y.0 y row true (eq-eqb y.0.0 y.0.0 refl))
+count_insert y [] (suc i) = ap length (of_schema-cons y.0 y [] true (eq-eqb y.0.0 y.0.0 refl))
+count_insert y (c ∷ row) (suc i) = by (eqb c.0.0 y.0.0) refl (count_insert y row i)
+  where
+    by : (b : Bool) → eqb c.0.0 y.0.0 ≡ b → length (rows.of_schema y.0 (insert row i y)) ≡ suc (length (rows.of_schema y.0 row))
+        → length (rows.of_schema y.0 (c ∷ insert row i y)) ≡ suc (length (rows.of_schema y.0 (c ∷ row)))
+    by true e rest =
+        ap length (of_schema-cons y.0 c (insert row i y) true e) ∙ (ap suc rest ∙ ap (λ (ids : List NodeId). suc (length ids)) (sym (of_schema-cons y.0 c row true e)))
+    by false e rest =
+        ap length (of_schema-cons y.0 c (insert row i y) false e) ∙ (rest ∙ ap (λ (ids : List NodeId). suc (length ids)) (sym (of_schema-cons y.0 c row false e)))
+
+first_insert : (y : Child) (row : List Child) (i : ℕ) → rows.first_place y.0 row ≤ i → rows.first_place y.0 (insert row i y) ≡ rows.first_place y.0 row
+first_insert y [] zero past = ap (λ b. cond b (1 + 0) 0) (le-ltb y.0.0 y.0.0 (omega arith))
+first_insert y [] (suc i) past = ap (λ b. cond b (1 + 0) 0) (le-ltb y.0.0 y.0.0 (omega arith))
+first_insert y (c ∷ row) zero past = by (ltb c.0.0 y.0.0) refl past
+  where
+    by : (b : Bool) → ltb c.0.0 y.0.0 ≡ b → cond (ltb c.0.0 y.0.0) (1 + rows.first_place y.0 row) 0 ≤ 0
+        → rows.first_place y.0 (y ∷ c ∷ row) ≡ rows.first_place y.0 (c ∷ row)
+    by true e past = let more : 1 + rows.first_place y.0 row ≤ 0 = subst (λ b. cond b (1 + rows.first_place y.0 row) 0 ≤ 0) e past in absurd (omega (arith, more))
+    by false e past = rw (le-ltb y.0.0 y.0.0 (omega arith), e) refl
+first_insert y (c ∷ row) (suc i) past = by (ltb c.0.0 y.0.0) refl (first_insert y row i) past
+  where
+    by : (b : Bool) → ltb c.0.0 y.0.0 ≡ b → (rows.first_place y.0 row ≤ i → rows.first_place y.0 (insert row i y) ≡ rows.first_place y.0 row)
+        → cond (ltb c.0.0 y.0.0) (1 + rows.first_place y.0 row) 0 ≤ suc i
+        → rows.first_place y.0 (c ∷ insert row i y) ≡ rows.first_place y.0 (c ∷ row)
+    by true e rest past =
+        let more : 1 + rows.first_place y.0 row ≤ suc i = subst (λ b. cond b (1 + rows.first_place y.0 row) 0 ≤ suc i) e past in
+        rw e (ap (λ n. 1 + n) (rest (omega (arith, more))))
+    by false e rest past = rw e refl
+
+there_again : (row : List Child) (i : ℕ) (y : Child) → i ≤ length row → slice_get (insert row i y) i ≡ Some y
+there_again row zero y within = refl
+there_again [] (suc i) y within = absurd (omega (arith, within))
+there_again (c ∷ row) (suc i) y within = there_again row i y (omega (arith, within))
+
+-- a child that was brought to a place is brought from there to another
+pub shifted_again : (y : Child) (to back : ℕ) (row : List Child) → rows.ascends row ≡ true
+    → rows.shifted y.0 to back (rows.brought y to row) ≡ rows.brought y back row
+shifted_again y to back row all =
+    let n = length (rows.of_schema y.0 row) in
+    let first = rows.first_place y.0 row in
+    let i = first + min to n in
+    let then = rows.brought y to row in
+    let count : length (rows.of_schema y.0 then) ≡ suc n = count_insert y row i in
+    let start : rows.first_place y.0 then ≡ first = first_insert y row i (omega arith) in
+    let within : i ≤ length row = let many = count_is y.0 row all in let end = prefix_len-le-length (λ c. leb c.0.0 y.0.0) row in let order = first_before_end y.0 row in grind (arith, many, end, order) in
+    let k = min to (length (rows.of_schema y.0 then) - 1) in
+    let same : k ≡ min to n = ap (λ m. min to (m - 1)) count ∙ ap (min to) (less n) in
+    let few : k < length (rows.of_schema y.0 then) = omega (arith, same, count) in
+    let at : rows.place_at y.0 k then ≡ i =
+    place_at_in_row y.0 k then (ascends_brought row y to all)
+    ∙ (ap (λ b. cond b (rows.first_place y.0 then + k) (length then)) (lt-ltb k (length (rows.of_schema y.0 then)) few)
+    ∙ ap₂ (λ f m. f + m) start same) in
+    sym (shifted_is y.0 to back i then y (sym at) (there_again row i y within))
+    ∙ ap (rows.brought y back) (out_again row i y within)
+  where
+    less : (m : ℕ) → suc m - 1 ≡ m
+    less m = omega arith
+
+pub moved_back : (to : ℕ) (first rest : Branches) (m : Numbered) (under : Branches) → IsSorted (tree_of (join first (node m under rest)))
+    → rows.shifted m.schema to (instances_in (tree_of first) m.schema.0)
+    (rows.shifted m.schema (instances_in (tree_of first) m.schema.0) to (children_of (join first (node m under rest))))
     ≡ children_of (join first (node m under rest))
-moved_back to first rest m under sorted none before =
-    let at = rows.first_place m.schema (children_of (join first rest)) + min to (length (rows.of_schema m.schema (children_of (join first rest)))) in
-    ap (rows.moved (child_of m) (instances_in (tree_of first) m.schema.0)) (list_moved first rest m under before to)
-    ∙ brought_back at first rest m under sorted none
+moved_back to first rest m under sorted =
+    let from = instances_in (tree_of first) m.schema.0 in
+    let others = children_of (join first rest) in
+    let at = rows.first_place m.schema others + min from (length (rows.of_schema m.schema others)) in
+    let there = rows.first_place m.schema others + min to (length (rows.of_schema m.schema others)) in
+    ap (rows.shifted m.schema to from) (list_shifted first rest m under to ∙ children_put there m under (join first rest))
+    ∙ (shifted_again (child_of m) to from others (others_ascend first rest m under sorted)
+    ∙ (sym (children_put at m under (join first rest))
+    ∙ ap children_of (same_place first rest m under sorted)))
 
 -- ---- a change is the definition's, and is undone
 
@@ -209,8 +283,9 @@ module _ (above : Row) (way : Way) (at : end_of Top way ≡ above) where
       (taken before after way t.before t.after t.from t.under
       (subst (λ (l : Branches). Keeps before (around way (join t.before (node t.from t.under t.after))) (end_of Top way) l) t.none
       (subst (λ (h : Branches). Keeps before (around way h) (end_of Top way) loose) t.was (keeps_there before f loose keeps)))
-      (subst (λ (c : Child). ChangesRow (end_of Top way) (option_map (with_children (rows.taken c))) before after) (sym (child_is t.from schema old t.is_schema t.is_old))
-      (changes_there (rows.taken (schema, old)) before after changes)))))
+      (subst (λ (s : SchemaId). ChangesRow (end_of Top way) (option_map (with_children (rows.without_at s (instances_in (tree_of t.before) s.0)))) before after) (sym t.is_schema)
+      (subst (λ (k : ℕ). ChangesRow (end_of Top way) (option_map (with_children (rows.without_at schema k))) before after) (sym t.is_place)
+      (changes_there (rows.without_at schema place) before after changes))))))
   made before after f loose g left schema (Move id from to) m keeps changes =
       keeps_here after g left
       (subst (λ (l : Branches). Keeps after (around way g) (end_of Top way) l) (sym m.none_left)
@@ -218,8 +293,9 @@ module _ (above : Row) (way : Way) (at : end_of Top way ≡ above) where
       (moved before after way m.before m.after m.label m.under to end
       (subst (λ (l : Branches). Keeps before (around way (join m.before (node m.label m.under m.after))) (end_of Top way) l) m.none
       (subst (λ (h : Branches). Keeps before (around way h) (end_of Top way) loose) m.was (keeps_there before f loose keeps)))
-      (subst (λ (c : Child). ChangesRow (end_of Top way) (option_map (with_children (rows.moved c to))) before after) (sym (child_is m.label schema id m.is_schema m.is_id))
-      (changes_there (rows.moved (schema, id) to) before after changes)))))
+      (subst (λ (s : SchemaId). ChangesRow (end_of Top way) (option_map (with_children (rows.shifted s (instances_in (tree_of m.before) s.0) to))) before after) (sym m.is_schema)
+      (subst (λ (k : ℕ). ChangesRow (end_of Top way) (option_map (with_children (rows.shifted schema k to))) before after) (sym m.is_from)
+      (changes_there (rows.shifted schema from to) before after changes))))))
 
   -- how often a number stands in the row and beside the tree
   once_there : (nodes : Nodes) (f loose : Branches) → Keeps nodes (around way f) above loose → (k : ℕ) → times k f + times k loose ≤ 1
@@ -253,32 +329,20 @@ module _ (above : Row) (way : Way) (at : end_of Top way ≡ above) where
       (subst (λ (s : SchemaId). rows.put (s, p.to.id) p.from.id (rows.put (schema, p.from.id) p.to.id (children_of (join p.before (node p.from p.under p.after)))) ≡ children_of (join p.before (node p.from p.under p.after))) p.same_schema
       (subst (λ (s : SchemaId). rows.put (child_of p.to) p.from.id (rows.put (s, p.from.id) p.to.id (children_of (join p.before (node p.from p.under p.after)))) ≡ children_of (join p.before (node p.from p.under p.after))) p.is_schema back))))
   restored nodes f loose g left schema (Take old place) t sorted keeps =
-      let parts = weigh_join (is_number t.from.id.0) t.before (node t.from t.under t.after) in
-      let was = ap (times t.from.id.0) t.was in
-      let most = once_there nodes f loose keeps t.from.id.0 in
-      let here = is_itself t.from in
-      let back = taken_back t.before t.after t.from t.under (subst (λ (h : Branches). IsSorted (tree_of h)) t.was sorted)
-      (omega (arith, parts, was, most, here)) in
-      let place_is : instances_in (tree_of t.before) t.from.schema.0 ≡ place = ap (λ (s : SchemaId). instances_in (tree_of t.before) s.0) t.is_schema ∙ t.is_place in
-      subst (λ (cs : List Child). rows.brought (schema, old) place (rows.taken (schema, old) cs) ≡ cs) (ap children_of (sym t.was))
-      (subst (λ (c : Child). rows.brought c place (rows.taken c (children_of (join t.before (node t.from t.under t.after)))) ≡ children_of (join t.before (node t.from t.under t.after)))
-      (child_is t.from schema old t.is_schema t.is_old)
-      (subst (λ (k : ℕ). rows.brought (child_of t.from) k (rows.taken (child_of t.from) (children_of (join t.before (node t.from t.under t.after)))) ≡ children_of (join t.before (node t.from t.under t.after)))
-      place_is back))
+      let row = children_of (join t.before (node t.from t.under t.after)) in
+      let back = taken_back t.before t.after t.from t.under (subst (λ (h : Branches). IsSorted (tree_of h)) t.was sorted) in
+      subst (λ (cs : List Child). rows.brought (schema, old) place (rows.without_at schema place cs) ≡ cs) (ap children_of (sym t.was))
+      (subst (λ (k : ℕ). rows.brought (schema, old) k (rows.without_at schema k row) ≡ row) t.is_place
+      (subst (λ (i : NodeId). rows.brought (schema, i) (instances_in (tree_of t.before) schema.0) (rows.without_at schema (instances_in (tree_of t.before) schema.0) row) ≡ row) t.is_old
+      (subst (λ (s : SchemaId). rows.brought (s, t.from.id) (instances_in (tree_of t.before) s.0) (rows.without_at s (instances_in (tree_of t.before) s.0) row) ≡ row)
+      t.is_schema back)))
   restored nodes f loose g left schema (Move id from to) m sorted keeps =
-      let parts = weigh_join (is_number m.label.id.0) m.before (node m.label m.under m.after) in
-      let both = weigh_join (is_number m.label.id.0) m.before m.after in
-      let was = ap (times m.label.id.0) m.was in
-      let most = once_there nodes f loose keeps m.label.id.0 in
-      let here = is_itself m.label in
-      let back = moved_back to m.before m.after m.label m.under (subst (λ (h : Branches). IsSorted (tree_of h)) m.was sorted)
-      (omega (arith, parts, both, was, most, here)) (omega (arith, parts, was, most, here)) in
-      let place_is : instances_in (tree_of m.before) m.label.schema.0 ≡ from = ap (λ (s : SchemaId). instances_in (tree_of m.before) s.0) m.is_schema ∙ m.is_from in
-      subst (λ (cs : List Child). rows.moved (schema, id) from (rows.moved (schema, id) to cs) ≡ cs) (ap children_of (sym m.was))
-      (subst (λ (c : Child). rows.moved c from (rows.moved c to (children_of (join m.before (node m.label m.under m.after)))) ≡ children_of (join m.before (node m.label m.under m.after)))
-      (child_is m.label schema id m.is_schema m.is_id)
-      (subst (λ (k : ℕ). rows.moved (child_of m.label) k (rows.moved (child_of m.label) to (children_of (join m.before (node m.label m.under m.after)))) ≡ children_of (join m.before (node m.label m.under m.after)))
-      place_is back))
+      let row = children_of (join m.before (node m.label m.under m.after)) in
+      let back = moved_back to m.before m.after m.label m.under (subst (λ (h : Branches). IsSorted (tree_of h)) m.was sorted) in
+      subst (λ (cs : List Child). rows.shifted schema to from (rows.shifted schema from to cs) ≡ cs) (ap children_of (sym m.was))
+      (subst (λ (k : ℕ). rows.shifted schema to k (rows.shifted schema k to row) ≡ row) m.is_from
+      (subst (λ (s : SchemaId). rows.shifted s to (instances_in (tree_of m.before) s.0) (rows.shifted s (instances_in (tree_of m.before) s.0) to row) ≡ row)
+      m.is_schema back))
 
   module _ (f loose g left : Branches) (schema : SchemaId) (change : Change) (swaps : Swaps schema change f loose g left) (before changed read : Nodes)
       (keeps : Keeps before (around way f) above loose)
@@ -329,24 +393,18 @@ module _ (above : Row) (way : Way) (at : end_of Top way ≡ above) where
         by (Take old place) t changes =
             subst (λ (o : Option Held). IfSome o (λ held. length held.shape.children < held.room)) (sym (reads.held above ∙ changes.changed)) (shorter (held_at before above) (listed before f loose keeps) room)
           where
-            most : times t.from.id.0 t.before ≡ 0
-            most =
-                let parts = weigh_join (is_number t.from.id.0) t.before (node t.from t.under t.after) in
-                let was = ap (times t.from.id.0) t.was in
-                let most = once_there before f loose keeps t.from.id.0 in
-                let here = is_itself t.from in
-                omega (arith, parts, was, most, here)
-
             length_is : (cs ds : List Child) (c : Child) → length (cs ++ c ∷ ds) ≡ suc (length (cs ++ ds))
             length_is [] ds c = refl
             length_is (x ∷ cs) ds c = ap suc (length_is cs ds c)
 
-            less : (cs : List Child) → cs ≡ children_of f → length (rows.taken (schema, old) cs) < length cs
+            less : (cs : List Child) → cs ≡ children_of f → length (rows.without_at schema place cs) < length cs
             less cs is =
-                let short : length (rows.taken (schema, old) cs) ≡ length (children_of (join t.before t.after)) =
-                ap (λ (ds : List Child). length (rows.taken (schema, old) ds)) (is ∙ ap children_of t.was)
-                ∙ (ap (λ (c : Child). length (rows.taken c (children_of (join t.before (node t.from t.under t.after))))) (sym (child_is t.from schema old t.is_schema t.is_old))
-                ∙ ap length (list_taken t.before t.after t.from t.under most)) in
+                let row = children_of (join t.before (node t.from t.under t.after)) in
+                let short : length (rows.without_at schema place cs) ≡ length (children_of (join t.before t.after)) =
+                ap (λ (ds : List Child). length (rows.without_at schema place ds)) (is ∙ ap children_of t.was)
+                ∙ (ap (λ (k : ℕ). length (rows.without_at schema k row)) (sym t.is_place)
+                ∙ (ap (λ (s : SchemaId). length (rows.without_at s (instances_in (tree_of t.before) s.0) row)) (sym t.is_schema)
+                ∙ ap length (list_taken t.before t.after t.from t.under))) in
                 let long : length cs ≡ suc (length (children_of (join t.before t.after))) =
                 ap length (is ∙ (ap children_of t.was ∙ children_join t.before (node t.from t.under t.after)))
                 ∙ (length_is (children_of t.before) (children_of t.after) (child_of t.from)
@@ -354,6 +412,6 @@ module _ (above : Row) (way : Way) (at : end_of Top way ≡ above) where
                 omega (arith, short, long)
 
             shorter : (o : Option Held) → option_map_or (λ (held : Held). held.shape.children) o [] ≡ children_of f → IfSome o (λ held. length held.shape.children < held.room)
-                → IfSome (option_map (with_children (rows.taken (schema, old))) o) (λ held. length held.shape.children < held.room)
+                → IfSome (option_map (with_children (rows.without_at schema place)) o) (λ held. length held.shape.children < held.room)
             shorter None is r = tt
             shorter (Some held) is r = let l = less held.shape.children is in omega (arith, l, r)

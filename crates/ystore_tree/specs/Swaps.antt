@@ -3,7 +3,7 @@ use Rattle.std.specs.Prelude.{◌≡◌, ℕ, List}
 use Rattle.yspec.specs.Forest.{end, node, join}
 use Rattle.yspec.specs.document.Document.{instances_in}
 use Rattle.yschema_model.specs.declared.node.SchemaId.{SchemaId}
-use Rattle.ystore.specs.Rows.{Child, added, put, taken, brought, moved, without_last}
+use Rattle.ystore.specs.Rows.{Child, added, put, without_at, brought, shifted, without_last}
 use Rattle.ystore.specs.declared.row.NodeId.{NodeId}
 use Rattle.ystore_tree.specs.Hanging.{Numbered, Branches, tree_of}
 use Rattle.ystore_tree.specs.Changes.{with_node, with_node_at}
@@ -14,14 +14,14 @@ use Rattle.ystore_tree.specs.declared.swapping.Change.TheVariants.{Add, Put, Tak
 abbrev pub swapped : SchemaId → Change → List Child → List Child
 swapped schema (Add new) row = added (schema, new) row
 swapped schema (Put old new) row = put (schema, old) new row
-swapped schema (Take old place) row = taken (schema, old) row
-swapped schema (Move id from to) row = moved (schema, id) to row
+swapped schema (Take old place) row = without_at schema place row
+swapped schema (Move id from to) row = shifted schema from to row
 
 abbrev pub swapped_back : SchemaId → Change → List Child → List Child
 swapped_back schema (Add new) row = without_last schema row
 swapped_back schema (Put old new) row = put (schema, new) old row
 swapped_back schema (Take old place) row = brought (schema, old) place row
-swapped_back schema (Move id from to) row = moved (schema, id) from row
+swapped_back schema (Move id from to) row = shifted schema to from row
 
 -- what is asked of a change that takes a node out
 abbrev pub makes_room : Change → Type 0 → Type 0

@@ -7,7 +7,7 @@ ghost use Rattle.yspec.specs.document.Sorting.{IsSorted};
 ghost use Rattle.yspec.specs.edit.Edit.{edit_at, instance_index};
 ghost use Rattle.yspec.specs.edit.Editing.{with_branch, with_instead, with_moved, without};
 ghost use Rattle.yschema_model.specs.declared.node.SchemaId.{SchemaId};
-ghost use Rattle.ystore.specs.Rows.{added, put, taken, moved, of_schema};
+ghost use Rattle.ystore.specs.Rows.{added, put, without_at, shifted, of_schema};
 ghost use Rattle.ystore.specs.Held.{Label, Told, new_held, with_children, with_told, with_total, with_room};
 ghost use Rattle.ystore.specs.Entries.{Entry};
 ghost use Rattle.ystore.specs.Store.{children_at, ChangesRow, ChangesEntry, CountsOne, Stays};
@@ -61,11 +61,11 @@ pub fn changed_trees()
         → Keeps after (around way (join first (node n below rest))) (end_of Top way) (node m under end) }
     ensures taken { (before after : Nodes) (way : Way) (first rest : Branches) (m : Numbered) (under : Branches)
         → Keeps before (around way (join first (node m under rest))) (end_of Top way) end
-        → ChangesRow (end_of Top way) (option_map (with_children (taken (child_of m)))) before after
+        → ChangesRow (end_of Top way) (option_map (with_children (without_at m.schema (instances_in (tree_of first) m.schema.0)))) before after
         → Keeps after (around way (join first rest)) (end_of Top way) (node m under end) }
     ensures moved { (before after : Nodes) (way : Way) (first rest : Branches) (m : Numbered) (under : Branches) (place : ℕ) (loose : Branches)
         → Keeps before (around way (join first (node m under rest))) (end_of Top way) loose
-        → ChangesRow (end_of Top way) (option_map (with_children (moved (child_of m) place))) before after
+        → ChangesRow (end_of Top way) (option_map (with_children (shifted m.schema (instances_in (tree_of first) m.schema.0) place))) before after
         → Keeps after (around way (with_node_at place m under (join first rest))) (end_of Top way) loose }
 {}
 

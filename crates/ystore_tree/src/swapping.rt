@@ -72,8 +72,10 @@ impl Swap {
         match self.change {
             Change::Add { new } => counted.add_child(self.above, self.schema, new),
             Change::Put { old, new } => counted.put_child(self.above, self.schema, old, new),
-            Change::Take { old, .. } => counted.take_child(self.above, self.schema, old),
-            Change::Move { node, to, .. } => counted.move_child(self.above, self.schema, node, to),
+            Change::Take { place, .. } => counted.take_child_at(self.above, self.schema, place),
+            Change::Move { from, to, .. } => {
+                counted.move_child_at(self.above, self.schema, from, to)
+            }
         }
     }
 
@@ -90,8 +92,8 @@ impl Swap {
             Change::Take { old, place } => {
                 counted.add_child_at(self.above, self.schema, old, place)
             }
-            Change::Move { node, from, .. } => {
-                counted.move_child(self.above, self.schema, node, from)
+            Change::Move { from, to, .. } => {
+                counted.move_child_at(self.above, self.schema, to, from)
             }
         }
     }

@@ -27,6 +27,7 @@ impl<'a> Counted<'a> {
     ghost use Rattle.ystore.specs.Rows as rows;
     ghost use Rattle.ystore.specs.Held.{label_of, told_of};
     ghost use Rattle.ystore.specs.Entries as entries;
+    ghost use Rattle.ystore.specs.Entries.{StandsOnce};
     ghost use Rattle.ystore.specs.Index.{made_ready, tidied};
     ghost use Rattle.ystore.specs.Store as store;
     ghost use Rattle.ystore.specs.Store.{ChangesRow, ChangesEntry, MakesRoom, Stays};
@@ -176,15 +177,19 @@ impl<'a> Counted<'a> {
         }
     }
 
-    /// The place of a node among those of a schema node in a row, or their number.
+    /// The place of a node among those of a schema node in a row, where it stands there once, or their number.
     pub fn place_of(&mut self, row: Row, schema: SchemaId, node: NodeId) -> usize
-        ensures place { result
-            ≡ entries.place_of node (rows.of_schema schema (store.children_at (store_of self.old) row)) }
+        ensures place { StandsOnce node (rows.of_schema schema (store.children_at (store_of self.old) row))
+            → result ≡ entries.place_of node (rows.of_schema schema (store.children_at (store_of self.old) row)) }
         ensures counted { IsRead self.old self.new }
     {
         self.nodes.count.count_read();
+        let near = match self.nodes.record(Row::Below(node)) {
+            Some(record) => record.place,
+            None => 0,
+        };
         match self.nodes.record(row) {
-            Some(record) => record.children.index_of(schema, node),
+            Some(record) => record.children.index_near(schema, node, near),
             None => 0,
         }
     }
@@ -295,6 +300,7 @@ impl<'a> Counted<'a> {
             children: Children::with_capacity(self.nodes.alloc, room)?,
             told,
             total,
+            place: 0,
         };
         match self.nodes.records.insert(record) {
             Ok(number) => Ok(NodeId(number)),
@@ -304,16 +310,39 @@ impl<'a> Counted<'a> {
 
     // ---- writes to records
 
+    /// Remembers where in its row a node was put.
+    fn remember(&mut self, id: NodeId, place: usize)
+        ensures store { ChangesRow (Below id) (λ held. held) (store_of self.old) (store_of self.new) }
+        ensures same_reference { lent self.new ≡ lent self.old }
+    {
+        if let Some(record) = self.nodes.record_mut(Row::Below(id)) {
+            record.set_place(place);
+        }
+    }
+
+    /// Adds a node to a row, and answers where it stands there.
+    fn add(&mut self, row: Row, child: (SchemaId, NodeId)) -> usize
+        requires { store.has_room (store_of self.old) row }
+        ensures store { ChangesRow row (option_map (store.with_children (rows.added child)))
+            (store_of self.old) (store_of self.new) }
+        ensures same_reference { lent self.new ≡ lent self.old }
+    {
+        match self.nodes.record_mut(row) {
+            Some(record) => record.children.add(child),
+            None => 0,
+        }
+    }
+
     /// Adds a node to a row, behind those of its schema node. There is room for it.
+    #[tactic(auto, using(crate::proofs::StoreLemmas::then_kept))]
     pub fn add_child(&mut self, row: Row, schema: SchemaId, child: NodeId)
         requires { store.has_room (store_of self.old) row }
         ensures store { ChangesRow row (option_map (store.with_children (rows.added (schema, child))))
             (store_of self.old) (store_of self.new) }
         ensures same_reference { lent self.new ≡ lent self.old }
     {
-        if let Some(record) = self.nodes.record_mut(row) {
-            record.children.add((schema, child));
-        }
+        let place = self.add(row, (schema, child));
+        self.remember(child, place);
     }
 
     /// Adds a node to a row, at a place among those of its schema node, or behind them. There is room for it.
@@ -328,25 +357,37 @@ impl<'a> Counted<'a> {
         }
     }
 
+    /// Puts a node in the place of a child of a row, and answers where that stands, or the end.
+    fn put(&mut self, row: Row, child: (SchemaId, NodeId), new: NodeId) -> usize
+        ensures store { ChangesRow row (option_map (store.with_children (rows.put child new)))
+            (store_of self.old) (store_of self.new) }
+        ensures same_reference { lent self.new ≡ lent self.old }
+    {
+        match self.nodes.record_mut(row) {
+            Some(record) => record.children.put(child, new),
+            None => 0,
+        }
+    }
+
     /// Puts a node in the place of one of the same schema node, if that is in the row.
+    #[tactic(auto, using(crate::proofs::StoreLemmas::then_kept))]
     pub fn put_child(&mut self, row: Row, schema: SchemaId, old: NodeId, new: NodeId)
         ensures store { ChangesRow row (option_map (store.with_children (rows.put (schema, old) new)))
             (store_of self.old) (store_of self.new) }
         ensures same_reference { lent self.new ≡ lent self.old }
     {
-        if let Some(record) = self.nodes.record_mut(row) {
-            record.children.put((schema, old), new);
-        }
+        let place = self.put(row, (schema, old), new);
+        self.remember(new, place);
     }
 
-    /// Takes a node out of a row, if it is there.
-    pub fn take_child(&mut self, row: Row, schema: SchemaId, child: NodeId)
-        ensures store { ChangesRow row (option_map (store.with_children (rows.taken (schema, child))))
+    /// Takes the node at a place among those of a schema node out of a row, if there is one.
+    pub fn take_child_at(&mut self, row: Row, schema: SchemaId, place: usize)
+        ensures store { ChangesRow row (option_map (store.with_children (rows.without_at schema place)))
             (store_of self.old) (store_of self.new) }
         ensures same_reference { lent self.new ≡ lent self.old }
     {
         if let Some(record) = self.nodes.record_mut(row) {
-            record.children.take((schema, child));
+            record.children.take_at(schema, place);
         }
     }
 
@@ -361,14 +402,34 @@ impl<'a> Counted<'a> {
         }
     }
 
-    /// Brings a node of a row to a place among those of its schema node, if it is there.
-    pub fn move_child(&mut self, row: Row, schema: SchemaId, child: NodeId, place: usize)
-        ensures store { ChangesRow row (option_map (store.with_children (rows.moved (schema, child) place)))
+    /// Brings the node at a place among those of a schema node in a row, or the last of them, to another place among them, and
+    /// answers it, with where in the row it stands then.
+    fn shift_at(
+        &mut self,
+        row: Row,
+        schema: SchemaId,
+        from: usize,
+        to: usize,
+    ) -> Option<(NodeId, usize)>
+        ensures store { ChangesRow row (option_map (store.with_children (rows.shifted schema from to)))
             (store_of self.old) (store_of self.new) }
         ensures same_reference { lent self.new ≡ lent self.old }
     {
-        if let Some(record) = self.nodes.record_mut(row) {
-            record.children.shift((schema, child), place);
+        match self.nodes.record_mut(row) {
+            Some(record) => record.children.shift_at(schema, from, to),
+            None => None,
+        }
+    }
+
+    /// Brings the node at a place among those of a schema node in a row, or the last of them, to another place among them.
+    #[tactic(auto, using(crate::proofs::StoreLemmas::then_kept))]
+    pub fn move_child_at(&mut self, row: Row, schema: SchemaId, from: usize, to: usize)
+        ensures store { ChangesRow row (option_map (store.with_children (rows.shifted schema from to)))
+            (store_of self.old) (store_of self.new) }
+        ensures same_reference { lent self.new ≡ lent self.old }
+    {
+        if let Some((node, place)) = self.shift_at(row, schema, from, to) {
+            self.remember(node, place);
         }
     }
 

@@ -1,4 +1,4 @@
-use Rattle.std.proofs.Common.{ap, arith, refl, subst, sym, ◌∙◌}
+use Rattle.std.proofs.Common.{arith, refl, subst, sym}
 use Rattle.std.specs.Prelude.{IfOk, false, true}
 use Rattle.std.proofs.lemmas.Bool.{le-ltb, lt-ltb}
 use Rattle.yspec.specs.document.Fitting.{Fits}
@@ -59,7 +59,7 @@ shift_part-requires c =
         at = at_read s last placed r.tree r.steps row r.f at_last (one_read last placed c.place_of-from.ensures.counted.store);
         part = part_of step id c.in-Ok.node r.f meant.3 meant.2;
         is_number = refl;
-        is_index = sym (c.place_of-from.ensures.place ∙ place_found s last r.tree r.steps row r.f at_last id (instance_index step) c.in-Ok.node meant.3);
+        is_index = sym (place_found s last r.tree r.steps row r.f at_last id (instance_index step) c.in-Ok.node meant.3 c.place_of-from.result c.place_of-from.ensures.place);
       },
     )
 
@@ -84,7 +84,7 @@ returns-in_ok-shift_part-in-Ok-clause-amends c = λ tree above f at.
       c.in_ok-shift_part-in-Ok.ensures.shifted tree above f step _ c.args.position
           (at_read s last placed tree above row f at_last (one_read last placed c.place_of-from.ensures.counted.store))
           (part_of step id c.in-Ok.node f meant.3 meant.2)
-          (sym (c.place_of-from.ensures.place ∙ place_found s last tree above row f at_last id (instance_index step) c.in-Ok.node meant.3))
+          (sym (place_found s last tree above row f at_last id (instance_index step) c.in-Ok.node meant.3 c.place_of-from.result c.place_of-from.ensures.place))
           (sym c.saturating_sub-to.ensures),
     )
 
@@ -149,7 +149,7 @@ returns-in_ok-shift_part-in-Ok-clause-reads c = λ tree above f at fits given.
     let shifted = c.in_ok-shift_part-in-Ok.ensures.reads tree above f t.last step _ c.args.position
     (at_read s last placed tree above row f at_last (one_read last placed c.place_of-from.ensures.counted.store))
     (part_of step id c.in-Ok.node f meant.3 meant.2)
-    (sym (c.place_of-from.ensures.place ∙ place_found s last tree above row f at_last id (instance_index step) c.in-Ok.node meant.3))
+    (sym (place_found s last tree above row f at_last id (instance_index step) c.in-Ok.node meant.3 c.place_of-from.result c.place_of-from.ensures.place))
     (sym c.saturating_sub-to.ensures) fits
     (subst (λ r. IfOk r (Fits s)) (moved_is s tree c.args.position t step false meant.1 past) given) in
     omega (arith, two, one, again, parts, shifted)

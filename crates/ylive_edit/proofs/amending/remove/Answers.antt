@@ -53,7 +53,7 @@ take_part-requires c =
       part = part_at s mid r.tree r.steps row r.f step id c.in-Ok.node _ at_mid meant.3 meant.2
           (λ above n below same stands fits. c.deref.ensures.value ∙ c.in_ok-numbers-in-Ok.ensures.numbers above n below same stands fits);
       is_number = refl;
-      is_index = sym (c.place_of-before.ensures.place ∙ place_found s last r.tree r.steps row r.f at_last id (instance_index step) c.in-Ok.node meant.3);
+      is_index = sym (place_found s last r.tree r.steps row r.f at_last id (instance_index step) c.in-Ok.node meant.3 c.place_of-before.result c.place_of-before.ensures.place);
     }
 
 pub returns-in_ok-take_part-in-Ok-clause-amends : goal.returns-in_ok-take_part-in-Ok-clause-amends
@@ -74,7 +74,7 @@ returns-in_ok-take_part-in-Ok-clause-amends c = λ tree above f at.
       removed_is s tree (target_at s above f c.args.place.last) step meant.1,
       c.in_ok-take_part-in-Ok.ensures.taken tree above f step
           (at_read s last (store_of c.place_of-before.new.self) tree above row f at_last (one_read last (store_of c.place_of-before.new.self) c.place_of-before.ensures.counted.store)) part
-          (sym (c.place_of-before.ensures.place ∙ place_found s last tree above row f at_last id (instance_index step) c.in-Ok.node meant.3)),
+          (sym (place_found s last tree above row f at_last id (instance_index step) c.in-Ok.node meant.3 c.place_of-before.result c.place_of-before.ensures.place)),
     )
 
 pub returns-in_err-take_part-in-Ok-clause-amends : goal.returns-in_err-take_part-in-Ok-clause-amends
@@ -139,6 +139,6 @@ returns-in_ok-take_part-in-Ok-clause-reads c = λ tree above f at fits given.
     let parts = ap (parts_reads s tree) (removed_parts_are s t step meant.1) in
     let taken = c.in_ok-take_part-in-Ok.ensures.reads tree above f t.last step
     (at_read s last placed tree above row f at_last (one_read last placed c.place_of-before.ensures.counted.store)) part
-    (sym (c.place_of-before.ensures.place ∙ place_found s last tree above row f at_last id (instance_index step) c.in-Ok.node found)) fits
+    (sym (place_found s last tree above row f at_last id (instance_index step) c.in-Ok.node found c.place_of-before.result c.place_of-before.ensures.place)) fits
     (subst (λ r. IfOk r (Fits s)) (removed_is s tree t step meant.1) given) in
     omega (arith, two, numbers, one, light, parts, taken)

@@ -16,8 +16,8 @@ returns-in-Put-clause-tree c way f loose g left at swaps keeps =
 
 pub returns-in-Take-clause-tree : goal.returns-in-Take-clause-tree
 returns-in-Take-clause-tree c way f loose g left at swaps keeps =
-    made c.args.self.above way at (store_of c.args.counted.now) (store_of c.take_child.new.self) f loose g left c.args.self.schema (Take c.in-Take.old c.in-Take.place) (subst (λ (h : Change). Swaps c.args.self.schema h f loose g left) c.in-Take.is swaps) keeps c.take_child.ensures.store
+    made c.args.self.above way at (store_of c.args.counted.now) (store_of c.take_child_at.new.self) f loose g left c.args.self.schema (Take c.in-Take.old c.in-Take.place) (subst (λ (h : Change). Swaps c.args.self.schema h f loose g left) c.in-Take.is swaps) keeps c.take_child_at.ensures.store
 
 pub returns-in-Move-clause-tree : goal.returns-in-Move-clause-tree
 returns-in-Move-clause-tree c way f loose g left at swaps keeps =
-    made c.args.self.above way at (store_of c.args.counted.now) (store_of c.move_child.new.self) f loose g left c.args.self.schema (Move c.in-Move.node c.in-Move.from c.in-Move.to) (subst (λ (h : Change). Swaps c.args.self.schema h f loose g left) c.in-Move.is swaps) keeps c.move_child.ensures.store
+    made c.args.self.above way at (store_of c.args.counted.now) (store_of c.move_child_at.new.self) f loose g left c.args.self.schema (Move c.in-Move.node c.in-Move.from c.in-Move.to) (subst (λ (h : Change). Swaps c.args.self.schema h f loose g left) c.in-Move.is swaps) keeps c.move_child_at.ensures.store

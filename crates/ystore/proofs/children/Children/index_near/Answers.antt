@@ -1,0 +1,23 @@
+use Rattle.std.proofs.Common.{◌≡◌, ◌∙◌, ◌-◌, arith, ap, ap₂, drop, map, subst, sym, take}
+use Rattle.ystore.specs.Children.{nodes_of}
+use Rattle.ystore.specs.Entries.{StandsOnce, place_of}
+use Rattle.ystore.specs.Rows.{Child}
+use Rattle.ystore.proofs.RowLemmas.{first_before_end, together_is}
+use Rattle.ystore.proofs.children.Children.index_near.Goals as goal
+
+pub overflow_sub-end : goal.overflow_sub-end
+overflow_sub-end c =
+    omega (arith, c.first_place-first.ensures.place, c.end_place-end.ensures.place, first_before_end c.args.schema (nodes_of c.args.self.now))
+
+pub returns : goal.returns
+returns c =
+    let row = nodes_of c.args.self.now in
+    let first = c.first_place-first.result in
+    let end = c.end_place-end.result in
+    subst (λ ids. StandsOnce c.args.node ids → c.place_near.result ≡ place_of c.args.node ids)
+    (ap (map (λ (d : Child). d.1))
+    (c.split_at-2.ensures.front
+    ∙ (ap (take (end - first)) (c.split_at.ensures.back ∙ ap (drop first) c.as_slice.ensures)
+    ∙ (ap₂ (λ f e. take (e - f) (drop f row)) c.first_place-first.ensures.place c.end_place-end.ensures.place
+    ∙ sym (together_is c.args.schema row c.args.self.now.ascending)))))
+    c.place_near.ensures
