@@ -106,8 +106,8 @@ fn changes(alloc: Global) -> Option<bool> {
     replaced(alloc, &schema, &mut nodes, new)?;
     let is_put = holds(alloc, &schema, &nodes, new, "3")?;
     let mut counted = nodes.counted();
-    let (id, first) = first_of(&mut counted)?;
-    counted.take_child(Row::Top, id, first);
+    let (id, _) = first_of(&mut counted)?;
+    counted.take_child_at(Row::Top, id, 0);
     Some(is_put && holds(alloc, &schema, &nodes, "{}", "3")?)
 }
 
@@ -118,7 +118,7 @@ fn added(alloc: Global) -> Option<bool> {
     let mut nodes = opened(alloc, &schema, r#"{"v:e":[{"id":2},{"id":1}]}"#)?;
     let other = read(alloc, &schema, r#"{"v:e":[{"id":3}]}"#.as_bytes()).ok()?;
     let mut counted = nodes.counted();
-    let (id, first) = first_of(&mut counted)?;
+    let (id, _) = first_of(&mut counted)?;
     let mut numbers = Vec::new(alloc);
     let new = insert_part(
         &mut counted,
@@ -131,7 +131,7 @@ fn added(alloc: Global) -> Option<bool> {
     let is_listed = numbers.len() == 2 && numbers[0] == new;
     counted.reserve_child(Row::Top).ok()?;
     counted.add_child(Row::Top, id, new);
-    counted.move_child(Row::Top, id, first, 1);
+    counted.move_child_at(Row::Top, id, 0, 1);
     let document = r#"{"v:e":[{"id":1},{"id":2},{"id":3}]}"#;
     Some(is_listed && holds(alloc, &schema, &nodes, document, "6")?)
 }

@@ -117,14 +117,77 @@ pub(crate) fn rows(alloc: Global) -> Option<bool> {
         && counted.schema(first) == Some(FIRST)
         && counted.parent(first) == Some(row)
         && matches!(counted.value(first), Some(Raw::Text(value)) if value.as_str() == "a");
-    counted.move_child(row, FIRST, first, 1);
+    counted.move_child_at(row, FIRST, 0, 1);
     let moved = counted.child(row, 1) == Some(first);
     counted.put_child(row, FIRST, other, second);
     let put = counted.child(row, 0) == Some(second);
-    counted.take_child(row, FIRST, first);
+    counted.take_child_at(row, FIRST, 1);
     counted.remove(first);
     let gone = counted.count_of(row, FIRST) == 1 && counted.schema(first) == None;
     Some(made && moved && put && gone && counted.node_count() == 3)
+}
+
+// Whether these stand at the top, in this order, and none behind them.
+fn are_at_top(counted: &mut Counted<'_>, nodes: &[NodeId]) -> bool {
+    for place in 0..nodes.len() {
+        if counted.child(Row::Top, place) != Some(nodes[place]) {
+            return false;
+        }
+    }
+    counted.child_count(Row::Top) == nodes.len()
+}
+
+// What stands at a place is taken out or moved; where none stands there nothing is taken, and the last is moved.
+pub(crate) fn places(alloc: Global) -> Option<bool> {
+    let mut nodes = Nodes::new(alloc);
+    let mut counted = nodes.counted();
+    let second = insert(&mut counted, SECOND, None, Row::Top, 0)?;
+    let a = insert(&mut counted, FIRST, None, Row::Top, 0)?;
+    let b = insert(&mut counted, FIRST, None, Row::Top, 0)?;
+    let c = insert(&mut counted, FIRST, None, Row::Top, 0)?;
+    hang(&mut counted, Row::Top, SECOND, second)?;
+    hang(&mut counted, Row::Top, FIRST, a)?;
+    hang(&mut counted, Row::Top, FIRST, b)?;
+    hang(&mut counted, Row::Top, FIRST, c)?;
+    counted.take_child_at(Row::Top, FIRST, 3);
+    counted.take_child_at(Row::Top, CONTAINER, 0);
+    counted.move_child_at(Row::Top, CONTAINER, 0, 0);
+    let kept = are_at_top(&mut counted, &[a, b, c, second]);
+    counted.move_child_at(Row::Top, FIRST, 9, 0);
+    let first = are_at_top(&mut counted, &[c, a, b, second]);
+    counted.move_child_at(Row::Top, FIRST, 0, 9);
+    let last = are_at_top(&mut counted, &[a, b, c, second]);
+    counted.take_child_at(Row::Top, FIRST, 1);
+    let taken = are_at_top(&mut counted, &[a, c, second]);
+    Some(kept && first && last && taken)
+}
+
+// A node is found where it stands, also once others came, went and moved before it.
+pub(crate) fn found_places(alloc: Global) -> Option<bool> {
+    let mut nodes = Nodes::new(alloc);
+    let mut counted = nodes.counted();
+    let a = insert(&mut counted, FIRST, None, Row::Top, 0)?;
+    let b = insert(&mut counted, FIRST, None, Row::Top, 0)?;
+    let c = insert(&mut counted, FIRST, None, Row::Top, 0)?;
+    let d = insert(&mut counted, FIRST, None, Row::Top, 0)?;
+    hang(&mut counted, Row::Top, FIRST, a)?;
+    hang(&mut counted, Row::Top, FIRST, b)?;
+    let put = counted.place_of(Row::Top, FIRST, b) == 1;
+    hang_at(&mut counted, Row::Top, FIRST, c, 0)?;
+    hang_at(&mut counted, Row::Top, FIRST, d, 0)?;
+    let pushed = counted.place_of(Row::Top, FIRST, a) == 2
+        && counted.place_of(Row::Top, FIRST, b) == 3
+        && counted.place_of(Row::Top, FIRST, c) == 1;
+    counted.move_child_at(Row::Top, FIRST, 3, 0);
+    let moved = counted.place_of(Row::Top, FIRST, b) == 0
+        && counted.place_of(Row::Top, FIRST, a) == 3;
+    counted.take_child_at(Row::Top, FIRST, 0);
+    counted.take_child_at(Row::Top, FIRST, 0);
+    let pulled = counted.place_of(Row::Top, FIRST, a) == 1
+        && counted.place_of(Row::Top, FIRST, c) == 0
+        && counted.place_of(Row::Top, FIRST, b) == 2
+        && counted.place_of(Row::Below(a), FIRST, b) == 0;
+    Some(put && pushed && moved && pulled)
 }
 
 // The last node of a schema node is taken out of a row, and none where there is none; one that comes back stands at its place.
@@ -224,6 +287,8 @@ pub(crate) fn keys(alloc: Global) -> Option<bool> {
 fn all_calls(rt: HostRuntime) {
     let alloc = rt.alloc();
     assert!(rt; rows(alloc) == Some(true));
+    assert!(rt; places(alloc) == Some(true));
+    assert!(rt; found_places(alloc) == Some(true));
     assert!(rt; last_children(alloc) == Some(true));
     assert!(rt; told(alloc) == Some(true));
     assert!(rt; keys(alloc) == Some(true));
