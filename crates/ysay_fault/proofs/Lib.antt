@@ -1,6 +1,7 @@
 pub mod CaseLemmas
 pub mod FellowLemmas
 pub mod FoundLemmas
+pub mod OrderedLemmas
 pub mod OtherLemmas
 pub mod PlaceLemmas
 pub mod PredicateLemmas

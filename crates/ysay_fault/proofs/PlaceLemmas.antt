@@ -1,5 +1,5 @@
 -- The first instance of a schema node, the last step to a place, and rows in order.
-use Rattle.std.proofs.Common.{◌≡◌, ℕ, zero, suc, Bool, true, false, cond, List, [], ◌∷◌, ◌++◌, Option, Some, None, refl, ap, ◌∙◌}
+use Rattle.std.proofs.Common.{◌≡◌, ℕ, zero, suc, Bool, true, false, cond, List, [], ◌∷◌, ◌++◌, Option, Some, None, refl, sym, subst, ap, ◌∙◌}
 use Rattle.std.proofs.lemmas.List.{map-append}
 use Rattle.std.specs.Prelude.{◌==◌, option_map}
 use Rattle.std.specs.Option.{option_map_or}
@@ -72,3 +72,9 @@ pub row_sorted : (t : Tree) (steps : List Step) → IsSorted t → IsSorted (row
 row_sorted t [] sorted = sorted
 row_sorted t (step ∷ steps) sorted =
     row_sorted (row_to t step) steps (below_sorted step.schema_number (index_of step.position) t sorted)
+
+pub found_sorted : (t : Tree) (step : Step) → IsSorted t → IsSorted (row_to t step)
+found_sorted t step sorted = below_sorted step.schema_number (index_of step.position) t sorted
+
+pub row_in_order : (t row : Tree) (steps : List Step) → row ≡ row_at t steps → IsSorted t → IsSorted row
+row_in_order t row steps is sorted = subst IsSorted (sym is) (row_sorted t steps sorted)

@@ -3,8 +3,10 @@ use Rattle.std.proofs.Common.{◌≡◌, ℕ, List, [], ◌∷◌, ◌++◌, Opt
 use Rattle.std.proofs.lemmas.List.{append_assoc, append-nil}
 use Rattle.yspec.specs.text.Text.{Text}
 use Rattle.yspec.specs.schema.Schema.{Schema}
-use Rattle.yspec.specs.document.Document.{Tree}
-use Rattle.ysay_fault.specs.KeyedPath.{key_predicate, all_predicates}
+use Rattle.yspec.specs.document.Document.{Tree, Step}
+use Rattle.yspec.specs.document.Path.{module_after}
+use Rattle.ysay_fault.specs.KeyedPath.{key_predicate, all_predicates, keyed_step, keyed_from}
+use Rattle.ysay_fault.specs.Places.{row_to}
 
 module _ (schema : Schema) (row : Tree) where
   -- those of some keys behind a text
@@ -41,3 +43,14 @@ module _ (schema : Schema) (row : Tree) where
 
   pub all_named : (before : Text) → behind before [] ≡ Some before
   all_named before = ap Some (append-nil before)
+
+-- a step more behind a text
+pub step_added : (s : Schema) (parent next : Option ℕ) (row below : Tree) (step : Step) (rest : List Step) (text longer whole : Text)
+    → longer ≡ text ++ keyed_step s parent row step → next ≡ module_after s step → below ≡ row_to row step
+    → text ++ keyed_from s parent row (step ∷ rest) ≡ whole
+    → longer ++ keyed_from s next below rest ≡ whole
+step_added s parent next row below step rest text longer whole grown next_is below_is before =
+    ap (λ t. t ++ keyed_from s next below rest) grown
+    ∙ (ap (λ p. (text ++ keyed_step s parent row step) ++ keyed_from s p below rest) next_is
+    ∙ (ap (λ r. (text ++ keyed_step s parent row step) ++ keyed_from s (module_after s step) r rest) below_is
+    ∙ (append_assoc text (keyed_step s parent row step) (keyed_from s (module_after s step) (row_to row step) rest) ∙ before)))

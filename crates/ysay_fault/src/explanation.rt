@@ -97,17 +97,29 @@ fn sentence_at(
     let Some((step, above)) = steps.split_last() else {
         return Ok(String::new(alloc));
     };
+    let in_order = tree.is_in_order();
     let row = row_at(tree, above);
     match code {
-        FaultCode::V1 => wrong_value(alloc, schema, row, step),
+        FaultCode::V1 => wrong_value(alloc, schema, row, in_order, step),
         FaultCode::V2 => missing_key(alloc, schema, above, step.id),
         FaultCode::V3 => missing_leaf(alloc, schema, above, step.id),
         FaultCode::V6 => too_few(alloc, schema, row, step.id),
         FaultCode::V7 => too_many(alloc, schema, row, step.id),
-        FaultCode::V8 => same_key(alloc, schema, row, above, step, fellow),
-        FaultCode::V9 => { same_unique(alloc, schema, row, above, step, unique_in(info), fellow) }
-        FaultCode::V10 => same_item(alloc, schema, row, above, step, fellow),
-        FaultCode::V11 => no_target(alloc, schema, tree, row, step),
+        FaultCode::V8 => same_key(alloc, schema, row, in_order, above, step, fellow),
+        FaultCode::V9 => {
+            same_unique(
+                alloc,
+                schema,
+                row,
+                in_order,
+                above,
+                step,
+                unique_in(info),
+                fellow,
+            )
+        }
+        FaultCode::V10 => same_item(alloc, schema, row, in_order, above, step, fellow),
+        FaultCode::V11 => no_target(alloc, schema, tree, row, in_order, step),
         FaultCode::V12 => state_stored(alloc, schema, above, step.id),
         FaultCode::V4 | FaultCode::V5 => Ok(String::new(alloc)),
     }
@@ -200,7 +212,7 @@ fn message_for(
     match steps.split_last() {
         Some((step, above)) => {
             let row = row_at(tree, above);
-            message_to(alloc, schema, row, step)
+            message_to(alloc, schema, row, tree.is_in_order(), step)
         }
         None => Ok(None),
     }

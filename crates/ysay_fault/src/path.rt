@@ -1,8 +1,9 @@
 //! The texts of paths.
 
-ghost use Rattle.std.specs.Prelude.{◌≡◌, ◌++◌, Some, IfOk, OnOk, option_and_then, option_map, string_bytes, unwrap_or};
+ghost use Rattle.std.specs.Prelude.{◌≡◌, ◌++◌, Some, IfOk, OnOk, option_and_then, option_map, string_bytes, true, unwrap_or};
 ghost use Rattle.yspec.specs.document.Document.{stored_in};
 ghost use Rattle.yspec.specs.document.Path as path;
+ghost use Rattle.yspec.specs.document.Sorting.{IsSorted};
 ghost use Rattle.yspec.specs.edit.Editing.{text_of};
 ghost use Rattle.ytype.specs.View as held;
 ghost use Rattle.yschema_model.specs.Layout.{numbers_of};
@@ -11,7 +12,7 @@ ghost use Rattle.yinst_tree.specs.View as document_view;
 ghost use Rattle.ysay_fault.specs.KeyedPath as spec;
 ghost use Rattle.ysay_fault.specs.Places.{last_step};
 
-use crate::place::{instance_to, nth_instance, row_to};
+use crate::place::{instance_found, nth_instance, row_found};
 use itoa::Buffer;
 use std::alloc::{AllocError, Global};
 use ycheck::value_of;
@@ -227,8 +228,10 @@ fn predicate(
     alloc: Global,
     schema: &Schema,
     row: &[Stored],
+    in_order: bool,
     step: &Step,
 ) -> Result<String, AllocError>
+    requires { in_order ≡ true → IsSorted (document_view.row_view row.now) }
     ensures { let s = document_view.step_view step.now in
         IfOk result (λ text. string_bytes text
         ≡ spec.predicate (schema_view.view schema.now) (document_view.row_view row.now)
@@ -238,7 +241,7 @@ fn predicate(
         return Ok(String::new(alloc));
     };
     match schema.kind(step.id) {
-        Some(node) => match instance_to(row, step) {
+        Some(node) => match instance_found(row, in_order, step) {
             Some(found) => instance_predicate(alloc, schema, &node.kind, found.below(), position),
             None => position_text(alloc, step.position),
         },
@@ -271,15 +274,17 @@ fn add_keyed_step(
     schema: &Schema,
     parent_module: Option<usize>,
     row: &[Stored],
+    in_order: bool,
     step: &Step,
     text: &mut String,
 ) -> Result<(), AllocError>
+    requires { in_order ≡ true → IsSorted (document_view.row_view row.now) }
     ensures { OnOk result (string_bytes text.new ≡ string_bytes text.old
         ++ spec.keyed_step (schema_view.view schema.now) parent_module
         (document_view.row_view row.now) (document_view.step_view step.now)) }
 {
     let name = named_step(alloc, schema, parent_module, step.id)?;
-    let behind = predicate(alloc, schema, row, step)?;
+    let behind = predicate(alloc, schema, row, in_order, step)?;
     text.push_str(name.as_str())?;
     text.push_str(behind.as_str())?;
     Ok(())
@@ -326,11 +331,12 @@ pub fn keyed_path(
     }
     let mut text = String::new(alloc);
     let mut parent_module = None;
+    let in_order = tree.is_in_order();
     let mut row = tree.roots();
     for step in steps {
-        add_keyed_step(alloc, schema, parent_module, row, step, &mut text)?;
+        add_keyed_step(alloc, schema, parent_module, row, in_order, step, &mut text)?;
         parent_module = module_after(schema, step);
-        row = row_to(row, step);
+        row = row_found(row, in_order, step);
     }
     Ok(text)
 }

@@ -1,6 +1,6 @@
 //! What is said of each code.
 
-ghost use Rattle.std.specs.Prelude.{◌≡◌, IfOk, option_and_then, option_map, string_bytes, unwrap_or};
+ghost use Rattle.std.specs.Prelude.{◌≡◌, IfOk, option_and_then, option_map, string_bytes, true, unwrap_or};
 ghost use Rattle.std.specs.Option.{option_map_or};
 ghost use Rattle.yspec.specs.document.Document.{instances_in};
 ghost use Rattle.yspec.specs.document.Sorting.{IsSorted};
@@ -19,7 +19,7 @@ use crate::identities::hint_words;
 use crate::messages::{message_at, message_words, type_at};
 use crate::near::near_words;
 use crate::path::module_at;
-use crate::place::{count_of, instance_to, row_at, row_to};
+use crate::place::{count_of, instance_found, row_at, row_found};
 use crate::taken::taken_words;
 use crate::target::target_path;
 use crate::tuples::{keys_at, keys_said, leafs_said, unique_at};
@@ -116,23 +116,30 @@ fn max_elements_of(schema: &Schema, id: SchemaId) -> u32
 // ---- what is said of the last step to a place, from the row in which it leads to a node
 
 /// The value of the leaf or item to which a step leads, as its document has it.
-pub(crate) fn raw_to<'a>(row: &'a [Stored], step: &Step) -> Option<&'a Raw>
+pub(crate) fn raw_to<'a>(row: &'a [Stored], in_order: bool, step: &Step) -> Option<&'a Raw>
+    requires order { in_order ≡ true → IsSorted (document_view.row_view row.now) }
     ensures { option_map (λ r. held.raw_of r.now) result
         ≡ spec.value_to (document_view.row_view row.entry.now) (document_view.step_view step.now) }
 {
-    match instance_to(row, step) {
+    match instance_found(row, in_order, step) {
         Some(stored) => stored.value(),
         None => None,
     }
 }
 
 /// Its text.
-fn value_to(alloc: Global, row: &[Stored], step: &Step) -> Result<String, AllocError>
+fn value_to(
+    alloc: Global,
+    row: &[Stored],
+    in_order: bool,
+    step: &Step,
+) -> Result<String, AllocError>
+    requires order { in_order ≡ true → IsSorted (document_view.row_view row.now) }
     ensures { IfOk result (λ text. string_bytes text
         ≡ values.value_text (spec.value_to (document_view.row_view row.now)
         (document_view.step_view step.now))) }
 {
-    value_text(alloc, raw_to(row, step))
+    value_text(alloc, raw_to(row, in_order, step))
 }
 
 /// The message of the module for that value.
@@ -140,13 +147,15 @@ pub(crate) fn message_to(
     alloc: Global,
     schema: &Schema,
     row: &[Stored],
+    in_order: bool,
     step: &Step,
 ) -> Result<Option<String>, AllocError>
+    requires order { in_order ≡ true → IsSorted (document_view.row_view row.now) }
     ensures { IfOk result (λ message. option_map string_bytes message
         ≡ spec.message_to (schema_view.view schema.now) (document_view.row_view row.now)
         (document_view.step_view step.now)) }
 {
-    message_at(alloc, schema, step.id, raw_to(row, step))
+    message_at(alloc, schema, step.id, raw_to(row, in_order, step))
 }
 
 /// What is said of that message, behind what is said of the value.
@@ -154,13 +163,15 @@ fn said_by_module(
     alloc: Global,
     schema: &Schema,
     row: &[Stored],
+    in_order: bool,
     step: &Step,
 ) -> Result<String, AllocError>
+    requires order { in_order ≡ true → IsSorted (document_view.row_view row.now) }
     ensures { IfOk result (λ text. string_bytes text
         ≡ message_words (spec.message_to (schema_view.view schema.now)
         (document_view.row_view row.now) (document_view.step_view step.now))) }
 {
-    match message_to(alloc, schema, row, step)? {
+    match message_to(alloc, schema, row, in_order, step)? {
         Some(message) => message_words(alloc, Some(message.as_str())),
         None => message_words(alloc, None),
     }
@@ -171,15 +182,17 @@ fn not_taken(
     alloc: Global,
     schema: &Schema,
     row: &[Stored],
+    in_order: bool,
     step: &Step,
 ) -> Result<String, AllocError>
+    requires order { in_order ≡ true → IsSorted (document_view.row_view row.now) }
     ensures { IfOk result (λ text. string_bytes text
         ≡ spec.not_taken (schema_view.view schema.now) (document_view.row_view row.now)
         (document_view.step_view step.now)) }
 {
-    let value = value_to(alloc, row, step)?;
+    let value = value_to(alloc, row, in_order, step)?;
     let taken = taken_at(alloc, schema, step.id)?;
-    let hint = hint_at(alloc, schema, step.id, raw_to(row, step))?;
+    let hint = hint_at(alloc, schema, step.id, raw_to(row, in_order, step))?;
     [
         value.as_str(),
         " isn't a value of ",
@@ -195,14 +208,16 @@ pub(crate) fn wrong_value(
     alloc: Global,
     schema: &Schema,
     row: &[Stored],
+    in_order: bool,
     step: &Step,
 ) -> Result<String, AllocError>
+    requires order { in_order ≡ true → IsSorted (document_view.row_view row.now) }
     ensures { IfOk result (λ text. string_bytes text
         ≡ spec.wrong_value (schema_view.view schema.now) (document_view.row_view row.now)
         (document_view.step_view step.now)) }
 {
-    let said = not_taken(alloc, schema, row, step)?;
-    let message = said_by_module(alloc, schema, row, step)?;
+    let said = not_taken(alloc, schema, row, in_order, step)?;
+    let message = said_by_module(alloc, schema, row, in_order, step)?;
     [said.as_str(), message.as_str()].concat(alloc)
 }
 
@@ -296,17 +311,24 @@ pub(crate) fn same_key(
     alloc: Global,
     schema: &Schema,
     row: &[Stored],
+    in_order: bool,
     above: &[Step],
     step: &Step,
     fellow: Option<usize>,
 ) -> Result<String, AllocError>
-    requires { fellow ≡ fellow_entry (schema_view.view schema.now) 0
+    requires order { in_order ≡ true → IsSorted (document_view.row_view row.now) }
+    requires fellow { fellow ≡ fellow_entry (schema_view.view schema.now) 0
         (document_view.row_view row.now) (document_view.step_view step.now) }
     ensures { IfOk result (λ text. string_bytes text
         ≡ spec.same_key (schema_view.view schema.now) (document_view.row_view row.now)
         (document_view.place_view above.now) (document_view.step_view step.now)) }
 {
-    let said = keys_said(alloc, schema, row_to(row, step), keys_at(schema, step.id))?;
+    let said = keys_said(
+        alloc,
+        schema,
+        row_found(row, in_order, step),
+        keys_at(schema, step.id),
+    )?;
     let path = fellow_text(alloc, schema, above, step.id, fellow)?;
     [said.as_str(), path.as_str(), "."].concat(alloc)
 }
@@ -315,19 +337,21 @@ pub(crate) fn same_unique(
     alloc: Global,
     schema: &Schema,
     row: &[Stored],
+    in_order: bool,
     above: &[Step],
     step: &Step,
     number: usize,
     fellow: Option<usize>,
 ) -> Result<String, AllocError>
-    requires { fellow ≡ fellow_entry (schema_view.view schema.now) number
+    requires order { in_order ≡ true → IsSorted (document_view.row_view row.now) }
+    requires fellow { fellow ≡ fellow_entry (schema_view.view schema.now) number
         (document_view.row_view row.now) (document_view.step_view step.now) }
     ensures { IfOk result (λ text. string_bytes text
         ≡ spec.same_unique (schema_view.view schema.now) (document_view.row_view row.now)
         (document_view.place_view above.now) (document_view.step_view step.now) number) }
 {
     let paths = unique_at(schema, step.id, number);
-    let said = leafs_said(alloc, schema, row_to(row, step), paths)?;
+    let said = leafs_said(alloc, schema, row_found(row, in_order, step), paths)?;
     let path = fellow_text(alloc, schema, above, step.id, fellow)?;
     [said.as_str(), path.as_str(), "."].concat(alloc)
 }
@@ -336,17 +360,19 @@ pub(crate) fn same_item(
     alloc: Global,
     schema: &Schema,
     row: &[Stored],
+    in_order: bool,
     above: &[Step],
     step: &Step,
     fellow: Option<usize>,
 ) -> Result<String, AllocError>
-    requires { fellow ≡ fellow_item (schema_view.view schema.now)
+    requires order { in_order ≡ true → IsSorted (document_view.row_view row.now) }
+    requires fellow { fellow ≡ fellow_item (schema_view.view schema.now)
         (document_view.row_view row.now) (document_view.step_view step.now) }
     ensures { IfOk result (λ text. string_bytes text
         ≡ spec.same_item (schema_view.view schema.now) (document_view.row_view row.now)
         (document_view.place_view above.now) (document_view.step_view step.now)) }
 {
-    let value = value_to(alloc, row, step)?;
+    let value = value_to(alloc, row, in_order, step)?;
     let path = fellow_text(alloc, schema, above, step.id, fellow)?;
     [
         "its value ",
@@ -363,16 +389,18 @@ pub(crate) fn no_target(
     schema: &Schema,
     tree: &Tree,
     row: &[Stored],
+    in_order: bool,
     step: &Step,
 ) -> Result<String, AllocError>
+    requires order { in_order ≡ true → IsSorted (document_view.row_view row.now) }
     ensures { IfOk result (λ text. string_bytes text
         ≡ spec.no_target (schema_view.view schema.now) (document_view.tree_view tree.now)
         (document_view.row_view row.now) (document_view.step_view step.now)) }
 {
     let target = target_at(schema, step.id);
     let path = target_path(alloc, schema, target)?;
-    let value = value_to(alloc, row, step)?;
-    let near = near_words(alloc, schema, tree, target, raw_to(row, step))?;
+    let value = value_to(alloc, row, in_order, step)?;
+    let near = near_words(alloc, schema, tree, target, raw_to(row, in_order, step))?;
     [
         "no instance of ",
         path.as_str(),

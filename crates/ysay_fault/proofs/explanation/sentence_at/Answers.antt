@@ -7,6 +7,7 @@ use Rattle.ysay_fault.specs.Fellows.{fellow_entry}
 use Rattle.ysay_fault.specs.FoundFellows.{fellow_at}
 use Rattle.ysay_fault.specs.Sentences.{same_unique}
 use Rattle.ysay_fault.proofs.FoundLemmas.{fellow_at_last}
+use Rattle.ysay_fault.proofs.PlaceLemmas.{row_in_order}
 use Rattle.ysay_fault.proofs.SentenceLemmas.{said_of_last}
 use Rattle.ysay_fault.proofs.explanation.sentence_at.Goals as goal
 
@@ -35,8 +36,8 @@ returns-in-V7 c = said_of_last (view c.args.schema.now) (tree_view c.args.tree.n
     c.args.steps.now c.in-Some.above.now c.in-Some.step.now c.args.code V7 c.in-Some.ensures.cases.0 c.row_at-row.ensures c.in-V7.is
     c.too_many.result c.too_many.ensures
 
-pub same_key-requires : goal.same_key-requires
-same_key-requires c =
+pub same_key-requires-clause-fellow : goal.same_key-requires-clause-fellow
+same_key-requires-clause-fellow c =
     c.requires ∙ (ap (fellow_at (view c.args.schema.now) (tree_view c.args.tree.now) (place_view c.args.steps.now) (info_view c.args.info.now)) (ap code_view c.in-V8.is)
     ∙ fellow_at_last (view c.args.schema.now) (tree_view c.args.tree.now) (row_view c.row_at-row.result.now) (info_view c.args.info.now) (code_view V8)
     c.args.steps.now c.in-Some.above.now c.in-Some.step.now c.in-Some.ensures.cases.0 c.row_at-row.ensures)
@@ -46,8 +47,8 @@ returns-in-V8 c = said_of_last (view c.args.schema.now) (tree_view c.args.tree.n
     c.args.steps.now c.in-Some.above.now c.in-Some.step.now c.args.code V8 c.in-Some.ensures.cases.0 c.row_at-row.ensures c.in-V8.is
     c.same_key.result c.same_key.ensures
 
-pub same_unique-requires : goal.same_unique-requires
-same_unique-requires c =
+pub same_unique-requires-clause-fellow : goal.same_unique-requires-clause-fellow
+same_unique-requires-clause-fellow c =
     c.requires ∙ (ap (fellow_at (view c.args.schema.now) (tree_view c.args.tree.now) (place_view c.args.steps.now) (info_view c.args.info.now)) (ap code_view c.in-V9.is)
     ∙ (fellow_at_last (view c.args.schema.now) (tree_view c.args.tree.now) (row_view c.row_at-row.result.now) (info_view c.args.info.now) (code_view V9)
     c.args.steps.now c.in-Some.above.now c.in-Some.step.now c.in-Some.ensures.cases.0 c.row_at-row.ensures
@@ -59,8 +60,8 @@ returns-in-V9 c = said_of_last (view c.args.schema.now) (tree_view c.args.tree.n
     c.same_unique.result (subst (λ (u : ℕ). IfOk c.same_unique.result (λ text. string_bytes text ≡ same_unique (view c.args.schema.now)
     (row_view c.row_at-row.result.now) (place_view c.in-Some.above.now) (step_view c.in-Some.step.now) u)) c.unique_in.ensures c.same_unique.ensures)
 
-pub same_item-requires : goal.same_item-requires
-same_item-requires c =
+pub same_item-requires-clause-fellow : goal.same_item-requires-clause-fellow
+same_item-requires-clause-fellow c =
     c.requires ∙ (ap (fellow_at (view c.args.schema.now) (tree_view c.args.tree.now) (place_view c.args.steps.now) (info_view c.args.info.now)) (ap code_view c.in-V10.is)
     ∙ fellow_at_last (view c.args.schema.now) (tree_view c.args.tree.now) (row_view c.row_at-row.result.now) (info_view c.args.info.now) (code_view V10)
     c.args.steps.now c.in-Some.above.now c.in-Some.step.now c.in-Some.ensures.cases.0 c.row_at-row.ensures)
@@ -79,3 +80,20 @@ pub returns-in-V12 : goal.returns-in-V12
 returns-in-V12 c = said_of_last (view c.args.schema.now) (tree_view c.args.tree.now) (row_view c.row_at-row.result.now) (info_view c.args.info.now)
     c.args.steps.now c.in-Some.above.now c.in-Some.step.now c.args.code V12 c.in-Some.ensures.cases.0 c.row_at-row.ensures c.in-V12.is
     c.state_stored.result c.state_stored.ensures
+
+-- the row to the last step is in order where the document is
+
+pub wrong_value-requires : goal.wrong_value-requires
+wrong_value-requires c = record { order = λ is. row_in_order (tree_view c.args.tree.now) (row_view c.row_at-row.result.now) (place_view c.in-Some.above.now) c.row_at-row.ensures (c.is_in_order-in_order.ensures is) }
+
+pub same_key-requires-clause-order : goal.same_key-requires-clause-order
+same_key-requires-clause-order c is = row_in_order (tree_view c.args.tree.now) (row_view c.row_at-row.result.now) (place_view c.in-Some.above.now) c.row_at-row.ensures (c.is_in_order-in_order.ensures is)
+
+pub same_unique-requires-clause-order : goal.same_unique-requires-clause-order
+same_unique-requires-clause-order c is = row_in_order (tree_view c.args.tree.now) (row_view c.row_at-row.result.now) (place_view c.in-Some.above.now) c.row_at-row.ensures (c.is_in_order-in_order.ensures is)
+
+pub same_item-requires-clause-order : goal.same_item-requires-clause-order
+same_item-requires-clause-order c is = row_in_order (tree_view c.args.tree.now) (row_view c.row_at-row.result.now) (place_view c.in-Some.above.now) c.row_at-row.ensures (c.is_in_order-in_order.ensures is)
+
+pub no_target-requires : goal.no_target-requires
+no_target-requires c = record { order = λ is. row_in_order (tree_view c.args.tree.now) (row_view c.row_at-row.result.now) (place_view c.in-Some.above.now) c.row_at-row.ensures (c.is_in_order-in_order.ensures is) }
