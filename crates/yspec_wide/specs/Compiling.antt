@@ -1,0 +1,71 @@
+-- The phases of compiling in a language: which rule is told, and the schema where none is broken. What is off goes behind C14
+-- and C13, and ahead of C11, C12 and C15 to C17.
+use Rattle.std.specs.Prelude.{ℕ, ◌++◌, ◌&&◌, ◌||◌, ◌==◌, Bool, true, false, not, List, [], ◌∷◌, Option, Some, None, Result, Ok, Err, is_some, option_and_then, nat_lt, if◌then◌else◌}
+use Rattle.std.specs.List.{list_any, flat_map}
+use Rattle.std.specs.Option.{option_map_or}
+use Rattle.yspec.specs.Forest.{Forest, end, node, row}
+use Rattle.yspec.specs.text.Text.{Text, is_text}
+use Rattle.yspec.specs.text.Statement.{Statement}
+use Rattle.yspec.specs.linking.Keyword as word
+use Rattle.yspec.specs.linking.Source.{Source, is_source_of, argument_in, argument_with}
+use Rattle.yspec.specs.linking.Imports.{repeated_prefixes, import_breaks, module_called}
+use Rattle.yspec.specs.linking.Prefixes.{prefix_breaks}
+use Rattle.yspec.specs.linking.Scopes.{taken_breaks, lost_breaks}
+use Rattle.yspec.specs.linking.Circles.{import_circles, definition_circles}
+use Rattle.yspec.specs.linking.DerivedTypes.{type_breaks}
+use Rattle.yspec.specs.linking.NodeCounts.{node_count}
+use Rattle.yspec.specs.linking.Planned.{Plan, at_top, planned}
+use Rattle.yspec.specs.linking.NodeBreaks.{name_breaks, node_breaks}
+use Rattle.yspec.specs.linking.Compiling.{schema_of_plan, is_too_deep}
+use Rattle.yspec.specs.schema.Breaks.{Break, broken, when, module_breaks, limit_breaks, node_limit, first_broken}
+use Rattle.yspec.specs.schema.Schema.{Schema}
+use Rattle.yspec_wide.specs.Language.{Language, YangVersion, is_yang_1, version_of}
+use Rattle.yspec_wide.specs.StatementBreaks.{statement_phase_in}
+use Rattle.yspec_wide.specs.Sources.{sources_in}
+use Rattle.yspec_wide.specs.Features.{condition_prefix_breaks, taken_feature_breaks, condition_breaks}
+use Rattle.yspec_wide.specs.Expansion.{augmented_in, unfit_breaks_in, augment_breaks_in}
+use Rattle.yspec_wide.specs.Standing.{standing}
+use Rattle.yspec_wide.specs.VersionBreaks.{version_import_breaks, version_type_breaks, version_node_breaks}
+
+-- all nodes, and those that stand
+abbrev pub whole_plan : Forest Source → Plan
+whole_plan modules = record { modules = modules; nodes = planned 0 at_top (augmented_in modules).0 }
+
+abbrev pub plan_in : Language → Forest Source → Plan
+plan_in language modules =
+    record { modules = modules; nodes = planned 0 at_top (standing language modules (augmented_in modules).0) }
+
+abbrev pub schema_in : Language → Forest Statement → Schema
+schema_in language modules = schema_of_plan (plan_in language (sources_in language modules))
+
+-- ---- the phases
+
+abbrev pub names_phase_in : Forest Statement → Forest Source → List Break
+names_phase_in modules sources = prefix_breaks sources ++ (condition_prefix_breaks sources ++ (repeated_prefixes sources
+    ++ (module_breaks 0 [] modules ++ (taken_breaks sources ++ taken_feature_breaks sources))))
+
+abbrev pub meanings_phase_in : Forest Source → List Break
+meanings_phase_in sources = import_breaks sources ++ (version_import_breaks sources ++ (lost_breaks sources
+    ++ (import_circles sources ++ (definition_circles sources ++ condition_breaks sources))))
+
+abbrev pub linking_phases_in : Language → Forest Statement → List (List Break)
+linking_phases_in language modules = let sources = sources_in language modules in
+    statement_phase_in language modules
+    ∷ names_phase_in modules sources
+    ∷ meanings_phase_in sources
+    ∷ (type_breaks sources ++ version_type_breaks sources) ∷ []
+
+abbrev pub phases_of_plan_in : Forest Statement → Plan → Plan → List (List Break)
+phases_of_plan_in modules whole plan = limit_breaks (nat_lt node_limit (node_count plan.modules)) modules
+    ∷ (unfit_breaks_in plan.modules ++ augment_breaks_in plan.modules)
+    ∷ name_breaks whole
+    ∷ (node_breaks plan ++ version_node_breaks plan)
+    ∷ limit_breaks (is_too_deep plan.nodes) modules ∷ []
+
+abbrev pub phases_in : Language → Forest Statement → List (List Break)
+phases_in language modules = let sources = sources_in language modules in
+    linking_phases_in language modules ++ phases_of_plan_in modules (whole_plan sources) (plan_in language sources)
+
+-- the schema of a set of modules in a language, or what is told
+unfoldable pub compiled_in : Language → Forest Statement → Result Schema Break
+compiled_in language modules = option_map_or Err (first_broken (phases_in language modules)) (Ok (schema_in language modules))

@@ -1,0 +1,45 @@
+-- Worked examples: expressions, and what stands of texts of modules.
+use Rattle.std.specs.Prelude.{ℕ, Bool, List, [], ◌∷◌, ◌++◌, codes, map, Option, Some, None, option_map, Result, Ok, Err}
+use Rattle.std.specs.List.{list_any}
+use Rattle.std.specs.Result.{result_ok}
+use Rattle.std.specs.Option.{option_map_or}
+use Rattle.yspec.specs.Forest.{Forest, end, join, preorder}
+use Rattle.yspec.specs.text.Text.{Text, is_text}
+use Rattle.yspec.specs.text.Statement.{Statement, module_of}
+use Rattle.yspec.specs.schema.Breaks.{Break}
+use Rattle.yspec.specs.schema.Schema.{Schema}
+use Rattle.yspec.specs.linking.Arguments.{Name}
+use Rattle.yspec_wide.specs.Language.{Language, Choosing, rfc, YangVersion, yang_1_1}
+use Rattle.yspec_wide.specs.Expressions.{holds, expression_of}
+use Rattle.yspec_wide.specs.Compiling.{compiled_in}
+
+-- ---- expressions
+
+-- the features of these names are on
+abbrev pub among : List Text → Name → Bool
+among names n = list_any (is_text n.identifier) names
+
+abbrev pub tells : YangVersion → List Text → Text → Option Bool
+tells version names t = option_map (holds (among names)) (expression_of version t)
+
+-- ---- sets of modules
+
+abbrev pub chosen : Text → List Text → Choosing
+chosen module_name features = record { module_name = module_name; features = features }
+
+-- the top statements of some texts; a text that spells none adds none
+abbrev pub statements_in : List Text → Forest Statement
+statements_in [] = end
+statements_in (t ∷ ts) = join (option_map_or (λ top. top) (result_ok (module_of t)) end) (statements_in ts)
+
+-- what is told of some texts: the code, the module's number, and the line; or the names of the schema nodes
+pub data Outcome : Type 0 where
+  told : ℕ → ℕ → ℕ → Outcome
+  nodes : List Text → Outcome
+
+abbrev pub outcome_of : Result Schema Break → Outcome
+outcome_of (Err b) = told b.code b.module_number b.line
+outcome_of (Ok schema) = nodes (map (λ n. n.name) (preorder schema.nodes))
+
+abbrev pub outcome_in : Language → List Text → Outcome
+outcome_in language texts = outcome_of (compiled_in language (statements_in texts))
