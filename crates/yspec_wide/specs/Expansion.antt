@@ -1,17 +1,17 @@
 -- Groupings and augments with conditions: those of a `uses`, a refine or an `augment` are asked of each node that it brings or
 -- changes (RFC 7950, 7.13, 7.13.2, 7.17 and 7.20.2).
-use Rattle.std.specs.Prelude.{ℕ, zero, suc, ◌==◌, ◌&&◌, ◌||◌, Bool, not, false, List, [], ◌∷◌, ◌++◌, map, length, count_by, Option, Some, None, is_some, if◌then◌else◌}
-use Rattle.std.specs.List.{list_any, list_all, flat_map}
+use Rattle.std.specs.Prelude.{ℕ, zero, suc, ◌&&◌, ◌||◌, Bool, not, false, List, [], ◌++◌, length, is_some, if◌then◌else◌}
+use Rattle.std.specs.List.{list_all, flat_map}
 use Rattle.std.specs.Option.{option_map_or}
 use Rattle.yspec.specs.Forest.{Forest, end, node, row, join, size}
 use Rattle.yspec.specs.schema.Breaks.{Break, broken, when}
 use Rattle.yspec.specs.linking.Keyword.{Keyword}
 use Rattle.yspec.specs.linking.Keyword as word
-use Rattle.yspec.specs.linking.Source.{Source, is_source_of, argument_in, first_with}
+use Rattle.yspec.specs.linking.Source.{Source, is_source_of, first_with}
 use Rattle.yspec.specs.linking.Parts.{Part, within}
-use Rattle.yspec.specs.linking.Expansion.{Grouping, is_uses, groupings_of, laid, row_used, is_refine, refine_steps, is_borne, part_at, changed_at, others, replaced, all_refine_breaks, unfit_in}
+use Rattle.yspec.specs.linking.Expansion.{Grouping, groupings_of, laid, row_used, is_refine, refine_steps, is_borne, part_at, changed_at, others, replaced, unfit_in}
 use Rattle.yspec.specs.linking.Augments.{Augment, augments_of, target_steps, may_be_augmented, kept_out, marked, in_turn}
-use Rattle.yspec_wide.specs.Language.{Language, version_of, is_yang_1}
+use Rattle.yspec_wide.specs.Language.{version_of, is_yang_1}
 use Rattle.yspec_wide.specs.Sources.{is_condition, condition_row, without_conditions}
 
 -- ---- conditions that nodes get

@@ -1,6 +1,6 @@
 -- Expressions of `if-feature`: what spells one, and when it holds (RFC 7950, 7.20.2, and `if-feature-expr` of 14; RFC 6020,
 -- 7.18.2).
-use Rattle.std.specs.Prelude.{ℕ, zero, suc, ◌+◌, ◌*◌, ◌==◌, ◌&&◌, ◌||◌, Bool, not, List, [], ◌∷◌, ◌++◌, length, codes, Option, Some, None, option_map, option_and_then, if◌then◌else◌}
+use Rattle.std.specs.Prelude.{ℕ, zero, suc, ◌+◌, ◌*◌, ◌==◌, ◌&&◌, ◌||◌, Bool, not, List, [], ◌∷◌, ◌++◌, length, codes, Option, Some, None, option_map, if◌then◌else◌}
 use Rattle.yspec.specs.text.Text.{Text, is_text, is_white}
 use Rattle.yspec.specs.linking.Arguments.{Name, name_of}
 use Rattle.yspec_wide.specs.Language.{YangVersion, yang_1, yang_1_1}

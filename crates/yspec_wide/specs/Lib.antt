@@ -9,5 +9,7 @@ pub mod Features
 pub mod Expansion
 pub mod Standing
 pub mod VersionBreaks
+pub mod Types
+pub mod Additions
 pub mod Compiling
 pub mod Samples

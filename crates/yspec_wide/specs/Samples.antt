@@ -1,5 +1,5 @@
 -- Worked examples: expressions, and what stands of texts of modules.
-use Rattle.std.specs.Prelude.{ℕ, Bool, List, [], ◌∷◌, ◌++◌, codes, map, Option, Some, None, option_map, Result, Ok, Err}
+use Rattle.std.specs.Prelude.{ℕ, Bool, List, [], ◌∷◌, ◌++◌, codes, map, Option, option_map, Result, Ok, Err}
 use Rattle.std.specs.List.{list_any}
 use Rattle.std.specs.Result.{result_ok}
 use Rattle.std.specs.Option.{option_map_or}
@@ -9,7 +9,8 @@ use Rattle.yspec.specs.text.Statement.{Statement, module_of}
 use Rattle.yspec.specs.schema.Breaks.{Break}
 use Rattle.yspec.specs.schema.Schema.{Schema}
 use Rattle.yspec.specs.linking.Arguments.{Name}
-use Rattle.yspec_wide.specs.Language.{Language, Choosing, rfc, YangVersion, yang_1_1}
+use Rattle.yspec.specs.edit.Examples.{module_text}
+use Rattle.yspec_wide.specs.Language.{Language, Choosing, rfc, YangVersion}
 use Rattle.yspec_wide.specs.Expressions.{holds, expression_of}
 use Rattle.yspec_wide.specs.Compiling.{compiled_in}
 
@@ -19,8 +20,12 @@ use Rattle.yspec_wide.specs.Compiling.{compiled_in}
 abbrev pub among : List Text → Name → Bool
 among names n = list_any (is_text n.identifier) names
 
+-- whether the expression that a text spells holds, if it spells one
 abbrev pub tells : YangVersion → List Text → Text → Option Bool
 tells version names t = option_map (holds (among names)) (expression_of version t)
+
+abbrev pub all_tell : YangVersion → List Text → List Text → List (Option Bool)
+all_tell version names texts = map (tells version names) texts
 
 -- ---- sets of modules
 
@@ -43,3 +48,23 @@ outcome_of (Ok schema) = nodes (map (λ n. n.name) (preorder schema.nodes))
 
 abbrev pub outcome_in : Language → List Text → Outcome
 outcome_in language texts = outcome_of (compiled_in language (statements_in texts))
+
+-- ---- a module named m, with these lines from line 5 on
+
+abbrev pub text_in_1_1 : Text → Text
+text_in_1_1 lines = module_text (codes "m") lines
+
+abbrev pub text_in_1 : Text → Text
+text_in_1 lines = codes "module m {\n  yang-version 1;\n  namespace \"urn:m\";\n  prefix m;\n" ++ (lines ++ codes "}\n")
+
+-- with these features of it chosen
+abbrev pub with_features : List Text → Text → Outcome
+with_features features lines = outcome_in (rfc (chosen (codes "m") features ∷ [])) (text_in_1_1 lines ∷ [])
+
+-- with all
+abbrev pub with_all : Text → Outcome
+with_all lines = outcome_in (rfc []) (text_in_1_1 lines ∷ [])
+
+-- in YANG 1, with all
+abbrev pub with_all_in_1 : Text → Outcome
+with_all_in_1 lines = outcome_in (rfc []) (text_in_1 lines ∷ [])

@@ -1,7 +1,7 @@
 -- The statements that linking stands on, with features and conditions among them (RFC 7950, 7.20.1 and 7.20.2).
-use Rattle.std.specs.Prelude.{ℕ, ◌+◌, ◌&&◌, Bool, List, [], ◌∷◌, Option, Some, None, filter, option_and_then, if◌then◌else◌}
+use Rattle.std.specs.Prelude.{ℕ, ◌+◌, Bool, List, Option, Some, filter, option_and_then, if◌then◌else◌}
 use Rattle.yspec.specs.Forest.{Forest, end, node, row, join, size}
-use Rattle.yspec.specs.text.Text.{Text, is_text}
+use Rattle.yspec.specs.text.Text.{is_text}
 use Rattle.yspec.specs.text.Statement.{Statement}
 use Rattle.yspec.specs.linking.Keyword.{Keyword, extension_word}
 use Rattle.yspec.specs.linking.Source.{Source, unless_extension, kept_at, numbered}

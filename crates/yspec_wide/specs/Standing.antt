@@ -1,6 +1,6 @@
 -- The parts that stand, given which features are on: one of whose conditions one doesn't hold is as if it weren't there, with
 -- all below it (RFC 7950, 7.20.2).
-use Rattle.std.specs.Prelude.{ℕ, ◌==◌, ◌&&◌, ◌||◌, Bool, true, false, not, List, [], ◌∷◌, codes, Option, Some, None, if◌then◌else◌}
+use Rattle.std.specs.Prelude.{◌==◌, ◌&&◌, Bool, true, false, not, if◌then◌else◌}
 use Rattle.std.specs.List.{list_any}
 use Rattle.std.specs.Option.{option_map_or}
 use Rattle.yspec.specs.Forest.{Forest, end, node, row}
@@ -59,3 +59,11 @@ module _ (holds : Forest Source → Bool) where
 -- those of a set of modules
 abbrev pub standing : Language → Forest Source → Forest Part → Forest Part
 standing language modules parts = standing_by (stands language modules) parts
+
+-- ---- where all stand
+
+-- whether all conditions of all parts of a row hold, and no implied case is without its node
+unfoldable pub all_stand : (Forest Source → Bool) → Forest Part → Bool
+all_stand holds end = true
+all_stand holds (node p below after) = (holds p.own && not (is_implied_case p && is_none below))
+    && (all_stand holds below && all_stand holds after)

@@ -1,16 +1,16 @@
 -- The rules of the table that statements break, by language and version: C1 to C4.
-use Rattle.std.specs.Prelude.{ℕ, ◌+◌, ◌==◌, ◌&&◌, ◌||◌, Bool, true, false, not, List, [], ◌∷◌, ◌++◌, codes, Option, Some, None, is_some, if◌then◌else◌, count_by}
+use Rattle.std.specs.Prelude.{ℕ, ◌+◌, ◌==◌, ◌&&◌, ◌||◌, Bool, false, not, List, [], ◌++◌, codes, Option, Some, None, if◌then◌else◌, count_by}
 use Rattle.std.specs.List.{list_any}
 use Rattle.std.specs.Option.{option_map_or}
 use Rattle.yspec.specs.Forest.{Forest, end, node, row}
 use Rattle.yspec.specs.text.Text.{Text, is_text}
 use Rattle.yspec.specs.text.Statement.{Statement}
 use Rattle.yspec.specs.schema.Breaks.{Break, broken, when, is_wrong_count}
-use Rattle.yspec.specs.linking.Keyword.{Keyword, same_keyword, module_word, yang_version_word, extension_word}
+use Rattle.yspec.specs.linking.Keyword.{module_word, yang_version_word, extension_word}
 use Rattle.yspec.specs.linking.StatementBreaks as narrow
 use Rattle.yspec.specs.linking.StatementBreaks.{is_prefixed}
 use Rattle.yspec_wide.specs.Language.{Language, core, rfc, YangVersion, yang_1_1, version_below}
-use Rattle.yspec_wide.specs.Words.{Word, known, feature_word, if_feature_word, same_word, word_named}
+use Rattle.yspec_wide.specs.Words.{Word, known, same_word, word_named}
 use Rattle.yspec_wide.specs.Table.{WideForm, fits_in, Allowed, rule_in}
 
 -- that in which a module is read: under the core every text is one of YANG 1.1
@@ -99,7 +99,7 @@ abbrev pub top_breaks : Language → ℕ → Statement → Forest Statement → 
 top_breaks language m s below = let version = version_in language below in
     if has_word language (known module_word) s
     then own_breaks language version m (known module_word) s below
-        ++ row_breaks_in language version m (rule_in language version (known module_word)).substatements below
+    ++ row_breaks_in language version m (rule_in language version (known module_word)).substatements below
     else broken 1 m s.line
 
 -- the rules that a row of top statements breaks, numbered from a module on

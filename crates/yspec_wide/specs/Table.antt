@@ -1,13 +1,12 @@
 -- The table of statements by language and version (RFC 7950, 7 and 14; RFC 6020, 7 and 12).
-use Rattle.std.specs.Prelude.{ℕ, ◌==◌, ◌&&◌, ◌||◌, Bool, true, false, not, List, [], ◌∷◌, ◌++◌, map, filter, option_map, is_some, Option, if◌then◌else◌}
-use Rattle.std.specs.List.{list_any}
+use Rattle.std.specs.Prelude.{◌==◌, ◌&&◌, ◌||◌, Bool, true, false, not, List, [], ◌∷◌, ◌++◌, map, filter, is_some, if◌then◌else◌}
 use Rattle.yspec.specs.text.Text.{Text}
 use Rattle.yspec.specs.linking.Keyword as keyword
 use Rattle.yspec.specs.linking.Keyword.{Keyword, same_keyword}
 use Rattle.yspec.specs.linking.Arguments.{Form, identifier_form, any_form, fits}
 use Rattle.yspec.specs.linking.Table as narrow
 use Rattle.yspec.specs.linking.Table.{Count, exactly_one, at_most_one, any_number, rule_of, doc}
-use Rattle.yspec_wide.specs.Language.{Language, core, rfc, YangVersion, yang_1, yang_1_1, is_yang_1}
+use Rattle.yspec_wide.specs.Language.{Language, core, rfc, YangVersion, yang_1, yang_1_1}
 use Rattle.yspec_wide.specs.Words.{Word, known, feature_word, if_feature_word, same_word}
 use Rattle.yspec_wide.specs.Expressions.{expression_of}
 
@@ -50,6 +49,9 @@ allowed_before a = record { word = known a.keyword; count = a.count }
 
 abbrev pub row_before : List narrow.Allowed → List Allowed
 row_before rows = map allowed_before rows
+
+abbrev pub rule_before : narrow.Rule → Rule
+rule_before r = record { form = as_before r.form; substatements = row_before r.substatements }
 
 -- ---- what the wide language adds to them, and its own
 
@@ -128,7 +130,7 @@ wide_rule version if_feature_word = record { form = if_feature_form; substatemen
 
 -- nothing is known of a keyword that the core doesn't have
 abbrev pub core_rule : Word → Rule
-core_rule (known k) = record { form = as_before (rule_of k).form; substatements = row_before (rule_of k).substatements }
+core_rule (known k) = rule_before (rule_of k)
 core_rule _ = record { form = as_before any_form; substatements = [] }
 
 abbrev pub rule_in : Language → YangVersion → Word → Rule

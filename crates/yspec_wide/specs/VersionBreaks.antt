@@ -1,10 +1,9 @@
 -- Rules behind the table that depend on the version of a statement's own module: C5, C10 to C12, and items that differ
 -- (RFC 7950, 7.8.2 and 12; RFC 6020, 7.7, 7.8.2, 9.9 and 9.12).
-use Rattle.std.specs.Prelude.{ℕ, ◌++◌, ◌&&◌, ◌||◌, ◌==◌, Bool, true, false, not, List, [], ◌∷◌, Option, Some, None, is_some, option_and_then, if◌then◌else◌}
-use Rattle.std.specs.List.{list_any, flat_map}
+use Rattle.std.specs.Prelude.{◌&&◌, ◌||◌, Bool, true, false, not, List, [], ◌∷◌, Option, Some, None, is_some, option_and_then, if◌then◌else◌}
+use Rattle.std.specs.List.{flat_map}
 use Rattle.std.specs.Option.{option_map_or}
-use Rattle.yspec.specs.Forest.{Forest, end, node, row}
-use Rattle.yspec.specs.text.Text.{Text, is_text}
+use Rattle.yspec.specs.Forest.{Forest}
 use Rattle.yspec.specs.types.Types.{Base, empty_base, Shape, single, YangType}
 use Rattle.yspec.specs.linking.Keyword as word
 use Rattle.yspec.specs.linking.Source.{Source, is_source_of, argument_in, argument_with, first_with}
@@ -12,7 +11,7 @@ use Rattle.yspec.specs.linking.Imports.{module_called}
 use Rattle.yspec.specs.linking.Scopes.{Placed, statements_of, statement_at}
 use Rattle.yspec.specs.linking.TypeStatements.{Meant, own, of_target}
 use Rattle.yspec.specs.linking.DerivedTypes.{is_member, meant_by}
-use Rattle.yspec.specs.linking.Planned.{Planned, Plan, nodes_of, node_of, is_a, meant_in}
+use Rattle.yspec.specs.linking.Planned.{Planned, Plan, node_of, is_a, meant_in}
 use Rattle.yspec.specs.linking.SchemaNodes.{is_key}
 use Rattle.yspec.specs.linking.NodeBreaks.{broken_at}
 use Rattle.yspec.specs.schema.Breaks.{Break, broken, when}
@@ -44,9 +43,11 @@ is_empty_type type = is_none type.requires_instance && is_empty_shape type.shape
     is_none : Option Bool → Bool
     is_none None = true
     is_none (Some required) = false
+
     is_empty_base : Base → Bool
     is_empty_base empty_base = true
     is_empty_base _ = false
+
     is_empty_shape : Shape → Bool
     is_empty_shape (single type) = is_empty_base type.base
     is_empty_shape _ = false
@@ -86,9 +87,6 @@ is_unfit_key plan p = is_key plan p && (if is_of_yang_1 plan.modules p.part.sour
 abbrev pub key_break : Plan → Planned → List Break
 key_break plan p = when (is_a word.leaf_word p && is_unfit_key plan p)
     (option_map_or (broken_at 12) (option_and_then (node_of plan) p.parent) [])
-
-abbrev pub version_node_breaks : Plan → List Break
-version_node_breaks plan = flat_map (key_break plan) (nodes_of plan)
 
 -- ---- items of a leaf-list of YANG 1 differ, those of state too
 

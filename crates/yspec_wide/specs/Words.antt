@@ -1,5 +1,5 @@
 -- The keywords of the wide language: those of the core, and those that features bring (RFC 7950, 7.20.1 and 7.20.2).
-use Rattle.std.specs.Prelude.{◌+◌, ◌==◌, ℕ, Bool, codes, Option, Some, None, option_map, if◌then◌else◌}
+use Rattle.std.specs.Prelude.{◌==◌, ℕ, Bool, codes, Option, Some, None, option_map, if◌then◌else◌}
 use Rattle.yspec.specs.text.Text.{Text, is_text}
 use Rattle.yspec.specs.linking.Keyword.{Keyword, keyword_text, keyword_number, keyword_named}
 use Rattle.yspec_wide.specs.Language.{Language, core, rfc}

@@ -4,3 +4,7 @@
 #![tactic(auto)]
 
 pub mod expressions;
+pub mod features;
+pub mod laws;
+pub mod standing;
+pub mod versions;

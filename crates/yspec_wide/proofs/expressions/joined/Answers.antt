@@ -4,4 +4,4 @@ use Rattle.yspec_wide.proofs.expressions.joined.Goals as goal
 
 pub returns : goal.returns
 unfolding ywide_on_literals
-returns c = record { not_binds_first = refl; unclosed = refl }
+returns c = record { closest = refl; next = refl; parted = refl }
