@@ -1,5 +1,6 @@
 -- The wide language, first step: versions of YANG, and features.
 pub mod Language
+pub mod Texts
 pub mod Words
 pub mod Expressions
 pub mod Table

@@ -5,13 +5,14 @@ use Rattle.std.specs.Result.{result_ok}
 use Rattle.std.specs.Option.{option_map_or}
 use Rattle.yspec.specs.Forest.{Forest, end, join, preorder}
 use Rattle.yspec.specs.text.Text.{Text, is_text}
-use Rattle.yspec.specs.text.Statement.{Statement, module_of}
+use Rattle.yspec.specs.text.Statement.{Statement, Slip}
 use Rattle.yspec.specs.schema.Breaks.{Break}
 use Rattle.yspec.specs.schema.Schema.{Schema}
 use Rattle.yspec.specs.linking.Arguments.{Name}
 use Rattle.yspec.specs.edit.Examples.{module_text}
 use Rattle.yspec_wide.specs.Language.{Language, Choosing, rfc, YangVersion}
 use Rattle.yspec_wide.specs.Expressions.{holds, expression_of}
+use Rattle.yspec_wide.specs.Texts.{version_of_text, module_in}
 use Rattle.yspec_wide.specs.Compiling.{compiled_in}
 
 -- ---- expressions
@@ -33,9 +34,10 @@ abbrev pub chosen : Text → List Text → Choosing
 chosen module_name features = record { module_name = module_name; features = features }
 
 -- the top statements of some texts; a text that spells none adds none
-abbrev pub statements_in : List Text → Forest Statement
-statements_in [] = end
-statements_in (t ∷ ts) = join (option_map_or (λ top. top) (result_ok (module_of t)) end) (statements_in ts)
+abbrev pub statements_in : Language → List Text → Forest Statement
+statements_in language [] = end
+statements_in language (t ∷ ts) =
+    join (option_map_or (λ top. top) (result_ok (module_in language t)) end) (statements_in language ts)
 
 -- what is told of some texts: the code, the module's number, and the line; or the names of the schema nodes
 pub data Outcome : Type 0 where
@@ -47,7 +49,7 @@ outcome_of (Err b) = told b.code b.module_number b.line
 outcome_of (Ok schema) = nodes (map (λ n. n.name) (preorder schema.nodes))
 
 abbrev pub outcome_in : Language → List Text → Outcome
-outcome_in language texts = outcome_of (compiled_in language (statements_in texts))
+outcome_in language texts = outcome_of (compiled_in language (statements_in language texts))
 
 -- ---- a module named m, with these lines from line 5 on
 
@@ -68,3 +70,17 @@ with_all lines = outcome_in (rfc []) (text_in_1_1 lines ∷ [])
 -- in YANG 1, with all
 abbrev pub with_all_in_1 : Text → Outcome
 with_all_in_1 lines = outcome_in (rfc []) (text_in_1 lines ∷ [])
+
+-- ---- texts alone
+
+-- what slips, or the version and the statements in order, each with its argument
+pub data Reading : Type 0 where
+  slips : ℕ → ℕ → Reading
+  spells : YangVersion → List (Text × Option Text) → Reading
+
+abbrev pub reading_by : YangVersion → Result (Forest Statement) Slip → Reading
+reading_by version (Err s) = slips s.code s.line
+reading_by version (Ok top) = spells version (map (λ s. (s.keyword, s.argument)) (preorder top))
+
+abbrev pub reading_of : Text → Reading
+reading_of t = reading_by (version_of_text t) (module_in (rfc []) t)

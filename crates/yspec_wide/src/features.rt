@@ -1,8 +1,8 @@
 //! Features that are on, and what is told of them.
 
-ghost use Rattle.std.specs.Prelude.{◌≡◌, [], ◌∷◌, codes};
+ghost use Rattle.std.specs.Prelude.{◌≡◌, [], ◌∷◌, codes, map};
 ghost use Rattle.yspec_wide.specs.Language.{rfc};
-ghost use Rattle.yspec_wide.specs.Samples.{told, nodes, chosen, outcome_in, with_features, with_all, with_all_in_1, text_in_1_1};
+ghost use Rattle.yspec_wide.specs.Samples.{told, nodes, chosen, outcome_in, with_features, with_all, text_in_1_1};
 
 /// A feature is on where it is chosen and its own conditions hold; of a module that isn't named all are chosen.
 pub fn features_that_are_on()
@@ -16,12 +16,15 @@ pub fn features_that_are_on()
         ≡ nodes (codes "y" ∷ []) }
 {}
 
-/// C3, C6, C7 and C22. What leads to itself is told at each `if-feature` on the way.
+/// No expression, a prefix that is unknown, a second feature of a name, and one that isn't there; what leads to itself is told at each
+/// `if-feature` on the way.
 pub fn refused()
-    ensures no_expression { with_all (codes "  feature a;\n  leaf x { type string; if-feature \"a or\"; }\n") ≡ told 3 0 6 }
-    ensures unknown_prefix { with_all (codes "  leaf x {\n    if-feature \"a or q:a\";\n    type string;\n  }\n") ≡ told 6 0 6 }
-    ensures twice { with_all (codes "  feature a;\n  feature b;\n  feature a;\n") ≡ told 7 0 7 }
-    ensures not_found { with_all (codes "  feature a;\n  leaf x { if-feature \"not (a and b)\"; type string; }\n") ≡ told 22 0 6 }
-    ensures circular { with_all (codes "  feature a { if-feature b; }\n  feature b {\n    if-feature \"not c\";\n    if-feature \"c or a\";\n  }\n  feature c;\n") ≡ told 22 0 5 }
-    ensures circular_in_part { with_all (codes "  feature a {\n    if-feature c;\n    if-feature \"c or a\";\n  }\n  feature c;\n") ≡ told 22 0 7 }
+    ensures each { map with_all (codes "  feature a;\n  leaf x { type string; if-feature \"a or\"; }\n"
+        ∷ codes "  leaf x {\n    if-feature \"a or q:a\";\n    type string;\n  }\n"
+        ∷ codes "  feature a;\n  feature b;\n  feature a;\n"
+        ∷ codes "  feature a;\n  leaf x { if-feature \"not (a and b)\"; type string; }\n" ∷ [])
+        ≡ told 3 0 6 ∷ told 6 0 6 ∷ told 7 0 7 ∷ told 22 0 6 ∷ [] }
+    ensures circular { map with_all (codes "  feature a { if-feature b; }\n  feature b {\n    if-feature \"not c\";\n    if-feature \"c or a\";\n  }\n  feature c;\n"
+        ∷ codes "  feature a {\n    if-feature c;\n    if-feature \"c or a\";\n  }\n  feature c;\n" ∷ [])
+        ≡ told 22 0 5 ∷ told 22 0 7 ∷ [] }
 {}

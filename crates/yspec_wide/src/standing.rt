@@ -1,6 +1,6 @@
 //! What is off is as if it weren't there: behind C13 and C14, and ahead of C11, C12 and C17.
 
-ghost use Rattle.std.specs.Prelude.{◌≡◌, [], ◌∷◌, codes};
+ghost use Rattle.std.specs.Prelude.{◌≡◌, [], ◌∷◌, codes, map};
 ghost use Rattle.yspec_wide.specs.Language.{rfc};
 ghost use Rattle.yspec_wide.specs.Samples.{told, nodes, chosen, outcome_in, with_features, with_all, text_in_1_1};
 
@@ -21,8 +21,9 @@ pub fn refused()
     ensures name_twice { with_features [] (codes "  feature a;\n  leaf x { if-feature a; type string; }\n  leaf x { if-feature \"not a\"; type string; }\n") ≡ told 13 0 7 }
     ensures leafref { with_features [] (codes "  feature a;\n  leaf x { if-feature a; type string; }\n  leaf y {\n    type leafref { path /x; }\n  }\n") ≡ told 17 0 7 }
     ensures key_with_a_condition { with_all (codes "  feature a;\n  list l {\n    key k;\n    leaf k { if-feature a; type string; }\n  }\n") ≡ told 12 0 6 }
-    ensures marked_enum { with_all (codes "  feature a;\n  leaf x {\n    type enumeration {\n      enum p { if-feature a; }\n      enum q;\n    }\n    default p;\n  }\n") ≡ told 11 0 6 }
-    ensures marked_identity { with_all (codes "  feature a;\n  identity b;\n  identity p { if-feature a; base b; }\n  leaf x {\n    type identityref { base b; }\n    default p;\n  }\n") ≡ told 11 0 8 }
+    ensures marked_default { map with_all (codes "  feature a;\n  leaf x {\n    type enumeration {\n      enum p { if-feature a; }\n      enum q;\n    }\n    default p;\n  }\n"
+        ∷ codes "  feature a;\n  identity b;\n  identity p { if-feature a; base b; }\n  leaf x {\n    type identityref { base b; }\n    default p;\n  }\n" ∷ [])
+        ≡ told 11 0 6 ∷ told 11 0 8 ∷ [] }
     ensures mandatory_in_what_is_off { outcome_in (rfc (chosen (codes "n") [] ∷ []))
         (codes "module n { yang-version 1.1; namespace urn:n; prefix n; feature a; container c { if-feature a; } }"
         ∷ text_in_1_1 (codes "  import n { prefix n; }\n  augment /n:c {\n    leaf x { type string; mandatory true; }\n  }\n") ∷ [])
