@@ -14,7 +14,7 @@ use Rattle.yspec.specs.linking.DerivedTypes.{type_breaks}
 use Rattle.yspec.specs.linking.NodeCounts.{node_count}
 use Rattle.yspec.specs.linking.Planned.{Planned, Plan, at_top, planned, nodes_of}
 use Rattle.yspec.specs.linking.NodeBreaks.{name_breaks, config_breaks, tuple_breaks, reference_breaks}
-use Rattle.yspec.specs.linking.Compiling.{schema_of_plan, is_too_deep}
+use Rattle.yspec.specs.linking.Compiling.{schema_modules, is_too_deep}
 use Rattle.yspec.specs.schema.Breaks.{Break, module_breaks, limit_breaks, node_limit, first_broken}
 use Rattle.yspec.specs.schema.Schema.{Schema}
 use Rattle.yspec_wide.specs.Language.{Language}
@@ -24,7 +24,7 @@ use Rattle.yspec_wide.specs.Features.{condition_prefix_breaks, taken_feature_bre
 use Rattle.yspec_wide.specs.Expansion.{augmented_in, unfit_breaks_in, augment_breaks_in}
 use Rattle.yspec_wide.specs.Standing.{standing}
 use Rattle.yspec_wide.specs.VersionBreaks.{version_import_breaks, version_type_breaks, key_break}
-use Rattle.yspec_wide.specs.Types.{default_breaks_in}
+use Rattle.yspec_wide.specs.Types.{default_breaks_in, schema_nodes_in}
 use Rattle.yspec_wide.specs.Additions.{addition_breaks_in}
 
 -- all nodes, and those that stand
@@ -35,8 +35,11 @@ abbrev pub plan_in : Language → Forest Source → Plan
 plan_in language modules =
     record { modules = modules; nodes = planned 0 at_top (standing language modules (augmented_in modules).0) }
 
+abbrev pub schema_of_plan_in : Language → Plan → Schema
+schema_of_plan_in language plan = record { modules = schema_modules plan plan.modules; nodes = schema_nodes_in language plan }
+
 abbrev pub schema_in : Language → Forest Statement → Schema
-schema_in language modules = schema_of_plan (plan_in language (sources_in language modules))
+schema_in language modules = schema_of_plan_in language (plan_in language (sources_in language modules))
 
 -- ---- the phases
 

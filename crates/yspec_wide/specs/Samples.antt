@@ -1,5 +1,5 @@
 -- Worked examples: expressions, and what stands of texts of modules.
-use Rattle.std.specs.Prelude.{ℕ, Bool, List, [], ◌∷◌, ◌++◌, codes, map, Option, option_map, Result, Ok, Err}
+use Rattle.std.specs.Prelude.{ℕ, Bool, List, [], ◌∷◌, ◌++◌, codes, map, Option, option_map, option_and_then, Result, Ok, Err}
 use Rattle.std.specs.List.{list_any}
 use Rattle.std.specs.Result.{result_ok}
 use Rattle.std.specs.Option.{option_map_or}
@@ -10,6 +10,9 @@ use Rattle.yspec.specs.schema.Breaks.{Break}
 use Rattle.yspec.specs.schema.Schema.{Schema}
 use Rattle.yspec.specs.linking.Arguments.{Name}
 use Rattle.yspec.specs.edit.Examples.{module_text}
+use Rattle.yspec.specs.document.FaultCode.{fault_number}
+use Rattle.yspec.specs.document.Faults.{faults_of}
+use Rattle.yspec.specs.document.Reading.{document_of}
 use Rattle.yspec_wide.specs.Language.{Language, Choosing, rfc, YangVersion}
 use Rattle.yspec_wide.specs.Expressions.{holds, expression_of}
 use Rattle.yspec_wide.specs.Texts.{version_of_text, module_in}
@@ -70,6 +73,14 @@ with_all lines = outcome_in (rfc []) (text_in_1_1 lines ∷ [])
 -- in YANG 1, with all
 abbrev pub with_all_in_1 : Text → Outcome
 with_all_in_1 lines = outcome_in (rfc []) (text_in_1 lines ∷ [])
+
+-- the numbers of the faults of a document under module m, with these features of it chosen
+abbrev pub faults_under : Language → Text → Text → Option (List ℕ)
+faults_under language text document = option_and_then (λ schema. option_map (λ tree. map (λ f. fault_number f.code) (faults_of schema tree))
+    (result_ok (document_of schema document))) (result_ok (compiled_in language (statements_in language (text ∷ []))))
+
+abbrev pub faults_with : List Text → Text → Text → Option (List ℕ)
+faults_with features lines document = faults_under (rfc (chosen (codes "m") features ∷ [])) (text_in_1_1 lines) document
 
 -- ---- texts alone
 

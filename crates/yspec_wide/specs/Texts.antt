@@ -1,11 +1,11 @@
 -- Texts of YANG 1, as the change against those of YANG 1.1 (RFC 6020, 6.1.3; RFC 7950, 1.1): an unquoted argument may hold quotes behind
 -- its first character, and between double quotes a backslash before another character than `n`, `t`, `"` and `\` is itself.
-use Rattle.std.specs.Prelude.{ℕ, zero, suc, ◌+◌, ◌-◌, ◌==◌, ◌&&◌, ◌||◌, Bool, true, false, not, List, [], ◌∷◌, map, drop, take, length, codes, Option, Some, None, Result, Ok, Err, if◌then◌else◌, nat_lt}
+use Rattle.std.specs.Prelude.{ℕ, zero, suc, ◌-◌, ◌==◌, ◌&&◌, ◌||◌, Bool, true, false, not, List, [], ◌∷◌, map, take, length, codes, Option, Result, Ok, Err, if◌then◌else◌, nat_lt}
 use Rattle.std.specs.Option.{option_map_or}
 use Rattle.std.specs.Str.{chars, is_utf8}
 use Rattle.std.specs.Str.Lossy.{utf8_valid_len}
 use Rattle.yspec.specs.Forest.{Forest}
-use Rattle.yspec.specs.text.Text.{Text, is_text, begins, is_white, line_after, line_behind, forbidden_line, double_quote, single_quote, star, slash, semicolon, backslash, open_brace, close_brace}
+use Rattle.yspec.specs.text.Text.{Text, is_text, line_after, line_behind, forbidden_line, double_quote, single_quote, backslash}
 use Rattle.yspec.specs.text.Token.{Lexeme, Token, word, single, double, semi, open_block, close_block, finish, Front, token, front, met, at, ends_word, column_after, escape, stripped_starts, trimmed_ends, joined_breaks}
 use Rattle.yspec.specs.text.Statement.{Statement, Slip, slip, argument, top_statement, text_limit, module_of}
 use Rattle.yspec.specs.text.Slips.{State, at_keyword, state_behind, slips_at}

@@ -1,12 +1,12 @@
 -- Types and defaults where names of values bear conditions: an enum, a bit or an identity that is off is no value of the type,
 -- and a default rests on none that bears a condition, on or off (RFC 7950, 7.6.4, 7.7.4, 7.20.2, 9.6.4, 9.7.4 and 9.10.2).
-use Rattle.std.specs.Prelude.{ℕ, ℤ, pos, zero, suc, ◌&&◌, ◌||◌, Bool, true, false, not, List, [], ◌∷◌, map, filter, Option, None, is_some, option_map, option_and_then, if◌then◌else◌, nat_lt}
-use Rattle.std.specs.List.{list_any, list_all}
+use Rattle.std.specs.Prelude.{ℕ, ℤ, pos, zero, suc, ◌&&◌, ◌||◌, Bool, true, false, not, List, [], ◌∷◌, map, filter, Option, None, is_some, option_map, option_and_then, if◌then◌else◌, unwrap_or, nat_lt}
+use Rattle.std.specs.List.{list_any, list_all, filter_map}
 use Rattle.std.specs.Option.{option_map_or}
-use Rattle.yspec.specs.Forest.{Forest, end, node, row, size, first_of}
+use Rattle.yspec.specs.Forest.{Forest, end, node, row, size, first_of, relabelled}
 use Rattle.yspec.specs.text.Text.{Text, is_text}
 use Rattle.yspec.specs.types.Names.{Assigned, enum_names, bit_names}
-use Rattle.yspec.specs.types.Types.{YangType, Val, enumeration_base, bits_base, identity_base, plain, type_in}
+use Rattle.yspec.specs.types.Types.{YangType, Val, enumeration_base, bits_base, identity_base, plain, type_in, string_type}
 use Rattle.yspec.specs.types.Order.{same_value}
 use Rattle.yspec.specs.linking.Keyword.{Keyword}
 use Rattle.yspec.specs.linking.Keyword as word
@@ -15,11 +15,12 @@ use Rattle.yspec.specs.linking.Scopes.{Placed, statement_at}
 use Rattle.yspec.specs.linking.Identities.{module_name, assigned_identity, identities_of, derives, bases_in}
 use Rattle.yspec.specs.linking.TypeStatements.{BuiltIn, enumeration, bits, union, leafref, identityref, Meant, own, Verdict, means, wrong, built_in_meant, are_in_place, of_names, namings, value_stated, position_stated, single_type, union_verdict, leafref_verdict, derived, meaning_of}
 use Rattle.yspec.specs.linking.DerivedTypes.{Known, unknown, named, verdict_by, typedef_row, is_member}
-use Rattle.yspec.specs.linking.Planned.{Planned, Plan, is_a, type_by}
+use Rattle.yspec.specs.linking.Planned.{Planned, Plan, is_a, type_by, target_of}
 use Rattle.yspec.specs.linking.SchemaNodes as schema_nodes
 use Rattle.yspec.specs.linking.SchemaNodes.{is_mandatory, min_elements_of, own_defaults, is_key}
 use Rattle.yspec.specs.linking.NodeBreaks.{is_empty, has_equal, is_wrong_case, broken_at}
 use Rattle.yspec.specs.schema.Breaks.{Break, when}
+use Rattle.yspec.specs.schema.Schema.{SchemaNode, Kind, leaf, leaf_list, LeafType, Absence, mandatory, key}
 use Rattle.yspec_wide.specs.Language.{Language}
 use Rattle.yspec_wide.specs.Sources.{conditions_in}
 use Rattle.yspec_wide.specs.Features.{stands}
@@ -163,3 +164,33 @@ is_default_wrong_in language plan p = if is_a word.leaf_word p
 
 abbrev pub default_breaks_in : Language → Plan → Planned → List Break
 default_breaks_in language plan p = when (is_default_wrong_in language plan p) (broken_at 11 p)
+
+-- ---- schema nodes: their types without the names that are off, and their defaults
+
+abbrev pub default_values_in : Language → Plan → Planned → List Val
+default_values_in language plan p = filter_map
+    (λ t. option_and_then (λ type. schema_nodes.value_stated plan type t) (standing_type language plan p)) (default_texts_in plan p)
+
+abbrev pub leaf_type_in : Language → Plan → Planned → LeafType
+leaf_type_in language plan p = record {
+  name = schema_nodes.type_name p;
+  type = unwrap_or (standing_type language plan p) string_type;
+  target = option_map schema_nodes.number_in (target_of plan p);
+}
+
+abbrev pub absence_in : Language → Plan → Planned → Absence
+absence_in language plan p = if is_key plan p then key
+    else (if is_mandatory p then mandatory else schema_nodes.absent_by (schema_nodes.first_value (default_values_in language plan p)))
+
+abbrev pub kind_in : Language → Plan → Planned → Keyword → Kind
+kind_in language plan p word.leaf_word = leaf (leaf_type_in language plan p) (absence_in language plan p)
+kind_in language plan p word.leaf_list_word =
+    leaf_list (leaf_type_in language plan p) (default_values_in language plan p) (schema_nodes.amount_of p)
+kind_in language plan p k = schema_nodes.kind_by plan p k
+
+abbrev pub schema_node_in : Language → Plan → Planned → SchemaNode
+schema_node_in language plan p =
+    record (schema_nodes.schema_node plan p) { kind = kind_in language plan p p.part.source.keyword }
+
+abbrev pub schema_nodes_in : Language → Plan → Forest SchemaNode
+schema_nodes_in language plan = relabelled (schema_node_in language plan) plan.nodes

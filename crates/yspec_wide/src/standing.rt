@@ -1,8 +1,8 @@
 //! What is off is as if it weren't there: behind C13 and C14, and ahead of C11, C12 and C17.
 
-ghost use Rattle.std.specs.Prelude.{◌≡◌, [], ◌∷◌, codes, map};
+ghost use Rattle.std.specs.Prelude.{◌≡◌, [], ◌∷◌, codes, map, Some};
 ghost use Rattle.yspec_wide.specs.Language.{rfc};
-ghost use Rattle.yspec_wide.specs.Samples.{told, nodes, chosen, outcome_in, with_features, with_all, text_in_1_1};
+ghost use Rattle.yspec_wide.specs.Samples.{told, nodes, chosen, outcome_in, with_features, with_all, faults_with, text_in_1_1};
 
 /// Conditions of a `uses`, a refine and an `augment` are those of the nodes that they bring or change.
 pub fn nodes_that_stand()
@@ -28,4 +28,12 @@ pub fn refused()
         (codes "module n { yang-version 1.1; namespace urn:n; prefix n; feature a; container c { if-feature a; } }"
         ∷ text_in_1_1 (codes "  import n { prefix n; }\n  augment /n:c {\n    leaf x { type string; mandatory true; }\n  }\n") ∷ [])
         ≡ told 15 1 6 }
+{}
+
+/// Names of values that are off aren't taken, and those that are on are.
+pub fn values_that_stand()
+    ensures off { faults_with [] (codes "  feature a;\n  identity b;\n  identity p { if-feature a; base b; }\n  identity q { base b; }\n  leaf x {\n    type enumeration { enum r { if-feature a; } enum s; }\n  }\n  leaf-list y { type identityref { base b; } }\n")
+        (codes "{\"m:x\":\"r\",\"m:y\":[\"p\",\"q\"]}") ≡ Some (1 ∷ 1 ∷ []) }
+    ensures on { faults_with (codes "a" ∷ []) (codes "  feature a;\n  identity b;\n  identity p { if-feature a; base b; }\n  identity q { base b; }\n  leaf x {\n    type enumeration { enum r { if-feature a; } enum s; }\n  }\n  leaf-list y { type identityref { base b; } }\n")
+        (codes "{\"m:x\":\"r\",\"m:y\":[\"p\",\"q\"]}") ≡ Some [] }
 {}
