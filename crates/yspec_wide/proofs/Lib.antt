@@ -1,0 +1,3 @@
+pub mod WideLiterals
+pub mod CoreLemmas
+pub mod StandingLemmas

@@ -1,0 +1,138 @@
+-- The table of statements by language and version (RFC 7950, 7 and 14; RFC 6020, 7 and 12).
+use Rattle.std.specs.Prelude.{◌==◌, ◌&&◌, ◌||◌, Bool, true, false, not, List, [], ◌∷◌, ◌++◌, map, filter, is_some, if◌then◌else◌}
+use Rattle.yspec.specs.text.Text.{Text}
+use Rattle.yspec.specs.linking.Keyword as keyword
+use Rattle.yspec.specs.linking.Keyword.{Keyword, same_keyword}
+use Rattle.yspec.specs.linking.Arguments.{Form, identifier_form, any_form, fits}
+use Rattle.yspec.specs.linking.Table as narrow
+use Rattle.yspec.specs.linking.Table.{Count, exactly_one, at_most_one, any_number, rule_of, doc}
+use Rattle.yspec_wide.specs.Language.{Language, core, rfc, YangVersion, yang_1, yang_1_1}
+use Rattle.yspec_wide.specs.Words.{Word, known, feature_word, if_feature_word, same_word}
+use Rattle.yspec_wide.specs.Expressions.{expression_of}
+
+pub record Allowed : Type 0 where
+  pub word : Word
+  pub count : Count
+
+-- ---- forms
+
+pub data WideForm : Type 0 where
+  as_before : Form → WideForm
+  -- an identifier that may begin with `xml` in YANG 1 too
+  prefix_form : WideForm
+  -- an expression of features
+  if_feature_form : WideForm
+
+pub record Rule : Type 0 where
+  pub form : WideForm
+  pub substatements : List Allowed
+
+-- `x`, `m`, `l`, in either case (RFC 6020, 12)
+abbrev pub begins_xml : Text → Bool
+begins_xml (x ∷ m ∷ l ∷ others) = (x == 120 || x == 88) && ((m == 109 || m == 77) && (l == 108 || l == 76))
+begins_xml _ = false
+
+-- In YANG 1 no identifier begins with `xml`.
+abbrev pub fits_before : YangVersion → Form → Text → Bool
+fits_before yang_1 identifier_form t = fits identifier_form t && not (begins_xml t)
+fits_before _ form t = fits form t
+
+abbrev pub fits_in : YangVersion → WideForm → Text → Bool
+fits_in version (as_before form) t = fits_before version form t
+fits_in version prefix_form t = fits identifier_form t
+fits_in version if_feature_form t = is_some (expression_of version t)
+
+-- ---- the core's rows
+
+abbrev pub allowed_before : narrow.Allowed → Allowed
+allowed_before a = record { word = known a.keyword; count = a.count }
+
+abbrev pub row_before : List narrow.Allowed → List Allowed
+row_before rows = map allowed_before rows
+
+abbrev pub rule_before : narrow.Rule → Rule
+rule_before r = record { form = as_before r.form; substatements = row_before r.substatements }
+
+-- ---- what the wide language adds to them, and its own
+
+abbrev pub many : Word → Allowed
+many w = record { word = w; count = any_number }
+
+abbrev pub conditions : List Allowed
+conditions = many if_feature_word ∷ []
+
+-- the substatements that a statement of the core may bear besides
+abbrev pub added : Keyword → List Allowed
+added keyword.module_word = many feature_word ∷ []
+added keyword.container_word = conditions
+added keyword.leaf_word = conditions
+added keyword.leaf_list_word = conditions
+added keyword.list_word = conditions
+added keyword.choice_word = conditions
+added keyword.case_word = conditions
+added keyword.uses_word = conditions
+added keyword.refine_word = conditions
+added keyword.augment_word = conditions
+added keyword.identity_word = conditions
+added keyword.enum_word = conditions
+added keyword.bit_word = conditions
+added _ = []
+
+-- ---- what YANG 1 lacks of YANG 1.1 (RFC 7950, 1.1)
+
+abbrev pub lacks : Keyword → Word → Bool
+lacks keyword.import_word (known keyword.description_word) = true
+lacks keyword.import_word (known keyword.reference_word) = true
+lacks keyword.identity_word if_feature_word = true
+lacks keyword.enum_word if_feature_word = true
+lacks keyword.bit_word if_feature_word = true
+lacks keyword.refine_word if_feature_word = true
+lacks keyword.leaf_list_word (known keyword.default_word) = true
+lacks keyword.choice_word (known keyword.choice_word) = true
+lacks _ _ = false
+
+-- of which it has one at most
+abbrev pub has_fewer : Keyword → Word → Bool
+has_fewer keyword.type_word (known keyword.base_word) = true
+has_fewer keyword.identity_word (known keyword.base_word) = true
+has_fewer keyword.refine_word (known keyword.default_word) = true
+has_fewer _ _ = false
+
+abbrev pub with_fewer : Keyword → Allowed → Allowed
+with_fewer k a = if has_fewer k a.word then record { word = a.word; count = at_most_one } else a
+
+abbrev pub of_version : YangVersion → Keyword → List Allowed → List Allowed
+of_version yang_1 k rows = map (with_fewer k) (filter (λ a. not (lacks k a.word)) rows)
+of_version yang_1_1 k rows = rows
+
+-- ---- `yang-version` may be missing
+
+abbrev pub is_version_row : Allowed → Bool
+is_version_row a = same_word a.word (known keyword.yang_version_word)
+
+abbrev pub with_version_free : Allowed → Allowed
+with_version_free a = if is_version_row a then record { word = a.word; count = at_most_one } else a
+
+abbrev pub wide_substatements : YangVersion → Keyword → List Allowed
+wide_substatements version k = of_version version k (map with_version_free (row_before (rule_of k).substatements) ++ added k)
+
+abbrev pub wide_form : Keyword → Form → WideForm
+wide_form keyword.prefix_word form = prefix_form
+wide_form k form = as_before form
+
+-- ---- the table
+
+abbrev pub wide_rule : YangVersion → Word → Rule
+wide_rule version (known k) = record { form = wide_form k (rule_of k).form; substatements = wide_substatements version k }
+wide_rule version feature_word =
+    record { form = as_before identifier_form; substatements = many if_feature_word ∷ row_before doc }
+wide_rule version if_feature_word = record { form = if_feature_form; substatements = [] }
+
+-- nothing is known of a keyword that the core doesn't have
+abbrev pub core_rule : Word → Rule
+core_rule (known k) = rule_before (rule_of k)
+core_rule _ = record { form = as_before any_form; substatements = [] }
+
+abbrev pub rule_in : Language → YangVersion → Word → Rule
+rule_in core version w = core_rule w
+rule_in (rfc choosings) version w = wide_rule version w

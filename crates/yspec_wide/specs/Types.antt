@@ -1,0 +1,196 @@
+-- Types and defaults where names of values bear conditions: an enum, a bit or an identity that is off is no value of the type,
+-- and a default rests on none that bears a condition, on or off (RFC 7950, 7.6.4, 7.7.4, 7.20.2, 9.6.4, 9.7.4 and 9.10.2).
+use Rattle.std.specs.Prelude.{ℕ, ℤ, pos, zero, suc, ◌&&◌, ◌||◌, Bool, true, false, not, List, [], ◌∷◌, map, filter, Option, None, is_some, option_map, option_and_then, if◌then◌else◌, unwrap_or, nat_lt}
+use Rattle.std.specs.List.{list_any, list_all, filter_map}
+use Rattle.std.specs.Option.{option_map_or}
+use Rattle.yspec.specs.Forest.{Forest, end, node, row, size, first_of, relabelled}
+use Rattle.yspec.specs.text.Text.{Text, is_text}
+use Rattle.yspec.specs.types.Names.{Assigned, enum_names, bit_names}
+use Rattle.yspec.specs.types.Types.{YangType, Val, enumeration_base, bits_base, identity_base, plain, type_in, string_type}
+use Rattle.yspec.specs.types.Order.{same_value}
+use Rattle.yspec.specs.linking.Keyword.{Keyword}
+use Rattle.yspec.specs.linking.Keyword as word
+use Rattle.yspec.specs.linking.Source.{Source, Stated, is_source_of, argument_in, first_with, found_with, stated_with}
+use Rattle.yspec.specs.linking.Scopes.{Placed, statement_at}
+use Rattle.yspec.specs.linking.Identities.{module_name, assigned_identity, identities_of, derives, bases_in}
+use Rattle.yspec.specs.linking.TypeStatements.{BuiltIn, enumeration, bits, union, leafref, identityref, Meant, own, Verdict, means, wrong, built_in_meant, are_in_place, of_names, namings, value_stated, position_stated, single_type, union_verdict, leafref_verdict, derived, meaning_of}
+use Rattle.yspec.specs.linking.DerivedTypes.{Known, unknown, named, verdict_by, typedef_row, is_member}
+use Rattle.yspec.specs.linking.Planned.{Planned, Plan, is_a, type_by, target_of}
+use Rattle.yspec.specs.linking.SchemaNodes as schema_nodes
+use Rattle.yspec.specs.linking.SchemaNodes.{is_mandatory, min_elements_of, own_defaults, is_key}
+use Rattle.yspec.specs.linking.NodeBreaks.{is_empty, has_equal, is_wrong_case, broken_at}
+use Rattle.yspec.specs.schema.Breaks.{Break, when}
+use Rattle.yspec.specs.schema.Schema.{SchemaNode, Kind, leaf, leaf_list, LeafType, Absence, mandatory, key}
+use Rattle.yspec_wide.specs.Language.{Language}
+use Rattle.yspec_wide.specs.Sources.{conditions_in}
+use Rattle.yspec_wide.specs.Features.{stands}
+use Rattle.yspec_wide.specs.VersionBreaks.{is_of_yang_1}
+
+-- ---- types of the names that are kept, by what stands below their statements
+
+module _ (kept : Forest Source → Bool) where
+  -- the names that statements of a row with a keyword give, where they are kept
+  abbrev pub names_kept : Keyword → Forest Source → List Text
+  names_kept k end = []
+  names_kept k (node s below after) =
+      if is_source_of k s && kept below then argument_in s ∷ names_kept k after else names_kept k after
+
+  -- Numbers are given as if all were kept.
+  abbrev pub assigned_kept : Keyword → Forest Source → List Assigned → List Assigned
+  assigned_kept k below given = filter (λ a. list_any (is_text a.name) (names_kept k below)) given
+
+  abbrev pub single_type_of : BuiltIn → Forest Source → Option YangType
+  single_type_of enumeration below = of_names (λ given. enumeration_base (assigned_kept word.enum_word below given)) enum_names
+      (namings word.enum_word value_stated below)
+  single_type_of bits below = of_names (λ given. bits_base (assigned_kept word.bit_word below given)) bit_names
+      (namings word.bit_word position_stated below)
+  single_type_of type below = single_type type below
+
+  abbrev pub numbers_kept : Forest Source → List ℕ → List ℤ
+  numbers_kept modules bases =
+      map (λ p. pos p.source.number) (filter (λ p. kept p.below && list_all (derives modules p) bases) (identities_of modules))
+
+  abbrev pub identity_type_of : Forest Source → ℕ → List ℕ → YangType
+  identity_type_of modules home bases =
+      plain (identity_base (module_name modules home) (map (assigned_identity modules) (identities_of modules)) (numbers_kept modules bases))
+
+  abbrev pub identity_verdict_of : Forest Source → ℕ → List ℕ → Verdict
+  identity_verdict_of modules home [] = wrong
+  identity_verdict_of modules home (base ∷ bases) = means (own (identity_type_of modules home (base ∷ bases)))
+
+  abbrev pub verdict_in_place_of : Forest Source → Bool → Source → BuiltIn → Forest Source → List Verdict → Verdict
+  verdict_in_place_of modules member s union below members = union_verdict members
+  verdict_in_place_of modules member s leafref below members = leafref_verdict member s below
+  verdict_in_place_of modules member s identityref below members = identity_verdict_of modules s.home (bases_in modules below)
+  verdict_in_place_of modules member s type below members = option_map_or (λ t. means (own t)) (single_type_of type below) wrong
+
+  abbrev pub verdict_of : Forest Source → (ℕ → Verdict) → Bool → Source → Forest Source → List Verdict → Verdict
+  verdict_of modules names member s below members = option_map_or (λ type. if are_in_place type below
+      then verdict_in_place_of modules member s type below members else wrong) (built_in_meant modules s)
+      (derived member below (names s.number))
+
+  unfoldable pub verdicts_of : Forest Source → (ℕ → Verdict) → Forest Source → List Verdict
+  verdicts_of modules names end = []
+  verdicts_of modules names (node s below after) = if is_source_of word.type_word s
+      then verdict_of modules names true s below (verdicts_of modules names below) ∷ verdicts_of modules names after
+      else verdicts_of modules names after
+
+  abbrev pub verdict_on_of : Forest Source → (ℕ → Verdict) → Bool → Source → Forest Source → Verdict
+  verdict_on_of modules names member s below = verdict_of modules names member s below (verdicts_of modules names below)
+
+  abbrev pub known_of : Forest Source → (ℕ → Known) → Forest Source → Source × Forest Source → Known
+  known_of modules names row type = record {
+    verdict = verdict_on_of modules (verdict_by names) false type.0 type.1;
+    default = first_of (stated_with word.default_word row) (names type.0.number).default;
+  }
+
+  abbrev pub known_in_row_of : Forest Source → (ℕ → Known) → Forest Source → Known
+  known_in_row_of modules names row = option_map_or (known_of modules names row) (found_with word.type_word row) unknown
+
+  unfoldable pub known_within_of : Forest Source → ℕ → ℕ → Known
+  known_within_of modules zero number = unknown
+  known_within_of modules (suc steps) number =
+      option_map_or (known_in_row_of modules (named modules (known_within_of modules steps))) (typedef_row modules number) unknown
+
+  abbrev pub known_named_of : Forest Source → ℕ → Known
+  known_named_of modules = named modules (known_within_of modules (size modules))
+
+  abbrev pub verdict_at : Forest Source → Placed → Verdict
+  verdict_at modules p =
+      verdict_on_of modules (verdict_by (known_named_of modules)) (is_member p.ancestors) p.source p.below
+
+  abbrev pub meant_of : Forest Source → Placed → Option Meant
+  meant_of modules p = if is_source_of word.type_word p.source then meaning_of (verdict_at modules p) else None
+
+  abbrev pub meant_in_of : Plan → Planned → Option Meant
+  meant_in_of plan p =
+      option_and_then (λ s. option_and_then (meant_of plan.modules) (statement_at plan.modules s.number)) (first_with word.type_word p.part.own)
+
+  unfoldable pub type_within_of : Plan → ℕ → Planned → Option YangType
+  type_within_of plan zero p = None
+  type_within_of plan (suc steps) p = option_and_then (type_by plan (type_within_of plan steps) p) (meant_in_of plan p)
+
+  -- the type of a leaf or leaf-list
+  abbrev pub type_of_kept : Plan → Planned → Option YangType
+  type_of_kept plan p =
+      option_map (type_in (module_name plan.modules p.part.owner)) (type_within_of plan (suc (size plan.nodes)) p)
+
+-- ---- defaults
+
+-- A leaf-list of YANG 1 has none, its type's neither (RFC 6020, 7.7).
+abbrev pub has_defaults : Plan → Planned → Bool
+has_defaults plan p = not (is_a word.leaf_list_word p && is_of_yang_1 plan.modules p.part.source)
+
+abbrev pub default_texts_in : Plan → Planned → List Stated
+default_texts_in plan p = if has_defaults plan p then schema_nodes.default_texts plan p else []
+
+abbrev pub bears_none : Forest Source → Bool
+bears_none below = is_none (conditions_in below)
+  where
+    is_none : List Source → Bool
+    is_none [] = true
+    is_none (s ∷ ss) = false
+
+abbrev pub same_if_any : Option Val → Option Val → Bool
+same_if_any v w = option_map_or (λ a. option_map_or (same_value a) w false) v false
+
+-- whether a type takes a default, and takes it alike without the names that bear conditions
+abbrev pub is_right_default : Plan → Planned → YangType → Stated → Bool
+is_right_default plan p type t = same_if_any (schema_nodes.value_stated plan type t)
+    (option_and_then (λ unmarked. schema_nodes.value_stated plan unmarked t) (type_of_kept bears_none plan p))
+
+abbrev pub is_refused_in : Plan → Planned → YangType → Stated → Bool
+is_refused_in plan p type t = not (is_right_default plan p type t)
+
+abbrev pub is_wrong_default_in : Plan → Planned → YangType → Bool
+is_wrong_default_in plan p type = if is_mandatory p then not (is_empty (own_defaults p))
+    else list_any (is_refused_in plan p type) (default_texts_in plan p)
+
+abbrev pub are_wrong_defaults_in : Plan → Planned → YangType → Bool
+are_wrong_defaults_in plan p type = if nat_lt 0 (min_elements_of p) then not (is_empty (own_defaults p))
+    else list_any (is_refused_in plan p type) (default_texts_in plan p) || (p.config && has_equal plan type (default_texts_in plan p))
+
+abbrev pub standing_type : Language → Plan → Planned → Option YangType
+standing_type language plan p = type_of_kept (stands language plan.modules) plan p
+
+abbrev pub is_default_wrong_in : Language → Plan → Planned → Bool
+is_default_wrong_in language plan p = if is_a word.leaf_word p
+    then not (is_key plan p) && option_map_or (is_wrong_default_in plan p) (standing_type language plan p) false
+    else (if is_a word.leaf_list_word p then option_map_or (are_wrong_defaults_in plan p) (standing_type language plan p) false
+    else (is_a word.choice_word p && (is_some (stated_default p) && is_wrong_case plan p (schema_nodes.default_case plan p))))
+  where
+    stated_default : Planned → Option Source
+    stated_default p = first_with word.default_word p.part.own
+
+abbrev pub default_breaks_in : Language → Plan → Planned → List Break
+default_breaks_in language plan p = when (is_default_wrong_in language plan p) (broken_at 11 p)
+
+-- ---- schema nodes: their types without the names that are off, and their defaults
+
+abbrev pub default_values_in : Language → Plan → Planned → List Val
+default_values_in language plan p = filter_map
+    (λ t. option_and_then (λ type. schema_nodes.value_stated plan type t) (standing_type language plan p)) (default_texts_in plan p)
+
+abbrev pub leaf_type_in : Language → Plan → Planned → LeafType
+leaf_type_in language plan p = record {
+  name = schema_nodes.type_name p;
+  type = unwrap_or (standing_type language plan p) string_type;
+  target = option_map schema_nodes.number_in (target_of plan p);
+}
+
+abbrev pub absence_in : Language → Plan → Planned → Absence
+absence_in language plan p = if is_key plan p then key
+    else (if is_mandatory p then mandatory else schema_nodes.absent_by (schema_nodes.first_value (default_values_in language plan p)))
+
+abbrev pub kind_in : Language → Plan → Planned → Keyword → Kind
+kind_in language plan p word.leaf_word = leaf (leaf_type_in language plan p) (absence_in language plan p)
+kind_in language plan p word.leaf_list_word =
+    leaf_list (leaf_type_in language plan p) (default_values_in language plan p) (schema_nodes.amount_of p)
+kind_in language plan p k = schema_nodes.kind_by plan p k
+
+abbrev pub schema_node_in : Language → Plan → Planned → SchemaNode
+schema_node_in language plan p =
+    record (schema_nodes.schema_node plan p) { kind = kind_in language plan p p.part.source.keyword }
+
+abbrev pub schema_nodes_in : Language → Plan → Forest SchemaNode
+schema_nodes_in language plan = relabelled (schema_node_in language plan) plan.nodes

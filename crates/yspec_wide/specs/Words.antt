@@ -1,0 +1,33 @@
+-- The keywords of the wide language: those of the core, and those that features bring (RFC 7950, 7.20.1 and 7.20.2).
+use Rattle.std.specs.Prelude.{◌==◌, ℕ, Bool, codes, Option, Some, None, option_map, if◌then◌else◌}
+use Rattle.yspec.specs.text.Text.{Text, is_text}
+use Rattle.yspec.specs.linking.Keyword.{Keyword, keyword_text, keyword_number, keyword_named}
+use Rattle.yspec_wide.specs.Language.{Language, core, rfc}
+
+pub data Word : Type 0 where
+  known : Keyword → Word
+  feature_word : Word
+  if_feature_word : Word
+
+abbrev pub word_text : Word → Text
+word_text (known k) = keyword_text k
+word_text feature_word = codes "feature"
+word_text if_feature_word = codes "if-feature"
+
+abbrev pub word_number : Word → ℕ
+word_number (known k) = keyword_number k
+word_number feature_word = 48
+word_number if_feature_word = 49
+
+abbrev pub same_word : Word → Word → Bool
+same_word a b = word_number a == word_number b
+
+abbrev pub or_added : Option Keyword → Text → Option Word
+or_added (Some k) t = Some (known k)
+or_added None t = if is_text t (word_text feature_word) then Some feature_word
+    else (if is_text t (word_text if_feature_word) then Some if_feature_word else None)
+
+-- the keyword of a language that a text is, if it is one
+abbrev pub word_named : Language → Text → Option Word
+word_named core t = option_map known (keyword_named t)
+word_named (rfc choosings) t = or_added (keyword_named t) t

@@ -1,0 +1,25 @@
+//! The core is what it is without a language, and nothing is cut where all conditions hold.
+
+ghost use Rattle.std.specs.Prelude.{◌≡◌, true};
+ghost use Rattle.yspec.specs.linking.Table.{rule_of};
+ghost use Rattle.yspec.specs.linking.StatementBreaks.{statement_phase};
+ghost use Rattle.yspec.specs.linking.Source.{sources_of};
+ghost use Rattle.yspec_wide.specs.Language.{core};
+ghost use Rattle.yspec_wide.specs.Words.{known};
+ghost use Rattle.yspec_wide.specs.Table.{rule_in, rule_before};
+ghost use Rattle.yspec_wide.specs.StatementBreaks.{statement_phase_in};
+ghost use Rattle.yspec_wide.specs.Sources.{sources_in};
+ghost use Rattle.yspec_wide.specs.Standing.{standing_by, all_stand};
+
+/// The table row by row; and of every set of modules the rules of the table that it breaks, and the statements that linking
+/// stands on.
+pub fn core_table()
+    ensures rows { (version k : _) → rule_in core version (known k) ≡ rule_before (rule_of k) }
+    ensures told { (modules : _) → statement_phase_in core modules ≡ statement_phase modules }
+    ensures kept { (modules : _) → sources_in core modules ≡ sources_of modules }
+{}
+
+/// Where all conditions of all parts hold, all of them stand as they are.
+pub fn all_conditions_hold()
+    ensures { (holds parts : _) → all_stand holds parts ≡ true → standing_by holds parts ≡ parts }
+{}
