@@ -253,7 +253,7 @@ def first_line(make):
 
 
 GROWING = {
-    "one-line": (one_line, 20000, 40000), "joined": (joined, 100000, 200000), "doubled-unions": (doubled_unions, 10, 20),
+    "one-line": (one_line, 20000, 40000), "joined": (joined, 100000, 200000), "doubled-unions": (doubled_unions, 7, 14),
     "restricted": (first_line(restricted), 20000, 40000), "typedefs": (first_line(typedefs), 30000, 60000),
     "unions": (first_line(unions), 10000, 20000), "groupings": (first_line(groupings), 30000, 60000),
     "leafrefs": (first_line(leafrefs), 30000, 60000), "augments": (first_line(augments), 30000, 60000),

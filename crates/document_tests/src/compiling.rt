@@ -482,6 +482,54 @@ fn limits_of_sets(rt: HostRuntime) {
     assert!(rt; is_told_at_last(rt.alloc(), 61) == Some(true));
 }
 
+// Pushes `type tN;` of so many typedefs.
+fn push_types(alloc: Global, text: &mut String, count: u32) -> Result<(), AllocError> {
+    for number in 0..count {
+        text.push_str(format!(in alloc; "type t{number}; ")?.as_str())?;
+    }
+    Ok(())
+}
+
+// Sixteen typedefs that double, the last of 32,768 members, in lines 4 to 19, and a leaf whose type stands in line 21: a
+// union of all of them and of these members.
+fn doubling(alloc: Global, more: &str) -> Result<String, AllocError> {
+    let mut text = String::from_str(alloc, " yang-version 1.1;\ntypedef t0 { type int8; }\n")?;
+    for number in 1..16 {
+        let below = number - 1;
+        let twice = format!(in alloc; "type t{below}; type t{below};")?;
+        text.push_str(format!(in alloc; "typedef t{number} ")?.as_str())?;
+        text.push_str("{ type union { ")?;
+        text.push_str(twice.as_str())?;
+        text.push_str(" } }\n")?;
+    }
+    text.push_str("leaf a {\ntype union { ")?;
+    push_types(alloc, &mut text, 16)?;
+    text.push_str(more)?;
+    text.push_str(" } }")?;
+    Ok(text)
+}
+
+// `N nodes/members` or `CODE:LINE/members`
+fn may_join(alloc: Global, row: &str) -> Option<bool> {
+    let (told, more) = row.split_once('/')?;
+    let more = with_line_feeds(alloc, more).ok()?;
+    let statements = doubling(alloc, more.as_str()).ok()?;
+    is_compiled(alloc, statements.as_str(), told)
+}
+
+// A union has at most 65,535 members; what rests on a larger one isn't judged.
+#[test]
+fn members_of_unions(rt: HostRuntime) {
+    let rows = "1 nodes/
+C18:21/type int8;
+C18:21/type t15;
+C18:21/type union { type union { type t15; type t15; } }
+C10:22/|type int8 { length 1; }";
+    for row in rows.lines() {
+        assert!(rt; may_join(rt.alloc(), row) == Some(true), "{row}");
+    }
+}
+
 // Whether this comes of so many containers beside each other, all of one name.
 fn may_stand(alloc: Global, nodes: u32, told: &str) -> Option<bool> {
     let mut text = String::from_str(alloc, " yang-version 1.1;\n").ok()?;

@@ -30,7 +30,7 @@ pub(crate) fn schema_of(alloc: Global, texts: &[&str]) -> Option<Schema> {
 pub(crate) fn live_under(alloc: Global, module: &str, document: &str) -> Option<Live> {
     let schema = schema_of(alloc, &[module])?;
     match read(alloc, &schema, document.as_bytes()) {
-        Ok(tree) => Live::open(alloc, schema, tree).ok(),
+        Ok(tree) => Live::from_parts(alloc, schema, tree).ok(),
         Err(_) => None,
     }
 }

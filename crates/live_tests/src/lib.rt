@@ -1,4 +1,4 @@
-//! Tests of faults and of live documents: edits one after the other, lists of edits, and want of memory.
+//! Tests of faults and of live documents: edits one after the other, lists of edits, the walk over faults, and want of memory.
 #![tactic(auto)]
 
 #[cfg(test)]
@@ -17,3 +17,5 @@ mod memory;
 mod moves;
 #[cfg(test)]
 mod telling;
+#[cfg(test)]
+mod walks;

@@ -111,9 +111,9 @@ pub(crate) fn rows(alloc: Global) -> Option<bool> {
         && counted.child_of(row, FIRST, 1) == Some(other)
         && counted.child_of(row, FIRST, 2) == None
         && counted.count_of(row, FIRST) == 2
-        && counted.place_of(row, FIRST, other) == 1
-        && counted.place_of(row, FIRST, second) == 2
-        && counted.place_of(row, SECOND, second) == 0
+        && counted.place_near(row, FIRST, other, 0) == 1
+        && counted.place_near(row, FIRST, second, 1) == 2
+        && counted.place_near(row, SECOND, second, 7) == 0
         && counted.schema(first) == Some(FIRST)
         && counted.parent(first) == Some(row)
         && matches!(counted.value(first), Some(Raw::Text(value)) if value.as_str() == "a");
@@ -162,6 +162,12 @@ pub(crate) fn places(alloc: Global) -> Option<bool> {
     Some(kept && first && last && taken)
 }
 
+// The place of a node among those of its schema node in a row, looked for from where it was put.
+fn place_in(counted: &mut Counted<'_>, row: Row, node: NodeId) -> usize {
+    let near = counted.place_put(node);
+    counted.place_near(row, FIRST, node, near)
+}
+
 // A node is found where it stands, also once others came, went and moved before it.
 pub(crate) fn found_places(alloc: Global) -> Option<bool> {
     let mut nodes = Nodes::new(alloc);
@@ -172,22 +178,74 @@ pub(crate) fn found_places(alloc: Global) -> Option<bool> {
     let d = insert(&mut counted, FIRST, None, Row::Top, 0)?;
     hang(&mut counted, Row::Top, FIRST, a)?;
     hang(&mut counted, Row::Top, FIRST, b)?;
-    let put = counted.place_of(Row::Top, FIRST, b) == 1;
+    let put = place_in(&mut counted, Row::Top, b) == 1;
     hang_at(&mut counted, Row::Top, FIRST, c, 0)?;
     hang_at(&mut counted, Row::Top, FIRST, d, 0)?;
-    let pushed = counted.place_of(Row::Top, FIRST, a) == 2
-        && counted.place_of(Row::Top, FIRST, b) == 3
-        && counted.place_of(Row::Top, FIRST, c) == 1;
+    let pushed = place_in(&mut counted, Row::Top, a) == 2
+        && place_in(&mut counted, Row::Top, b) == 3
+        && place_in(&mut counted, Row::Top, c) == 1;
     counted.move_child_at(Row::Top, FIRST, 3, 0);
-    let moved = counted.place_of(Row::Top, FIRST, b) == 0
-        && counted.place_of(Row::Top, FIRST, a) == 3;
+    let moved = place_in(&mut counted, Row::Top, b) == 0
+        && place_in(&mut counted, Row::Top, a) == 3;
     counted.take_child_at(Row::Top, FIRST, 0);
     counted.take_child_at(Row::Top, FIRST, 0);
-    let pulled = counted.place_of(Row::Top, FIRST, a) == 1
-        && counted.place_of(Row::Top, FIRST, c) == 0
-        && counted.place_of(Row::Top, FIRST, b) == 2
-        && counted.place_of(Row::Below(a), FIRST, b) == 0;
+    let pulled = place_in(&mut counted, Row::Top, a) == 1
+        && place_in(&mut counted, Row::Top, c) == 0
+        && place_in(&mut counted, Row::Top, b) == 2
+        && place_in(&mut counted, Row::Below(a), b) == 0;
     Some(put && pushed && moved && pulled)
+}
+
+// Of a node that stands in a row more than once the place is found that is next to another, and of two as near the one before it.
+pub(crate) fn next_places(alloc: Global) -> Option<bool> {
+    let mut nodes = Nodes::new(alloc);
+    let mut counted = nodes.counted();
+    let a = insert(&mut counted, FIRST, None, Row::Top, 0)?;
+    let b = insert(&mut counted, FIRST, None, Row::Top, 0)?;
+    hang(&mut counted, Row::Top, FIRST, a)?;
+    hang(&mut counted, Row::Top, FIRST, b)?;
+    hang(&mut counted, Row::Top, FIRST, b)?;
+    hang(&mut counted, Row::Top, FIRST, b)?;
+    hang(&mut counted, Row::Top, FIRST, a)?;
+    Some(
+        counted.place_near(Row::Top, FIRST, a, 0) == 0
+            && counted.place_near(Row::Top, FIRST, a, 1) == 0
+            && counted.place_near(Row::Top, FIRST, a, 2) == 0
+            && counted.place_near(Row::Top, FIRST, a, 3) == 4
+            && counted.place_near(Row::Top, FIRST, a, 9) == 4
+            && counted.place_near(Row::Top, FIRST, b, 0) == 1
+            && counted.place_near(Row::Top, FIRST, b, 9) == 3
+            && counted.place_near(Row::Top, SECOND, b, 0) == 0,
+    )
+}
+
+// Nodes come and go at both ends of a row and in it, more than once; the shorter side makes way for each.
+pub(crate) fn ways_made(alloc: Global) -> Option<bool> {
+    let mut nodes = Nodes::new(alloc);
+    let mut counted = nodes.counted();
+    let a = insert(&mut counted, FIRST, None, Row::Top, 0)?;
+    let b = insert(&mut counted, FIRST, None, Row::Top, 0)?;
+    let c = insert(&mut counted, FIRST, None, Row::Top, 0)?;
+    let d = insert(&mut counted, FIRST, None, Row::Top, 0)?;
+    let e = insert(&mut counted, FIRST, None, Row::Top, 0)?;
+    hang(&mut counted, Row::Top, FIRST, a)?;
+    hang(&mut counted, Row::Top, FIRST, b)?;
+    hang(&mut counted, Row::Top, FIRST, c)?;
+    hang(&mut counted, Row::Top, FIRST, d)?;
+    hang(&mut counted, Row::Top, FIRST, e)?;
+    counted.take_child_at(Row::Top, FIRST, 0);
+    counted.take_child_at(Row::Top, FIRST, 0);
+    let taken = are_at_top(&mut counted, &[c, d, e]);
+    hang_at(&mut counted, Row::Top, FIRST, a, 1)?;
+    let between = are_at_top(&mut counted, &[c, a, d, e]);
+    hang_at(&mut counted, Row::Top, FIRST, b, 0)?;
+    let before = are_at_top(&mut counted, &[b, c, a, d, e]);
+    counted.take_child_at(Row::Top, FIRST, 1);
+    counted.move_child_at(Row::Top, FIRST, 3, 0);
+    let moved = are_at_top(&mut counted, &[e, b, a, d]);
+    hang_at(&mut counted, Row::Top, FIRST, c, 9)?;
+    counted.put_child(Row::Top, FIRST, a, a);
+    Some(taken && between && before && moved && are_at_top(&mut counted, &[e, b, a, d, c]))
 }
 
 // The last node of a schema node is taken out of a row, and none where there is none; one that comes back stands at its place.
@@ -289,6 +347,8 @@ fn all_calls(rt: HostRuntime) {
     assert!(rt; rows(alloc) == Some(true));
     assert!(rt; places(alloc) == Some(true));
     assert!(rt; found_places(alloc) == Some(true));
+    assert!(rt; next_places(alloc) == Some(true));
+    assert!(rt; ways_made(alloc) == Some(true));
     assert!(rt; last_children(alloc) == Some(true));
     assert!(rt; told(alloc) == Some(true));
     assert!(rt; keys(alloc) == Some(true));

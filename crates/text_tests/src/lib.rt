@@ -1,6 +1,12 @@
-//! Tests of module text.
+//! Tests of module text, of conditions, and of what is said of codes, lines, words and names.
 #![tactic(auto)]
 
+#[cfg(test)]
+mod codes;
+#[cfg(test)]
+mod conditions;
+#[cfg(test)]
+mod hinting;
 #[cfg(test)]
 mod readings;
 #[cfg(test)]

@@ -11,13 +11,14 @@ use Rattle.yspec_run.specs.Output.{Outcome, Request, files_of, found_of, perform
 use Rattle.yspec.proofs.ForestLemmas.{join_end, join_assoc}
 use Rattle.ytext.specs.View.{view, modules_view}
 use Rattle.ytext.specs.declared.statement.Module.{Module}
-use Rattle.yapp.specs.Failing.{FailsWith, FromFile, LeadsTo, outcome_of, reported}
-use Rattle.yapp.specs.Files.{Answered, Contents, FileAnswers, IsFound, IsTold, ReadsAll, Store, WasCut, WereRead, came_to, failed_reads, unread_in}
-use Rattle.yapp.specs.declared.failure.Failure.{Failure}
-use Rattle.yapp.specs.declared.failure.Failure.TheVariants as failures
-use Rattle.yapp.specs.declared.files.FileFault.{FileFault}
-use Rattle.yapp.specs.declared.files.FileFault.TheVariants as faults
-use Rattle.yapp.specs.declared.report.Report.{Report}
+use Rattle.yapp_report.specs.Failing.{FailsWith, FromFile, LeadsTo, outcome_of, reported}
+use Rattle.yapp.specs.Files.{Answered, Contents, FileAnswers, IsFound, ReadsAll, Store, WasCut, WereRead, came_to, unread_in}
+use Rattle.yapp_report.specs.Unread.{IsTold, failed_reads}
+use Rattle.yapp_report.specs.declared.failure.Failure.{Failure}
+use Rattle.yapp_report.specs.declared.failure.Failure.TheVariants as failures
+use Rattle.yapp_report.specs.declared.files.FileFault.{FileFault}
+use Rattle.yapp_report.specs.declared.files.FileFault.TheVariants as faults
+use Rattle.yapp_report.specs.declared.report.Report.{Report}
 
 -- the names and the texts that the code holds
 abbrev pub names_in : List (Bor Text) → List Text

@@ -1,12 +1,12 @@
 -- Documents after the lines of a script, and what is told of them.
-use Rattle.std.proofs.Common.{◌≡◌, ◌≤◌, ℕ, Bool, true, false, List, [], ◌∷◌, ◌++◌, Option, Some, None, Global, String, string_bytes, codes, length, refl, sym, subst, ap, ap₂, ◌∙◌}
+use Rattle.std.proofs.Common.{◌≡◌, ◌≤◌, ℕ, Bool, true, false, List, Option, Some, None, Global, String, string_bytes, length, refl, sym, subst, ap, ap₂, ◌∙◌}
 use Rattle.std.specs.Prelude.{◌==◌, ◌&&◌, ◌||◌, Result, Ok, Err, IsErrAnd, is_some, option_map, if◌then◌else◌}
 use Rattle.std.specs.Option.{option_map_or}
 use Rattle.std.proofs.lemmas.List.{length-map}
 use Rattle.yspec.specs.Forest.{size}
 use Rattle.yspec.specs.text.Text.{Text}
 use Rattle.yspec.specs.schema.Schema as spec
-use Rattle.yspec.specs.document.Document.{Step, Tree, document_limit}
+use Rattle.yspec.specs.document.Document.{Tree, document_limit}
 use Rattle.yspec.specs.document.Fitting.{Fits}
 use Rattle.yspec.specs.document.Writing.{IsDocument}
 use Rattle.yspec.specs.edit.EditText.{Edit}
@@ -24,16 +24,17 @@ use Rattle.ycheck.specs.declared.fault.Fault.{Fault}
 use Rattle.yschema_model.specs.View as schema_view
 use Rattle.yschema_model.specs.declared.schema.Schema.{Schema}
 use Rattle.yschema_model.proofs.CallerLemmas.{names_differ, numbered}
-use Rattle.yapp.specs.Asked.{IsScript, Line, refused_part, refused_parts, told_from}
+use Rattle.yapp_script.specs.Asked.{IsScript, Line, refused_part, refused_parts, told_from}
 use Rattle.ylive.specs.Answers.{after_edits}
-use Rattle.yapp.specs.Edited.{IsEdited, IsOf, IsRun, IsSound, IsWhole, live_of, refused_in, refused_of, schema_of, tree_of}
-use Rattle.yapp.specs.Failing.{LeadsTo}
+use Rattle.yapp.specs.Edited.{IsEdited, IsOf, IsRun, IsSound, IsWhole, refused_of, schema_of, tree_of}
+use Rattle.yapp_report.specs.EditedView.{live_of, refused_in}
+use Rattle.yapp_report.specs.Failing.{LeadsTo}
 use Rattle.yapp.specs.declared.document.Document.{Document}
-use Rattle.yapp.specs.declared.edited.EditedDocument.{EditedDocument}
-use Rattle.yapp.specs.declared.failure.Failure.{Failure}
-use Rattle.yapp.specs.declared.failure.Failure.TheVariants as failures
-use Rattle.yapp.specs.declared.script.RefusedLine.{RefusedLine}
-use Rattle.yapp.proofs.ScriptLemmas.{after_is, refused_is}
+use Rattle.yapp_report.specs.declared.edited.EditedDocument.{EditedDocument}
+use Rattle.yapp_report.specs.declared.failure.Failure.{Failure}
+use Rattle.yapp_report.specs.declared.failure.Failure.TheVariants as failures
+use Rattle.yapp_script.specs.declared.script.RefusedLine.{RefusedLine}
+use Rattle.yapp_script.proofs.ScriptLemmas.{after_is, refused_is}
 
 -- edits leave a sound document whole
 whole_after : (schema : Schema) (t u : Tree) (edits : List Edit) → IsSound (schema_view.view schema) t → u ≡ after (schema_view.view schema) t edits

@@ -1,28 +1,24 @@
 -- A run that writes to one side alone.
-use Rattle.std.proofs.Common.{◌≡◌, inl, inr, codes, ℕ, Bool, true, false, List, [], ◌∷◌, ◌++◌, ap, ap₂, sym, ◌∙◌, refl, subst, append_assoc, length, take}
-use Rattle.yspec_run.specs.Output.{Aside, Besides, Outcome, Printed, Request, SavedFile, as_json_of, aside_where, found_of, nothing, object_parts, outcome, printed, printed_with, told_too}
+use Rattle.std.proofs.Common.{◌≡◌, inl, inr, codes, ℕ, Bool, true, false, List, [], ◌++◌, ap, ap₂, sym, ◌∙◌, refl, subst, length, take}
+use Rattle.yspec_run.specs.Output.{Besides, Outcome, Printed, Request, SavedFile, as_json_of, aside_where, found_of, nothing, object_parts, outcome, printed, printed_with, told_too}
 use Rattle.std.proofs.lemmas.List.{append-nil}
-use Rattle.yspec_run.specs.Part.{Part, plain, spelled, spelled_part}
+use Rattle.yspec_run.specs.Part.{Part, spelled}
 use Rattle.std.specs.Prelude.{Result, Ok, Err, IsErr, is_ok, if◌then◌else◌}
 use Rattle.ybase_output.specs.Writing.{Broke, Side, Writes, Wrote}
 use Rattle.yapp_words.specs.Running.{Brings, End, Ends, WritesBoth, broken, ended, memory_told, well, with_status, without_memory}
-use Rattle.std.specs.Prelude.{Option, Some, None, decimal, option_map}
-use Rattle.std.specs.Option.{option_map_or}
-use Rattle.yspec_run.specs.Script.{telling_code}
+use Rattle.std.specs.Prelude.{Option, Some, None, option_map}
 use Rattle.yspec_run.specs.RefusalData.{object_line}
 use Rattle.ysay_json.specs.RefusalData.{Refused, refused_text}
 use Rattle.yspec.specs.text.Text.{Text}
-use Rattle.yapp.specs.Asked.{refusal_of, value_number}
-use Rattle.yapp.specs.declared.script.Refusal.{Refusal}
-use Rattle.yapp.specs.declared.script.ValueCode.{ValueCode}
-use Rattle.yapp.specs.Failing.{besides_in, outcome_of, reported, unsaid}
+use Rattle.yapp_report.specs.Failing.{besides_in, outcome_of, reported, unsaid}
 use Rattle.yapp.specs.Files.{IsFound, IsOutcome, Store, came_to, said_besides}
 use Rattle.yapp.specs.Telling.{Tells, object_bytes, printed_so}
-use Rattle.yapp.specs.declared.failure.Failure.{Failure}
-use Rattle.yapp.specs.declared.report.Report.{Report}
-use Rattle.yapp.specs.declared.report.Report.TheVariants as reports
-use Rattle.yapp.specs.declared.failure.Failure.TheVariants as failures
+use Rattle.yapp_report.specs.declared.failure.Failure.{Failure}
+use Rattle.yapp_report.specs.declared.report.Report.{Report}
+use Rattle.yapp_report.specs.declared.report.Report.TheVariants as reports
+use Rattle.yapp_report.specs.declared.failure.Failure.TheVariants as failures
 use Rattle.std.proofs.Math.Seq.{take-length}
+use Rattle.yapp_report.proofs.PartLemmas.{one_plain}
 use Rattle.ybase_output.proofs.WritingLemmas.{wrote_none, wrote_same}
 
 -- a status alone ends a run well that writes no file
@@ -51,16 +47,6 @@ pub ends : {X E : Type 0} → (a b : Side) (bytes : List ℕ) (status result : �
     → result ≡ (if is_ok r then status else 4) → Ends a b bytes status result
 ends a b bytes status result (Ok x) w e = inl (w, e)
 ends a b bytes status result (Err x) w e = inr (w, e)
-
--- the line of a document's refusal: up to its path, and from there on
-pub refusal_parts : (name number path : List ℕ)
-    → (name ++ (codes ": " ++ ((codes "J" ++ number) ++ (codes " " ++ path)))) ++ codes "\n"
-    ≡ (name ++ (codes ": J" ++ (number ++ codes " "))) ++ (path ++ codes "\n")
-refusal_parts name number path =
-    append_assoc name (codes ": " ++ ((codes "J" ++ number) ++ (codes " " ++ path))) (codes "\n")
-    ∙ (ap (λ (xs : List ℕ). name ++ (codes ": J" ++ xs))
-    (append_assoc number (codes " " ++ path) (codes "\n") ∙ sym (append_assoc number (codes " ") (path ++ codes "\n")))
-    ∙ sym (append_assoc name (codes ": J" ++ (number ++ codes " ")) (path ++ codes "\n")))
 
 -- ---- what the kit and the system say besides
 
@@ -136,20 +122,6 @@ both_broken output errors errors_after o (Ok x) failed broken = cc
 both_broken output errors errors_after o (Err x) failed broken = inr (refl, broken)
 
 -- ---- parts
-
--- a part alone
-pub one_part : (with_reasons : Bool) (p : Part) → spelled_part with_reasons p ≡ spelled with_reasons (p ∷ [])
-one_part with_reasons p = sym (append-nil (spelled_part with_reasons p))
-
--- of which nothing is said
-pub one_plain : (with_reasons : Bool) (t : List ℕ) → t ≡ spelled with_reasons (plain t ∷ [])
-one_plain true t = sym (append-nil (t ++ []) ∙ append-nil t)
-one_plain false t = sym (append-nil (t ++ []) ∙ append-nil t)
-
-pub parts_behind : (with_reasons : Bool) (xs ys : List Part) → spelled with_reasons (xs ++ ys) ≡ spelled with_reasons xs ++ spelled with_reasons ys
-parts_behind with_reasons [] ys = refl
-parts_behind with_reasons (x ∷ xs) ys = ap (λ t. spelled_part with_reasons x ++ t) (parts_behind with_reasons xs ys)
-    ∙ sym (append_assoc (spelled_part with_reasons x) (spelled with_reasons xs) (spelled with_reasons ys))
 
 -- of want of memory nothing is said besides
 pub memory_either : (besides : Besides) (with_reasons : Bool) (output output_after errors errors_after : Side) (end : End)
@@ -262,15 +234,3 @@ run_comes before after asked request output output_after errors errors_after giv
     (subst (λ (b : Bool). Tells output output_after errors errors_after b as_json besides o end) reasons tells)
 
 -- ---- the code that says most of a refused line
-
-pub told_of_value : (r : Refusal) (value : ValueCode) (n : ℕ) → r.value ≡ Some value → n ≡ value_number value
-    → codes "J" ++ decimal n ≡ telling_code (refusal_of r)
-told_of_value r value n is e =
-    ap (λ (m : ℕ). codes "J" ++ decimal m) e
-    ∙ sym (ap (λ (v : Option ValueCode). option_map_or (λ m. codes "J" ++ decimal m) (option_map value_number v) (codes "E" ++ decimal (refusal_of r).code)) is)
-
-pub told_of_edit : (r : Refusal) (n : ℕ) → r.value ≡ None → n ≡ (refusal_of r).code
-    → codes "E" ++ decimal n ≡ telling_code (refusal_of r)
-told_of_edit r n is e =
-    ap (λ (m : ℕ). codes "E" ++ decimal m) e
-    ∙ sym (ap (λ (v : Option ValueCode). option_map_or (λ m. codes "J" ++ decimal m) (option_map value_number v) (codes "E" ++ decimal (refusal_of r).code)) is)

@@ -10,13 +10,12 @@ use Rattle.yspec.specs.edit.EditText.{Edit}
 use Rattle.yspec.specs.edit.Editing.{after, decisions}
 use Rattle.yspec_run.specs.Part.{Part}
 use Rattle.yspec_run.specs.Script.{after_lines, refused_lines}
-use Rattle.yspec.specs.edit.Live.{Live}
-use Rattle.ylive.specs.View as live_view
 use Rattle.yschema_model.specs.View as schema_view
 use Rattle.yinst_tree.specs.View.{tree_view}
-use Rattle.yapp.specs.Asked.{Line, refused_parts, told_from}
+use Rattle.yapp_script.specs.Asked.{Line, refused_parts, told_from}
+use Rattle.yapp_report.specs.EditedView.{live_of, refused_in}
 use Rattle.yapp.specs.declared.document.Document.{Document}
-use Rattle.yapp.specs.declared.edited.EditedDocument.{EditedDocument}
+use Rattle.yapp_report.specs.declared.edited.EditedDocument.{EditedDocument}
 
 abbrev pub schema_of : Document → Schema
 schema_of d = schema_view.view d.schema
@@ -37,14 +36,6 @@ pub record IsSound (schema : Schema) (tree : Tree) : Type 0 where
 pub record IsWhole (schema : Schema) (tree : Tree) : Type 0 where
   pub whole : IsDocument schema tree
   pub within : size tree ≤ document_limit
-
--- ---- live ones
-
-abbrev pub live_of : EditedDocument → Live
-live_of e = live_view.view e.live
-
-abbrev pub refused_in : EditedDocument → List Part
-refused_in e = refused_parts e.refused.items
 
 -- one that a tree became by a script of lines, of which these kinds are
 pub record IsRun (schema : Schema) (tree : Tree) (kinds : List Line) (edits : List Edit) (e : EditedDocument) : Type 0 where

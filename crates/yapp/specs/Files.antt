@@ -2,23 +2,12 @@
 use Rattle.std.specs.Prelude.{◌≡◌, ◌⊎◌, ℕ, ◌+◌, ◌≤◌, true, List, [], ◌∷◌, length, map, Option, Some, None, Result, Ok, Err}
 use Rattle.yspec_run.specs.Output.{Besides, Outcome, Request, as_json_of, files_of, found_of, outcome, with_files}
 use Rattle.yspec.specs.text.Text.{Text}
-use Rattle.yapp.specs.Failing.{besides_in, outcome_of, reported, unsaid}
+use Rattle.yapp_report.specs.Unread.{IsTold}
+use Rattle.yapp_report.specs.Failing.{besides_in, outcome_of, reported, unsaid}
 use Rattle.yapp_words.specs.Running.{without_memory}
-use Rattle.yapp.specs.declared.failure.Failure.{Failure}
-use Rattle.yapp.specs.declared.failure.Failure.TheVariants.{Memory}
-use Rattle.yapp.specs.declared.files.FileFault.{FileFault}
-use Rattle.yapp.specs.declared.report.Report.{Report}
-use Rattle.yapp.specs.declared.files.FileFault.TheVariants as faults
-
--- these bytes are what is told, if anything is
-abbrev pub IsTold : Option (List ℕ) → List ℕ → Type 0
-IsTold None bytes = Unit {0}
-IsTold (Some told) bytes = told ≡ bytes
-
-abbrev pub failed_reads : {X : Type 0} → Result X FileFault → ℕ
-failed_reads (Ok x) = 0
-failed_reads (Err (faults.Unread cause)) = 1
-failed_reads (Err faults.Memory) = 0
+use Rattle.yapp_report.specs.declared.failure.Failure.{Failure}
+use Rattle.yapp_report.specs.declared.failure.Failure.TheVariants.{Memory}
+use Rattle.yapp_report.specs.declared.report.Report.{Report}
 
 -- ---- several files
 

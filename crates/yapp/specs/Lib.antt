@@ -1,8 +1,6 @@
-pub mod Asked
+pub use Rattle.yapp_report.specs.Saving
+pub use Rattle.yapp_report.specs.Unread
+pub use Rattle.yapp_report.specs.Failing
 pub mod Edited
-pub mod Explained
-pub mod Failing
 pub mod Files
-pub mod Saving
 pub mod Telling
-pub mod Unread

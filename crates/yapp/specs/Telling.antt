@@ -4,8 +4,8 @@ use Rattle.yspec.specs.text.Text.{Text}
 use Rattle.yspec_run.specs.Output.{Besides, Outcome, Printed, printed_with, told_too}
 use Rattle.ybase_output.specs.Writing.{Side}
 use Rattle.yapp_words.specs.Running.{Brings, End, memory_told}
-use Rattle.yapp.specs.Failing.{besides_in, outcome_of}
-use Rattle.yapp.specs.declared.failure.Failure.{Failure}
+use Rattle.yapp_report.specs.Failing.{besides_in, outcome_of}
+use Rattle.yapp_report.specs.declared.failure.Failure.{Failure}
 
 -- an object in a line, if there is one
 abbrev pub object_bytes : Option Text → List ℕ

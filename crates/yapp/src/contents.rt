@@ -5,9 +5,8 @@ ghost use Rattle.yspec_run.specs.Output.{files_of, first_file, other_files};
 ghost use Rattle.yapp_words.specs.Command.{view};
 ghost use Rattle.yapp.specs.Files.{ReadsAll, store};
 
-use crate::failure::Failure;
-use crate::files::Files;
 use std::alloc::{AllocError, Global};
+use yapp_report::{Failure, Files};
 use yapp_words::Request;
 
 /// What the first of some files came to, and the contents of those behind them.

@@ -11,30 +11,26 @@ ghost use Rattle.yspec.specs.schema.Schema as schema_spec;
 ghost use Rattle.ysay_fault.specs.FoundFellows.{fellow_of};
 ghost use Rattle.ysay_fault.specs.Sentences.{explained_fault};
 ghost use Rattle.ysay_json.specs.FaultData as format;
-ghost use Rattle.ycheck.specs.View.{view, views};
+ghost use Rattle.ycheck.specs.View.{view};
 ghost use Rattle.yschema_model.specs.View as schema_view;
 ghost use Rattle.yinst_tree.specs.Told.{code_number};
 ghost use Rattle.yinst_tree.specs.View.{place_view};
 ghost use Rattle.ylive.specs.View as live_view;
-ghost use Rattle.yapp.specs.Asked.{edits_in, kinds_in, refused_parts};
+ghost use Rattle.yapp_script.specs.Asked.{edits_in, kinds_in, refused_parts};
 ghost use Rattle.ycheck_config.specs.Inspecting.{inspection_view};
-ghost use Rattle.yapp.specs.Edited.{IsEdited, IsOf, IsRun, IsSound, IsWhole, live_of, refused_in, refused_of, schema_of, tree_of};
-ghost use Rattle.yapp.specs.Explained.{IsExplained};
-ghost use Rattle.yapp.specs.Failing.{FailsWith, LeadsTo, reported};
-ghost use Rattle.yapp.specs.Saving.{saved_view};
+ghost use Rattle.yapp.specs.Edited.{IsEdited, IsOf, IsRun, IsSound, IsWhole, refused_of, schema_of, tree_of};
+ghost use Rattle.yapp_report.specs.EditedView.{live_of, refused_in};
+ghost use Rattle.yapp_report.specs.Explained.{IsExplained};
+ghost use Rattle.yapp_report.specs.Failing.{FailsWith, LeadsTo, reported};
+ghost use Rattle.yapp_report.specs.Saving.{saved_view};
 ghost use Rattle.yapp_words.specs.Command.{options_view};
 
 use crate::contents::{Taken, behind_first, first_of};
-use crate::edited::EditedDocument;
-use crate::failure::{Failure, Stop};
-use crate::hint::{refusal_hint, repeated_hint};
 use crate::modules::compile_contents;
-use crate::object::line_objects;
-use crate::report::{DocumentReport, Report};
-use crate::saving::SavedFile;
-use crate::script::{RefusedLine, Script};
 use serde_json::Value;
 use std::alloc::{AllocError, Global};
+use yapp_report::{DocumentReport, EditedDocument, Failure, Report, SavedFile, Stop, line_objects};
+use yapp_script::{RefusedLine, Script, refusal_hint, repeated_hint};
 use yapp_words::Options;
 use ycheck::Fault;
 use ycheck_config::{Inspection, inspect};
@@ -241,7 +237,7 @@ fn edit(
         (lines_of script.now) e) }
 {
     let script = Script::read(alloc, is_strict, script)?;
-    match Live::open(alloc, document.schema, document.tree) {
+    match Live::from_parts(alloc, document.schema, document.tree) {
         Ok(live) => run_script(live, &script),
         Err(_) => Err(AllocError),
     }

@@ -11,12 +11,12 @@ ghost use Rattle.ytext.specs.View.{modules_view};
 ghost use Rattle.yschema_model.specs.View as schema_view;
 ghost use Rattle.ytext.specs.Told.{number_of};
 ghost use Rattle.ylink_grammar.specs.BreakView.{break_view};
-ghost use Rattle.yapp.specs.Failing.{FailsWith, LeadsTo};
+ghost use Rattle.yapp_report.specs.Failing.{FailsWith, LeadsTo};
 
 use crate::contents::Taken;
-use crate::failure::Failure;
-use crate::hint::{break_hint, slip_hint};
 use std::alloc::Global;
+use yapp_report::Failure;
+use yapp_script::{break_hint, slip_hint};
 use ylink_grammar::BrokenRule;
 use yschema::{CompileFault, compile};
 use yschema_model::Schema;

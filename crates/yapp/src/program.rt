@@ -1,25 +1,22 @@
 //! A run of the program.
 
 ghost use Rattle.std.specs.Prelude.{◌≡◌, ◌⊎◌, [], IfOk, OnErr, is_ok, if◌then◌else◌, map, None, option_map, string_bytes, true};
-ghost use Rattle.yapp.specs.Failing.{besides_in, outcome_of};
-ghost use Rattle.yapp.specs.Saving.{end_of};
+ghost use Rattle.yapp_report.specs.Failing.{besides_in, outcome_of};
+ghost use Rattle.yapp_report.specs.Saving.{end_of};
 ghost use Rattle.yapp.specs.Telling.{Tells, object_bytes, printed_so};
 ghost use Rattle.ysay_json.specs.RefusalData.{refused_text};
 ghost use Rattle.yspec_run.specs.Output.{Besides, Outcome, Printed, as_json_of, printed_with};
 ghost use Rattle.yapp_words.specs.Command.{asks_reasons, refusals, request_of, view};
-ghost use Rattle.yapp.specs.Explained.{IsExplained};
+ghost use Rattle.yapp_report.specs.Explained.{IsExplained};
 ghost use Rattle.yapp.specs.Files.{IsOutcome, came_to, said_besides, store};
 ghost use Rattle.yapp_words.specs.Running.{AnswersWords, Brings, Ends, WritesBoth, memory_told, refused};
 ghost use Rattle.ybase_output.specs.Writing.{Writes, side};
 
 use crate::answering::answer;
-use crate::failure::Failure;
-use crate::files::Files;
-use crate::object::failure_object;
-use crate::report::Report;
-use crate::saving::{Ended, ended_after};
-use crate::status::{FAILED, GOOD, MISUSED};
 use std::alloc::{AllocError, Global};
+use yapp_report::{
+    Ended, FAILED, Failure, Files, GOOD, MISUSED, Report, ended_after, failure_object,
+};
 use yapp_words::{NoRequest, Request, read_words};
 use ybase_output::{Sink, SinkFault, write_texts};
 

@@ -1,5 +1,5 @@
 -- Rows that ascend from a number on stand in the order of their schema nodes.
-use Rattle.std.proofs.Common.{◌≡◌, ℕ, ◌≤◌, ◌&&◌, true, leb}
+use Rattle.std.proofs.Common.{◌≡◌, ℕ, ◌&&◌, true, leb}
 use Rattle.std.proofs.lemmas.Bool.{and_parts, leb-true}
 use Rattle.yspec.specs.Forest.{end, node}
 use Rattle.yspec.specs.document.Document.{Tree}

@@ -1,7 +1,7 @@
 -- Rows in the order of their schema numbers, as a test.
 use Rattle.std.specs.Prelude.{ℕ, ◌&&◌, Bool, true, leb}
 use Rattle.yspec.specs.Forest.{end, node}
-use Rattle.yspec.specs.document.Document.{Stored, Tree}
+use Rattle.yspec.specs.document.Document.{Tree}
 
 -- whether the numbers of a row ascend from a number on, and those of all rows below it
 abbrev pub ascends_from : ℕ → Tree → Bool

@@ -35,6 +35,13 @@ impl Tree {
         self.nodes.as_slice()
     }
 
+    /// The top nodes as they are.
+    pub fn into_roots(self) -> Vec<Stored>
+        ensures { row_view result.items ≡ tree_view self }
+    {
+        self.nodes
+    }
+
     /// Whether each of its rows is known to stand in the order of schema nodes, as those of every document that was read do.
     pub fn is_in_order(&self) -> bool
         ensures { result ≡ true → IsSorted (tree_view self.now) }

@@ -63,7 +63,7 @@ fn tree_of(alloc: Global, schema: &Schema, value: Value) -> Result<Tree, DocFaul
         Some(DOCUMENT_LIMIT),
     ) {
         Ok(_) => {
-            let mut row = Vec::new(alloc);
+            let mut row = Vec::with_capacity(alloc, members.len())?;
             put_rows(alloc, schema, None, schema.roots(), &mut members, &mut row)?;
             Ok(Tree::new(row))
         }
@@ -196,6 +196,7 @@ fn put_items(
         (item_row n (taken_in (schema_view.view schema.now) n (schema_view.below_of child.entry))
         (json.items_view items.items))) }
 {
+    row.reserve(items.len())?;
     for item in items {
         put_instance(alloc, schema, child, item, row)?;
     }
@@ -244,7 +245,7 @@ fn stored_node(
 {
     match value {
         Value::Object(mut members) => {
-            let mut below = Vec::new(alloc);
+            let mut below = Vec::with_capacity(alloc, members.len())?;
             put_rows(
                 alloc,
                 schema,

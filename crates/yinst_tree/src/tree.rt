@@ -60,6 +60,17 @@ impl Stored {
         self.below.as_slice()
     }
 
+    /// Its schema node, its value and the nodes below it, as they are. Each is smaller, so a recursion over them ends.
+    pub fn into_parts(self) -> (SchemaId, Option<Raw>, Vec<Stored>)
+        ensures label { (view self).0
+            ≡ record { schema_number = result.0.0; value = option_map raw_of result.1 } }
+        ensures below { row_view result.2.items ≡ (view self).1 }
+        ensures smaller { most (λ s. size-Stored s) result.2.items < size-Stored self }
+    {
+        let Stored { id, value, below } = self;
+        (id, value, below)
+    }
+
     /// Where its nodes lie.
     pub(crate) fn alloc(&self) -> Global {
         *self.below.allocator()

@@ -18,7 +18,7 @@ use Rattle.ylink_grammar.specs.SourceView.{source_view}
 use Rattle.ylink_names.proofs.NumberedLemmas.{by_number_from}
 use Rattle.ylink.specs.VerdictView.{members_in, members_below, judged, verdict_held, told_by}
 use Rattle.ylink_names.proofs.PlacedLemmas.{found_at}
-use Rattle.ylink.proofs.TypeLemmas.{no_verdict, next_verdict, no_more_verdicts}
+use Rattle.ylink_types.proofs.TypeLemmas.{no_verdict, next_verdict, no_more_verdicts}
 
 -- what was pushed first is set once what stands below it is pushed
 pub seam : {A : Type 0} (so_far mid full new inner : List A) (y x : A) (n : ℕ) → mid ≡ so_far ++ y ∷ [] → full ≡ mid ++ inner

@@ -1,9 +1,5 @@
-pub mod KindView
-pub mod TypeView
-pub mod TypedefView
+pub use Rattle.ylink_types.specs.TypeView
 pub mod VerdictView
-pub mod DerivedView
-pub mod IdentityView
 pub mod ModuleView
 pub mod LinkedView
 pub mod Told

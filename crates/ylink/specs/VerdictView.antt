@@ -8,8 +8,8 @@ use Rattle.yspec.specs.linking.Source.{Source, is_source_of}
 use Rattle.yspec.specs.linking.Scopes.{Placed, statements_of}
 use Rattle.yspec.specs.linking.TypeStatements as spec
 use Rattle.yspec.specs.linking.DerivedTypes.{is_member, verdict_by, known_named}
-use Rattle.ylink.specs.TypeView.{verdict_view}
-use Rattle.ylink.specs.declared.types.Verdict.{Verdict}
+use Rattle.ylink_types.specs.TypeView.{verdict_view}
+use Rattle.ylink_types.specs.declared.types.Verdict.{Verdict}
 
 abbrev pub held_view : Option (Box Verdict) → Option spec.Verdict
 held_view = option_map (λ v. verdict_view v.value)

@@ -6,12 +6,12 @@ ghost use Rattle.yspec.specs.linking.DerivedTypes.{type_breaks};
 ghost use Rattle.ylink_grammar.specs.BreakView.{seen};
 ghost use Rattle.ylink_grammar.specs.LinkView.{view};
 ghost use Rattle.ylink_grammar.specs.SourceView.{source_view};
-ghost use Rattle.ylink.specs.TypeView.{verdict_view};
+ghost use Rattle.ylink_types.specs.TypeView.{verdict_view};
 ghost use Rattle.ylink.specs.VerdictView.{told_by, AreVerdicts};
 
-use crate::types::Verdict;
 use crate::verdicts::verdict_held;
-use ylink_grammar::{BrokenRule, CompileCode, Source, Sources, broken, least_when};
+use ylink_grammar::{BrokenRule, CompileCode, Source, Sources, broken, least};
+use ylink_types::Verdict;
 
 /// The lesser of one so far and of the rule that a statement breaks, by the verdict on it.
 fn judge_verdict(
@@ -23,11 +23,12 @@ fn judge_verdict(
         (told_by (source_view number statement.now)
         (option_map (λ v. verdict_view v.now) verdict.entry)) }
 {
-    least_when(
-        matches!(verdict, Some(Verdict::Wrong)),
-        so_far,
-        broken(CompileCode::C10, statement.home, statement.statement),
-    )
+    let code = match verdict {
+        Some(Verdict::Wrong) => CompileCode::C10,
+        Some(Verdict::TooLarge) => CompileCode::C18,
+        _ => return so_far,
+    };
+    least(so_far, broken(code, statement.home, statement.statement))
 }
 
 /// The least of the `type` statements that break a rule of their own, by module and line, given the verdict on each.

@@ -4,17 +4,16 @@ ghost use Rattle.ylink_grammar.specs.LinkView as statements;
 ghost use Rattle.ylink_names.specs.MeaningView.{AreMeanings};
 ghost use Rattle.ylink_names.specs.Ordered.{AreInOrder};
 ghost use Rattle.ylink_names.specs.PrefixView as prefix;
-ghost use Rattle.ylink.specs.TypedefView as typedef;
+ghost use Rattle.ylink_types.specs.TypedefView as typedef;
 ghost use Rattle.ylink.specs.VerdictView.{AreVerdicts};
 
 use crate::modules::{module_at, prefixed_in};
 use crate::statements::Statements;
-use crate::typedefs::Typedefs;
-use crate::types::{Meant, Verdict};
 use crate::verdicts::verdict_held;
 use std::alloc::{AllocError, Global};
 use ylink_grammar::{Source, Sources, Stated, argument_of};
 use ylink_names::Prefixes;
+use ylink_types::{Meant, Typedefs, Verdict};
 use ytext::Stmt;
 use ytype::YType;
 
@@ -35,7 +34,7 @@ pub struct Linked<'t> {
     ghost prefixed: { prefix.IsOf prefixes (statements.view sources) },
     ghost ordered: { AreInOrder order.items (statements.view sources) },
     ghost named: { typedef.IsOf typedefs (statements.view sources) },
-    ghost meant: { AreMeanings typedefs.meanings.items (statements.view sources) },
+    ghost meant: { AreMeanings (typedef.meanings_in typedefs) (statements.view sources) },
     ghost judged: { AreVerdicts verdicts.items (statements.view sources) },
 }
 
@@ -54,8 +53,8 @@ impl<'t> Linked<'t> {
     ghost use Rattle.ylink_names.specs.Ordered.{AreInOrder};
     ghost use Rattle.ylink_names.specs.PrefixView as prefix;
     ghost use Rattle.ytype.specs.Identities.{pair_view};
-    ghost use Rattle.ylink.specs.TypedefView as typedef;
-    ghost use Rattle.ylink.specs.TypeView.{meant_view};
+    ghost use Rattle.ylink_types.specs.TypedefView as typedef;
+    ghost use Rattle.ylink_types.specs.TypeView.{meant_view};
     ghost use Rattle.ylink.specs.VerdictView.{AreVerdicts};
     ghost use Rattle.ylink.specs.LinkedView.{view, wholes};
     ghost use Rattle.ylink.specs.StatementsView.{left, numbers_of};
@@ -71,7 +70,7 @@ impl<'t> Linked<'t> {
         requires prefixed { prefix.IsOf prefixes (statements.view sources) }
         requires ordered { AreInOrder order.items (statements.view sources) }
         requires named { typedef.IsOf typedefs (statements.view sources) }
-        requires meant { AreMeanings typedefs.meanings.items (statements.view sources) }
+        requires meant { AreMeanings (typedef.meanings_in typedefs) (statements.view sources) }
         requires judged { AreVerdicts verdicts.items (statements.view sources) }
         ensures of { view result ≡ statements.view sources.entry }
         ensures whole { wholes result ≡ statements.wholes sources.entry }

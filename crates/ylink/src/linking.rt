@@ -13,23 +13,22 @@ ghost use Rattle.ylink_grammar.specs.Wholes.{wholes_of};
 ghost use Rattle.ylink_names.specs.MeaningView.{AreMeanings};
 ghost use Rattle.ylink_names.specs.Ordered.{AreInOrder};
 ghost use Rattle.ylink_names.specs.PrefixView as prefix;
-ghost use Rattle.ylink.specs.TypedefView as typedef;
+ghost use Rattle.ylink_types.specs.TypedefView as typedef;
 ghost use Rattle.ylink.specs.LinkedView.{view, wholes};
 ghost use Rattle.ylink.specs.Told.{told_by};
 
 use crate::fault::CompileFault;
-use crate::identities::Identities;
 use crate::judging::broken_type_rule;
 use crate::linked::Linked;
 use crate::ordering::order_of;
 use crate::repeated::repeated_module;
-use crate::typedefs::Typedefs;
 use crate::verdicts::verdicts_of;
 use std::alloc::{AllocError, Global};
 use ylink_grammar::{BrokenRule, Sources, broken_statement_rule};
 use ylink_names::{
     Prefixes, broken_meaning_rule, broken_prefix_rule, broken_taken_rule, holders_of, meanings_of,
 };
+use ylink_types::{Identities, Typedefs};
 use ytext::Module;
 
 /// The statements of a set of modules with what their names and types mean, or the least broken rule, by module, line and
@@ -87,7 +86,7 @@ fn link_types<'t>(
     requires prefixed { prefix.IsOf prefixes (statements.view sources) }
     requires ordered { AreInOrder order.items (statements.view sources) }
     requires named { typedef.IsOf typedefs (statements.view sources) }
-    requires meant { AreMeanings typedefs.meanings.items (statements.view sources) }
+    requires meant { AreMeanings (typedef.meanings_in typedefs) (statements.view sources) }
     requires rests { typedef.RestsOn typedefs (statements.view sources) }
     requires first { None ≡ least_from None (statement_phase (modules_view modules.now)) }
     requires names { None ≡ least_from None

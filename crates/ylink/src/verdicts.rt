@@ -6,16 +6,15 @@ ghost use Rattle.yspec.specs.linking.Scopes.{placed};
 ghost use Rattle.ybase_preorder.specs.View.{row_by};
 ghost use Rattle.ylink_grammar.specs.LinkView.{view};
 ghost use Rattle.ylink_grammar.specs.SourceView.{source_view};
-ghost use Rattle.ylink.specs.TypeView.{verdict_view};
-ghost use Rattle.ylink.specs.TypedefView.{verdicts_in, IsOf, RestsOn};
+ghost use Rattle.ylink_types.specs.TypeView.{verdict_view};
+ghost use Rattle.ylink_types.specs.TypedefView.{verdicts_in, IsOf, RestsOn};
 ghost use Rattle.ylink.specs.VerdictView.{judged, members_below, members_in, table_view, verdict_held, AreVerdicts};
 
-use crate::typedefs::Typedefs;
-use crate::types::{Verdict, judge_type};
 use std::alloc::{AllocError, Global};
 use ybase_preorder::Siblings;
 use ybase_words::Keyword;
 use ylink_grammar::{Source, Sources};
+use ylink_types::{Typedefs, Verdict, judge_type};
 
 /// Sets what a table holds of the statement of a number.
 fn set_verdict<'t>(

@@ -1,3 +1,7 @@
+pub mod FlagLemmas
+pub mod HolderLemmas
+pub mod JoinedLemmas
+pub mod JudgedLemmas
 pub mod LiveLemmas
-pub mod RunLemmas
 pub mod ReachLemmas
+pub mod RunLemmas

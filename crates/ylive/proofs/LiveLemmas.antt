@@ -38,7 +38,7 @@ use Rattle.ylive_marks.proofs.AgreeLemmas.{entries_keys}
 use Rattle.ylive_retell.proofs.PlanLemmas.{keeps_read}
 use Rattle.ylive_retell.proofs.StillLemmas.{told_still}
 use Rattle.ylive_list.specs.Telling.{Tells}
-use Rattle.ylive_join.proofs.JoinedLemmas.{count_is, faults_is, tells_is}
+use Rattle.ylive.proofs.JoinedLemmas.{count_is, faults_is, tells_is}
 use Rattle.ylive_edit.specs.Places.{Amends, HoldsSorted, HoldsTold, Shows}
 use Rattle.ylive_edit.specs.Reads.{ReadsWithin}
 use Rattle.ylive.specs.Kept.{AppliesIn, IsLive, Parts}

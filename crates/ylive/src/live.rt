@@ -66,13 +66,30 @@ impl Live {
         ensures schema { IfErr result (λ given. given.0 ≡ schema) }
         ensures tree { IfErr result (λ given. given.1 ≡ tree) }
     {
-        match told_store(alloc, &schema, &tree) {
+        match tree.clone() {
+            Ok(copy) => match Live::from_parts(alloc, schema, copy) {
+                Ok(live) => Ok(live),
+                Err(schema) => Err((schema, tree)),
+            },
+            Err(_) => Err((schema, tree)),
+        }
+    }
+
+    /// The same, where the document is wanted no longer: it is taken apart while its store is made. Where memory runs out the
+    /// schema is given back.
+    pub fn from_parts(alloc: Global, schema: Schema, tree: Tree) -> Result<Live, Schema>
+        requires { Fits (schema_view.view schema) (tree_view tree) }
+        ensures opened { IfOk result (λ live. view live
+            ≡ opened (schema_view.view schema) (tree_view tree)) }
+        ensures schema { IfErr result (λ given. given ≡ schema) }
+    {
+        match told_store(alloc, &schema, tree) {
             Ok(nodes) => Ok(Live {
                 schema,
                 nodes,
                 is_stale: false,
             }),
-            Err(_) => Err((schema, tree)),
+            Err(_) => Err(schema),
         }
     }
 
@@ -179,7 +196,7 @@ impl Live {
     {
         if self.is_stale {
             let tree = self.tree()?;
-            self.nodes = told_store(self.nodes.alloc(), &self.schema, &tree)?;
+            self.nodes = told_store(self.nodes.alloc(), &self.schema, tree)?;
             self.is_stale = false;
         }
         Ok(())

@@ -37,7 +37,7 @@ use Rattle.ystore_tree.proofs.DocumentLemmas as document
 use Rattle.ylive_retell.specs.IsTold.{IsFresh, IsTold}
 use Rattle.ylive_retell.specs.Standing.{Every, standing}
 use Rattle.ylive_retell.specs.Plans.{Prepared}
-use Rattle.ylive_edit.specs.Places.{Amends, HangsPart, HoldsTold, IsAt, IsPart, Shows, Swapping}
+use Rattle.ylive_edit.specs.Places.{Amends, Carries, HangsPart, HoldsTold, IsAt, IsPart, Shows, Swapping}
 use Rattle.ylive_edit.proofs.BesideLemmas.{fresh_inserted, told_inserted, told_removed}
 
 -- a document that is held hangs in a store that only grew
@@ -202,6 +202,9 @@ module _ (s : Schema) (before mid : Nodes) (tree : Tree) (steps : List Step) (ab
     subst (λ k. k ≤ most) (sym added_size) few,
     held s after tree steps at.way (with_branch b) f more above at.goes at.is_tree branch_is keeps told,
   )
+
+  pub carries : (after : Nodes) → Keeps after (around at.way more) above end → IsTold s after (around at.way more) → Carries s after at.way (with_branch b (tree_of f))
+  carries after keeps told = record { branches = more; is_row = sym branch_is; keeps = at_top after (around at.way more) above keeps; told = told }
 
   pub hangs_not : (most : ℕ) (after : Nodes) → most < node_count mid → Removes has mid after
       → HangsPart s most tree (edit_at steps (with_branch b) tree) after false

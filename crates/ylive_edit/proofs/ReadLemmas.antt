@@ -57,6 +57,10 @@ spent_numbers first mid last n count weight k l some more light is = omega (arit
 pub spent_place : (first mid deep n k l : ℕ) → mid ≤ first + 2 * deep → n ≤ 4 → k ≡ l → mid + (n + k) ≤ first + (2 * deep + 4 + l)
 spent_place first mid deep n k l way few is = omega (arith, way, few, is)
 
+-- where two reads fewer led to it
+pub spent_fewer : (first mid deep n k l : ℕ) → mid + 2 ≤ first + 2 * deep → n ≤ 5 → k ≡ l → mid + (n + k) ≤ first + (2 * deep + 4 + l)
+spent_fewer first mid deep n k l way few is = omega (arith, way, few, is)
+
 pub spent_refused : (first mid deep l : ℕ) → mid ≤ first + 2 * deep → mid ≤ first + (2 * deep + 4 + l)
 spent_refused first mid deep l way = omega (arith, way)
 

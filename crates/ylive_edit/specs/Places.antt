@@ -1,6 +1,6 @@
 -- Where a part of a document stands in the store that the document hangs in.
 use Rattle.std.specs.Prelude.{◌≡◌, ℕ, ◌<◌, ◌≤◌, Bool, true, false, List, Result, Ok, Err}
-use Rattle.yspec.specs.Forest.{end, node, size}
+use Rattle.yspec.specs.Forest.{end, join, node, size}
 use Rattle.yspec.specs.schema.Schema.{Schema}
 use Rattle.yspec.specs.document.Document as document
 use Rattle.yspec.specs.document.Document.{Step}
@@ -114,3 +114,20 @@ pub record Swapping (swap : Swap) (nodes : Nodes) (old new : List NodeId) : Type
   pub keeps : Keeps nodes (around way f) swap.above loose
   pub are_old : ids_of left ≡ old
   pub are_new : ids_of loose ≡ new
+
+-- ---- documents put together
+
+-- A store holds a document with such a row at the end of a way, and nothing else, and tells of it what is told of it.
+pub record Carries (schema : Schema) (nodes : Nodes) (way : Way) (row : document.Tree) : Type 0 where
+  pub branches : Branches
+  pub is_row : tree_of branches ≡ row
+  pub keeps : Keeps nodes (around way branches) Top end
+  pub told : IsTold schema nodes (around way branches)
+
+-- Steps lead to a row of the document that a store holds, and a branch stands in order behind it.
+pub record IsBehind (schema : Schema) (nodes : Nodes) (above : Row) (branch : Branch) : Type 0 where
+  pub tree : document.Tree
+  pub steps : List Step
+  pub f : Branches
+  pub at : IsAt schema nodes tree steps above f
+  pub sorted : IsSorted (join (tree_of f) (node branch.label branch.below end))

@@ -12,7 +12,10 @@ ghost use Rattle.yspec_reach.specs.Parts.{exchange_of};
 ghost use Rattle.yschema_model.specs.View as schema_view;
 ghost use Rattle.yinst_path.specs.Binding.{node_of};
 ghost use Rattle.yinst_path.specs.EditView.{edit_view, path_view, predicate_view};
-ghost use Rattle.ystore.specs.Store.{node_count, reads};
+ghost use Rattle.ystore.specs.Entries as entries;
+ghost use Rattle.ystore.specs.Entries.{StandsOnce};
+ghost use Rattle.ystore.specs.Rows.{of_schema};
+ghost use Rattle.ystore.specs.Store.{children_at, node_count, reads};
 ghost use Rattle.ystore.specs.Views.{store_of, lent};
 ghost use Rattle.ystore.specs.declared.row.Row as rows;
 ghost use Rattle.ystore_tree.specs.Hanging.{Branches, Hangs, Numbered, Stands};
@@ -27,7 +30,7 @@ use crate::locating::{Place, locate};
 use crate::parts::{add_part, put_part, shift_part, take_part};
 use std::alloc::AllocError;
 use yinst::part;
-use yinst_path::{Edit, EditCode, EditFault, Path, bind_path, bind_to_move, refused};
+use yinst_path::{Edit, EditCode, EditFault, Path, Predicate, bind_path, bind_to_move, refused};
 use yschema_model::{Schema, SchemaId};
 use ystore::{Counted, NodeId};
 use ystore_tree::copy_part;
@@ -105,6 +108,8 @@ fn place_to_move<'e>(
         ≡ false) }
     ensures reads { reads (store_of counted.new)
         ≤ reads (store_of counted.old) + 2 * levels (schema_view.view schema.now).nodes }
+    ensures fewer { OnOk result (reads (store_of counted.new) + 2
+        ≤ reads (store_of counted.old) + 2 * levels (schema_view.view schema.now).nodes) }
     ensures kept { OnlyReads (store_of counted.old) (store_of counted.new) }
     ensures same_reference { lent counted.new ≡ lent counted.old }
 {
@@ -139,7 +144,7 @@ fn create(
         return Err(refused(EditCode::E8));
     }
     match part(counted.alloc(), schema, place.last.id, value) {
-        Ok(part) => add_part(counted, schema, place.above, &part),
+        Ok(part) => add_part(counted, schema, place.above, part),
         Err(fault) => Err(fault),
     }
 }
@@ -192,7 +197,7 @@ fn replace(
         Ok(node) => match part(counted.alloc(), schema, place.last.id, value) {
             Ok(part) => {
                 let numbers = numbers_of(counted, node)?;
-                put_part(counted, schema, place.above, node, &numbers, &part)
+                put_part(counted, schema, place.above, node, &numbers, part)
             }
             Err(fault) => Err(fault),
         },
@@ -213,14 +218,14 @@ fn remove(counted: &mut Counted<'_>, schema: &Schema, place: Place<'_>) -> Resul
         (tree : document.Tree) (above : List Step) (f : Branches)
         → IsAt s (store_of counted.old) tree above place.entry.above f → Fits s tree
         → IfOk (spec.removed s tree (target_at s above f place.entry.last)) (Fits s)
-        → ReadsWithin (3 + parts_reads s tree (removed_parts s (target_at s above f place.entry.last)))
+        → ReadsWithin (4 + parts_reads s tree (removed_parts s (target_at s above f place.entry.last)))
         (store_of counted.old) (store_of counted.new) result }
     ensures same_reference { lent counted.new ≡ lent counted.old }
 {
     match instance_meant(counted, schema, EditCode::E7, place.above, place.last) {
         Ok(node) => {
             let numbers = numbers_of(counted, node)?;
-            let before = counted.place_of(place.above, place.last.id, node);
+            let before = place_among(counted, place, node);
             take_part(
                 counted,
                 schema,
@@ -254,7 +259,7 @@ fn move_node(
         (tree : document.Tree) (above : List Step) (f : Branches)
         → IsAt s (store_of counted.old) tree above place.entry.above f → Fits s tree
         → IfOk (spec.moved s tree position (target_at s above f place.entry.last)) (Fits s)
-        → ReadsWithin (4 + parts_reads s tree (moved_parts s position (target_at s above f place.entry.last)))
+        → ReadsWithin (5 + parts_reads s tree (moved_parts s position (target_at s above f place.entry.last)))
         (store_of counted.old) (store_of counted.new) result }
     ensures same_reference { lent counted.new ≡ lent counted.old }
 {
@@ -263,12 +268,38 @@ fn move_node(
             if counted.count_of(place.above, place.last.id) < position as usize {
                 return Err(refused(EditCode::E5));
             }
-            let from = counted.place_of(place.above, place.last.id, node);
+            let from = place_among(counted, place, node);
             let to = (position as usize).saturating_sub(1);
             shift_part(counted, schema, place.above, place.last.id, node, from, to)?;
             Ok(())
         }
         Err(fault) => Err(fault),
+    }
+}
+
+/// The place of the node that the last step of a path means, among those of its schema node. It is looked for from the position
+/// that the step says, or from where the node was put.
+fn place_among(counted: &mut Counted<'_>, place: Place<'_>, node: NodeId) -> usize
+    ensures place { let nodes = of_schema place.entry.last.id (children_at (store_of counted.old) place.entry.above) in
+        StandsOnce node nodes → result ≡ entries.place_of node nodes }
+    ensures reads { reads (store_of counted.new) ≤ reads (store_of counted.old) + 2 }
+    ensures kept { OnlyReads (store_of counted.old) (store_of counted.new) }
+    ensures same_reference { lent counted.new ≡ lent counted.old }
+{
+    let near = place_said(counted, place.last.predicate, node);
+    counted.place_near(place.above, place.last.id, node, near)
+}
+
+/// A place near which a node is looked for that a predicate means.
+fn place_said(counted: &mut Counted<'_>, predicate: &Predicate, node: NodeId) -> usize
+    ensures reads { reads (store_of counted.new) ≤ reads (store_of counted.old) + 1 }
+    ensures kept { OnlyReads (store_of counted.old) (store_of counted.new) }
+    ensures same_reference { lent counted.new ≡ lent counted.old }
+{
+    match predicate {
+        Predicate::Unsaid => 0,
+        Predicate::Position(position) => (*position as usize).saturating_sub(1),
+        Predicate::Keys(_) => counted.place_put(node),
     }
 }
 

@@ -1,6 +1,6 @@
 //! Where an edit stands in the document that a store holds.
 
-ghost use Rattle.std.specs.Prelude.{◌≡◌, ◌+◌, ◌*◌, ◌≤◌, false, length, List, [], IfOk};
+ghost use Rattle.std.specs.Prelude.{◌≡◌, ◌+◌, ◌-◌, ◌*◌, ◌<◌, ◌≤◌, false, length, List, [], IfOk, OnOk};
 ghost use Rattle.yspec.specs.document.Document as document;
 ghost use Rattle.yspec.specs.document.Document.{Step};
 ghost use Rattle.yspec.specs.document.Sorting.{IsSorted};
@@ -40,7 +40,9 @@ pub(crate) fn locate<'e>(
         result }
     ensures from_one { IfOk result (λ place. spec.is_zero (predicate_view place.last.predicate.now)
         ≡ false) }
-    ensures reads { reads (store_of counted.new) ≤ reads (store_of counted.old) + 2 * length steps.now }
+    ensures reads { reads (store_of counted.new)
+        ≤ reads (store_of counted.old) + 2 * (length steps.now - 1) }
+    ensures some { OnOk result (0 < length steps.now) }
     ensures kept { OnlyReads (store_of counted.old) (store_of counted.new) }
     ensures same_reference { lent counted.new ≡ lent counted.old }
 {
@@ -62,7 +64,9 @@ fn locate_below<'e>(
         (store_of counted.new) result }
     ensures from_one { IfOk result (λ place. spec.is_zero (predicate_view place.last.predicate.now)
         ≡ false) }
-    ensures reads { reads (store_of counted.new) ≤ reads (store_of counted.old) + 2 * length steps.now }
+    ensures reads { reads (store_of counted.new)
+        ≤ reads (store_of counted.old) + 2 * (length steps.now - 1) }
+    ensures some { OnOk result (0 < length steps.now) }
     ensures kept { OnlyReads (store_of counted.old) (store_of counted.new) }
     ensures same_reference { lent counted.new ≡ lent counted.old }
 {

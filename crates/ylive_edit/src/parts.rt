@@ -1,6 +1,6 @@
 //! A part of a document: put into a row, in the place of another, taken out, or moved within it.
 
-ghost use Rattle.std.specs.Prelude.{◌≡◌, ◌+◌, ◌-◌, ◌≤◌, ◌^◌, ℕ, List, IfOk, OnErr, OnOk};
+ghost use Rattle.std.specs.Prelude.{◌≡◌, ◌+◌, ◌-◌, ◌≤◌, ◌^◌, ℕ, true, List, IfOk, OnErr, OnOk};
 ghost use Rattle.yspec.specs.Forest.{end, size};
 ghost use Rattle.yspec.specs.document.Document as document;
 ghost use Rattle.yspec.specs.document.Document.{Step};
@@ -15,12 +15,12 @@ ghost use Rattle.ystore.specs.Store.{reads};
 ghost use Rattle.ystore.specs.Views.{store_of, lent};
 ghost use Rattle.ystore.specs.declared.row.Row as rows;
 ghost use Rattle.ystore.specs.declared.row.Row.TheVariants.{Top};
-ghost use Rattle.ystore_tree.specs.Hanging.{Branches, Keeps};
+ghost use Rattle.ystore_tree.specs.Hanging.{Branches, Keeps, tree_of};
 ghost use Rattle.ystore_tree.specs.Ways.{around, end_of};
 ghost use Rattle.ylive_retell.specs.IsTold.{IsFresh, IsTold};
 ghost use Rattle.ylive_retell.specs.Reads.{IsNarrow, moved_pairs, row_reads};
 ghost use Rattle.ylive_retell.specs.Standing.{Every, standing};
-ghost use Rattle.ylive_edit.specs.Places.{Amends, HangsPart, HoldsTold, IsAt, IsPart, IsPartThere, IsSomewhere, Shows, Swapping, branch_of};
+ghost use Rattle.ylive_edit.specs.Places.{Amends, Carries, HangsPart, HoldsTold, IsAt, IsPart, IsPartThere, IsSomewhere, Shows, Swapping, branch_of};
 ghost use Rattle.ylive_edit.specs.Reads.{ReadsWithin, exchange_reads, row_target};
 
 use std::alloc::AllocError;
@@ -37,20 +37,20 @@ pub fn add_part(
     counted: &mut Counted<'_>,
     schema: &Schema,
     above: Row,
-    part: &Stored,
+    part: Stored,
 ) -> Result<(), EditFault>
     requires at { IsSomewhere (schema_view.view schema.now) (store_of counted.old) above }
-    requires sorted { IsSorted (view part.now).1 }
+    requires sorted { IsSorted (view part).1 }
     ensures amends { let s = schema_view.view schema.now in
         (tree : document.Tree) (steps : List Step) (f : Branches)
         → IsAt s (store_of counted.old) tree steps above f
-        → Amends s tree (within_limit (edit_at steps (with_branch (branch_of part.now)) tree))
+        → Amends s tree (within_limit (edit_at steps (with_branch (branch_of part)) tree))
         (store_of counted.new) result }
     ensures reads { let s = schema_view.view schema.now in
         (tree : document.Tree) (steps : List Step) (f : Branches) (last : BoundStep)
         → IsAt s (store_of counted.old) tree steps above f → Fits s tree
-        → IfOk (within_limit (edit_at steps (with_branch (branch_of part.now)) tree)) (Fits s)
-        → ReadsWithin (exchange_reads s tree (comes (row_target steps f last) (branch_of part.now)))
+        → IfOk (within_limit (edit_at steps (with_branch (branch_of part)) tree)) (Fits s)
+        → ReadsWithin (exchange_reads s tree (comes (row_target steps f last) (branch_of part)))
         (store_of counted.old) (store_of counted.new) result }
     ensures same_reference { lent counted.new ≡ lent counted.old }
 {
@@ -65,29 +65,35 @@ pub(crate) fn hang_part(
     counted: &mut Counted<'_>,
     schema: &Schema,
     above: Row,
-    part: &Stored,
+    part: Stored,
     most: usize,
 ) -> Result<bool, AllocError>
     requires at { IsSomewhere (schema_view.view schema.now) (store_of counted.old) above }
-    requires sorted { IsSorted (view part.now).1 }
+    requires sorted { IsSorted (view part).1 }
     requires most { most ≤ 2 ^ 28 }
     ensures hangs { let s = schema_view.view schema.now in
         (tree : document.Tree) (steps : List Step) (f : Branches)
         → IsAt s (store_of counted.old) tree steps above f
-        → IfOk result (HangsPart s most tree (edit_at steps (with_branch (branch_of part.now)) tree)
+        → IfOk result (HangsPart s most tree (edit_at steps (with_branch (branch_of part)) tree)
         (store_of counted.new)) }
+    ensures carries { let s = schema_view.view schema.now in
+        (tree : document.Tree) (steps : List Step) (f : Branches)
+        → (at : IsAt s (store_of counted.old) tree steps above f)
+        → IfOk result (λ hung. hung ≡ true → Carries s (store_of counted.new) at.way
+        (with_branch (branch_of part) (tree_of f))) }
     ensures shows { let s = schema_view.view schema.now in (tree : document.Tree) (steps : List Step) (f : Branches)
         → IsAt s (store_of counted.old) tree steps above f
         → OnErr result (Shows (store_of counted.new) tree) }
     ensures reads { let s = schema_view.view schema.now in
         (tree : document.Tree) (steps : List Step) (f : Branches) (last : BoundStep)
         → IsAt s (store_of counted.old) tree steps above f → Fits s tree
-        → (size (edit_at steps (with_branch (branch_of part.now)) tree) ≤ most
-        → Fits s (edit_at steps (with_branch (branch_of part.now)) tree))
+        → (size (edit_at steps (with_branch (branch_of part)) tree) ≤ most
+        → Fits s (edit_at steps (with_branch (branch_of part)) tree))
         → OnOk result (reads (store_of counted.new) ≤ reads (store_of counted.old)
-        + exchange_reads s tree (comes (row_target steps f last) (branch_of part.now))) }
+        + exchange_reads s tree (comes (row_target steps f last) (branch_of part))) }
     ensures same_reference { lent counted.new ≡ lent counted.old }
 {
+    let of = part.id();
     let mut numbers = Vec::new(counted.alloc());
     let new = insert_part(counted, schema, above, part, &mut numbers)?;
     if counted.node_count() > most {
@@ -96,7 +102,7 @@ pub(crate) fn hang_part(
     }
     let swap = Swap {
         above,
-        schema: part.id(),
+        schema: of,
         change: Change::Add { new },
     };
     change_row(counted, schema, swap, &[], &numbers)?;
@@ -111,26 +117,27 @@ pub fn put_part(
     above: Row,
     old: NodeId,
     old_numbers: &[NodeId],
-    part: &Stored,
+    part: Stored,
 ) -> Result<(), EditFault>
     requires at { (index : ℕ) × IsPartThere (schema_view.view schema.now) (store_of counted.old) above
-        (view part.now).0.schema_number index old old_numbers.now }
-    requires sorted { IsSorted (view part.now).1 }
+        (view part).0.schema_number index old old_numbers.now }
+    requires sorted { IsSorted (view part).1 }
     ensures amends { let s = schema_view.view schema.now in
         (tree : document.Tree) (steps : List Step) (f : Branches) (step : Step) (of : SchemaId)
         → IsAt s (store_of counted.old) tree steps above f → IsPart step of old old_numbers.now f
-        → (view part.now).0.schema_number ≡ of.0
-        → Amends s tree (within_limit (edit_at steps (with_instead step (branch_of part.now)) tree))
+        → (view part).0.schema_number ≡ of.0
+        → Amends s tree (within_limit (edit_at steps (with_instead step (branch_of part)) tree))
         (store_of counted.new) result }
     ensures reads { let s = schema_view.view schema.now in
         (tree : document.Tree) (steps : List Step) (f : Branches) (last : BoundStep) (step : Step) (of : SchemaId)
         → IsAt s (store_of counted.old) tree steps above f → IsPart step of old old_numbers.now f
-        → (view part.now).0.schema_number ≡ of.0 → Fits s tree
-        → IfOk (within_limit (edit_at steps (with_instead step (branch_of part.now)) tree)) (Fits s)
-        → ReadsWithin (exchange_reads s tree (gives_way (row_target steps f last) step (branch_of part.now)))
+        → (view part).0.schema_number ≡ of.0 → Fits s tree
+        → IfOk (within_limit (edit_at steps (with_instead step (branch_of part)) tree)) (Fits s)
+        → ReadsWithin (exchange_reads s tree (gives_way (row_target steps f last) step (branch_of part)))
         (store_of counted.old) (store_of counted.new) result }
     ensures same_reference { lent counted.new ≡ lent counted.old }
 {
+    let of = part.id();
     let mut numbers = Vec::new(counted.alloc());
     let new = insert_part(counted, schema, above, part, &mut numbers)?;
     if counted.node_count().saturating_sub(old_numbers.len()) > DOCUMENT_LIMIT {
@@ -139,7 +146,7 @@ pub fn put_part(
     }
     let swap = Swap {
         above,
-        schema: part.id(),
+        schema: of,
         change: Change::Put { old, new },
     };
     change_row(counted, schema, swap, old_numbers, &numbers)?;

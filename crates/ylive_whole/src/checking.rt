@@ -72,7 +72,7 @@ fn check_under(
     ensures memory { IfErr result TellsOrMemory }
 {
     match read(alloc, &schema, document) {
-        Ok(tree) => match Live::open(alloc, schema, tree) {
+        Ok(tree) => match Live::from_parts(alloc, schema, tree) {
             Ok(live) => match check_live(live, edits) {
                 Ok(checked) => Ok(checked),
                 Err(_) => Err(CheckFault::Memory),

@@ -73,8 +73,8 @@ of_modules =
     (codes "the node") (codes "Take config true out, or write config false; give the list a key.") (codes "RFC 7950, 7.8.2 and 7.21.1") ∷
     said (codes "C17") (codes "The path of a leafref leads nowhere, to no leaf, in a circle, or from configuration to state.")
     (codes "the leaf or leaf-list") (codes "Name each data node on the way with its prefix; write require-instance false where configuration may refer to state.") (codes "RFC 7950, 9.9") ∷
-    said (codes "C18") (codes "The modules define more than 65,535 nodes, or nodes stand more than 60 deep.")
-    (codes "the module that is given last") (codes "Give fewer modules at once.") (codes "a limit of this program") ∷
+    said (codes "C18") (codes "The modules define more than 65,535 nodes, nodes stand more than 60 deep, or a union has more than 65,535 members.")
+    (codes "the module that is given last, or the union's type") (codes "Give fewer modules at once; name each member of a union once.") (codes "a limit of this program") ∷
     []
 
 -- documents

@@ -187,9 +187,9 @@ const OF_MODULES: &[Explanation] = &[
     },
     Explanation {
         code: "C18",
-        cause: "The modules define more than 65,535 nodes, or nodes stand more than 60 deep.",
-        place: "the module that is given last",
-        remedy: "Give fewer modules at once.",
+        cause: "The modules define more than 65,535 nodes, nodes stand more than 60 deep, or a union has more than 65,535 members.",
+        place: "the module that is given last, or the union's type",
+        remedy: "Give fewer modules at once; name each member of a union once.",
         source: "a limit of this program",
     },
 ];

@@ -24,8 +24,8 @@ use Rattle.ycheck.specs.declared.fault.Fault as ycheck
 use Rattle.ysay_fault.specs.Fellows.{first_other, fellow_by}
 use Rattle.ysay_fault.specs.FoundFellows.{each_in, fellow_asked, fellow_at, fellow_by_that, fellow_of, fellows_in}
 use Rattle.ysay_fault.specs.Others.{first_same, others_from}
-use Rattle.ysay_fault.specs.Places.{last_step, nth_instance, row_at, steps_above}
-use Rattle.ysay_fault.proofs.PlaceLemmas.{last_seen, above_seen}
+use Rattle.ysay_place.specs.Places.{last_step, nth_instance, row_at, steps_above}
+use Rattle.ysay_place.proofs.PlaceLemmas.{last_seen, above_seen}
 
 -- ---- each instance
 

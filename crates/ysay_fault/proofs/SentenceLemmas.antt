@@ -13,9 +13,9 @@ use Rattle.yinst_tree.specs.declared.tree.Step as code
 use Rattle.ycheck.specs.View.{code_view}
 use Rattle.ycheck.specs.declared.fault.FaultCode.{FaultCode}
 use Rattle.ycheck.specs.declared.fault.FaultCode.TheVariants as words
-use Rattle.ysay_fault.specs.Places.{row_at, steps_above}
+use Rattle.ysay_place.specs.Places.{row_at, steps_above}
 use Rattle.ysay_fault.specs.Sentences.{plain_sentence, sentence_at, sentence_to, message_to, own_message}
-use Rattle.ysay_fault.proofs.PlaceLemmas.{last_seen, above_seen}
+use Rattle.ysay_place.proofs.PlaceLemmas.{last_seen, above_seen}
 
 module _ (schema : Schema) (tree row : Tree) (info : Info) (steps above : List code.Step) (step : code.Step) (k v : FaultCode)
     (parted : steps ≡ above ++ step ∷ []) (row_is : row ≡ row_at tree (place_view above)) (code_is : k ≡ v) where

@@ -7,7 +7,7 @@ use Rattle.yspec.specs.schema.Schema.{Schema}
 use Rattle.yspec.specs.document.Document.{Stored, Tree, Step, step_at, instances}
 use Rattle.yspec.specs.document.Instances.{tuple, is_tuple, value_of, is_value}
 use Rattle.yspec.specs.document.Path.{path_text}
-use Rattle.ysay_fault.specs.Places.{instance_to}
+use Rattle.ysay_place.specs.Places.{instance_to}
 
 -- the position of the first instance but the one at a position that passes a test; the first one has the second position
 abbrev pub first_other : ℕ → ℕ → (Stored → Tree → Bool) → Tree → Option ℕ

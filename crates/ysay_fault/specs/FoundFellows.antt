@@ -1,5 +1,5 @@
 -- The fellows of all instances of a schema node in a row, and the fellow that a fault tells of.
-use Rattle.std.specs.Prelude.{◌≡◌, ℕ, ◌==◌, List, [], ◌∷◌, Option, Some, None, map, option_and_then, if◌then◌else◌}
+use Rattle.std.specs.Prelude.{◌≡◌, ℕ, ◌==◌, List, [], ◌∷◌, Option, Some, None, option_and_then, if◌then◌else◌}
 use Rattle.std.specs.List.{All}
 use Rattle.yspec.specs.Forest.{end, node}
 use Rattle.yspec.specs.types.Order.{same_value}
@@ -11,7 +11,7 @@ use Rattle.yspec.specs.document.Instances.{tuple, value_of, same_tuple}
 use Rattle.yinst_tree.specs.View.{place_view}
 use Rattle.ysay_fault.specs.Fellows.{fellow_entry, fellow_item}
 use Rattle.ysay_fault.specs.Others.{others_from}
-use Rattle.ysay_fault.specs.Places.{last_step, row_at, steps_above}
+use Rattle.ysay_place.specs.Places.{last_step, row_at, steps_above}
 use Rattle.ysay_fault.specs.Sentences.{unique_in}
 use Rattle.ysay_fault.specs.declared.known.KnownRow.{KnownRow}
 use Rattle.ysay_fault.specs.declared.known.KnownRows.{KnownRows}

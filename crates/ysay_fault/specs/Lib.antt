@@ -1,16 +1,6 @@
 pub mod Cases
 pub mod Fellows
 pub mod FoundFellows
-pub mod IdentityWords
-pub mod Instances
-pub mod Joining
-pub mod KeyedPath
-pub mod Messages
-pub mod NearWords
 pub mod Others
-pub mod Places
 pub mod Sentences
-pub mod TakenWords
-pub mod TupleWords
-pub mod Values
 pub mod Writing

@@ -1,26 +1,26 @@
 -- What is said of a fault of a document: a path, and what is there or is missing.
-use Rattle.std.specs.Prelude.{ℕ, ◌++◌, ◌==◌, List, [], ◌∷◌, codes, decimal, map, Option, Some, None, option_and_then, unwrap_or, if◌then◌else◌}
+use Rattle.std.specs.Prelude.{ℕ, ◌++◌, List, [], codes, decimal, Option, Some, None, option_and_then, unwrap_or}
 use Rattle.std.specs.Option.{option_map_or}
-use Rattle.yspec.specs.Forest.{Forest, end, node}
+use Rattle.yspec.specs.Forest.{Forest}
 use Rattle.yspec.specs.text.Text.{Text}
-use Rattle.yspec.specs.types.Types.{Raw, text}
-use Rattle.yspec.specs.schema.Schema.{Schema, SchemaNode, Kind, list, leaf_list, Amount, node_at, children_of, written_name, data_way_to}
-use Rattle.yspec.specs.document.Document.{Tree, Step, step_to, instances_in}
+use Rattle.yspec.specs.types.Types.{Raw}
+use Rattle.yspec.specs.schema.Schema.{Schema, SchemaNode, Kind, list, leaf_list, Amount, node_at, children_of, written_name}
+use Rattle.yspec.specs.document.Document.{Tree, Step, instances_in}
 use Rattle.yspec.specs.document.FaultCode.{FaultCode, V1, V2, V3, V4, V5, V6, V7, V8, V9, V10, V11, V12}
 use Rattle.yspec.specs.document.Fault.{Fault, Info, choice_name, unique_number}
 use Rattle.yspec.specs.document.Path.{path_text, module_after}
 use Rattle.ysay_text.specs.Control.{visible}
-use Rattle.ysay_text.specs.Near.{nearest}
-use Rattle.ysay_fault.specs.Places.{instance_to, row_to, row_at, last_step, steps_above}
-use Rattle.ysay_fault.specs.Values.{value_text}
-use Rattle.ysay_fault.specs.KeyedPath.{keyed_path}
+use Rattle.ysay_place.specs.Places.{instance_to, row_to, row_at, last_step, steps_above}
+use Rattle.ysay_value.specs.Values.{value_text}
+use Rattle.ysay_place.specs.KeyedPath.{keyed_path}
 use Rattle.ysay_fault.specs.Fellows.{fellow_entry, fellow_item, fellow_text}
 use Rattle.ysay_fault.specs.Cases.{stored_case_names}
-use Rattle.ysay_fault.specs.NearWords.{near_words}
-use Rattle.ysay_fault.specs.IdentityWords.{hint_words}
-use Rattle.ysay_fault.specs.TakenWords.{taken_words}
-use Rattle.ysay_fault.specs.Messages.{type_at, message_at, message_words}
-use Rattle.ysay_fault.specs.TupleWords.{keys_at, keys_said, unique_at, leafs_said}
+use Rattle.ysay_value.specs.NearWords.{near_words, nearest_target}
+use Rattle.ysay_place.specs.Targets.{target_path}
+use Rattle.ysay_value.specs.IdentityWords.{hint_words}
+use Rattle.ysay_value.specs.TakenWords.{taken_words}
+use Rattle.ysay_value.specs.Messages.{type_at, message_at, message_words}
+use Rattle.ysay_value.specs.TupleWords.{keys_at, keys_said, unique_at, leafs_said}
 
 -- ---- what the schema says
 
@@ -44,36 +44,8 @@ amount_in _ = None
 abbrev pub amount_at : Schema → ℕ → Option Amount
 amount_at schema number = option_and_then (λ n. amount_in n.kind) (node_at schema number)
 
-abbrev pub steps_of : List SchemaNode → List Step
-steps_of nodes = map (λ n. step_to n.number) nodes
-
--- the path of the node to which a leafref refers, through data nodes alone
-abbrev pub target_path : Schema → Option ℕ → Text
-target_path schema target =
-    option_map_or (λ number. path_text schema (steps_of (data_way_to schema number))) target (codes "its target")
-
 abbrev pub target_at : Schema → ℕ → Option ℕ
 target_at schema number = option_and_then (λ t. t.target) (type_at schema number)
-
--- ---- what is near to a value that no instance of a target has
-
-abbrev pub texts_in : Option Raw → List Text
-texts_in (Some (text t)) = t ∷ []
-texts_in _ = []
-
--- the texts that the instances at the end of a way have, in order
-abbrev pub texts_on : List Step → Tree → List Text
-texts_on [] row = []
-texts_on (step ∷ way) end = []
-texts_on (step ∷ way) (node s below after) =
-    (if s.schema_number == step.schema_number then texts_in s.value ++ texts_on way below else [])
-    ++ texts_on (step ∷ way) after
-
--- the one of them that is nearest to a text
-abbrev pub nearest_target : Schema → Tree → Option ℕ → Option Raw → Option Text
-nearest_target schema tree (Some target) (Some (text t)) =
-    nearest t (texts_on (steps_of (data_way_to schema target)) tree)
-nearest_target schema tree _ _ = None
 
 -- ---- where nodes may stand
 

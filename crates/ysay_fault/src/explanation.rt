@@ -8,14 +8,12 @@ ghost use Rattle.yschema_model.specs.View as schema_view;
 ghost use Rattle.yinst_tree.specs.View as document_view;
 ghost use Rattle.ycheck.specs.View as fault_view;
 ghost use Rattle.ysay_fault.specs.FoundFellows as found;
-ghost use Rattle.ysay_fault.specs.Places as places;
+ghost use Rattle.ysay_place.specs.Places as places;
 ghost use Rattle.ysay_fault.specs.Sentences as spec;
 ghost use Rattle.ysay_fault.specs.Writing.{WritesOrRunsOut};
 
 use crate::fault::ExplanationFault;
 use crate::known::fellow_of;
-use crate::path::{keyed_path, position_path};
-use crate::place::row_at;
 use crate::sentences::{
     message_to, missing_key, missing_leaf, no_case, no_target, same_item, same_key, same_unique,
     several_cases, state_stored, too_few, too_many, wrong_value,
@@ -24,6 +22,7 @@ use std::alloc::{AllocError, Global};
 use ybase_output::{Sink, write_all};
 use ycheck::{Fault, FaultCode, Info};
 use yinst_tree::{Step, Tree};
+use ysay_place::{keyed_path, position_path, row_at};
 use ysay_text::visible;
 use yschema_model::Schema;
 

@@ -6,11 +6,10 @@ ghost use Rattle.yschema_model.specs.View as schema_view;
 ghost use Rattle.yinst_tree.specs.View as document_view;
 ghost use Rattle.ysay_fault.specs.Fellows as spec;
 
-use crate::path::position_path;
-use crate::place::instance_to;
 use std::alloc::{AllocError, Global};
 use ycheck::{tuple_of, value_of};
 use yinst_tree::{Step, Stored};
+use ysay_place::{instance_to, position_path};
 use yschema_model::{Kind, Schema, SchemaId};
 use ytype::Val;
 

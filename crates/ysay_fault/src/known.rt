@@ -1,6 +1,6 @@
 //! The fellows that faults tell of, each row gone through once.
 
-ghost use Rattle.std.specs.Prelude.{◌≡◌, ◌<◌, ◌-◌, ℕ, IfOk, IfSome, OnOk, map, option_and_then, option_map, slice_get, true};
+ghost use Rattle.std.specs.Prelude.{◌≡◌, ◌<◌, ◌-◌, IfOk, IfSome, OnOk, map, option_and_then, option_map, slice_get, true};
 ghost use Rattle.yspec.specs.document.Document as document_spec;
 ghost use Rattle.yspec.specs.document.Document.{step_at};
 ghost use Rattle.yspec.specs.document.Instances.{tuple, value_of};
@@ -9,16 +9,16 @@ ghost use Rattle.yschema_model.specs.View as schema_view;
 ghost use Rattle.yinst_tree.specs.View as document_view;
 ghost use Rattle.ycheck.specs.View as fault_view;
 ghost use Rattle.ysay_fault.specs.FoundFellows as spec;
-ghost use Rattle.ysay_fault.specs.Places as places;
+ghost use Rattle.ysay_place.specs.Places as places;
 
 use crate::explanation::unique_in;
 use crate::fellows::{entry_tuple, fellow_entry, fellow_item};
 use crate::others::others_of;
-use crate::place::row_at;
 use std::alloc::{AllocError, Global};
 use std::collections::BTreeMap;
 use ycheck::{Fault, FaultCode, Info, value_of};
 use yinst_tree::{Step, Stored, Tree};
+use ysay_place::row_at;
 use yschema_model::{Schema, SchemaId};
 use ytype::Val;
 

@@ -5,20 +5,10 @@ mod cases;
 mod explanation;
 mod fault;
 mod fellows;
-mod identities;
-mod joining;
 mod known;
 mod laws;
-mod messages;
-mod near;
 mod others;
-mod path;
-mod place;
 mod sentences;
-mod taken;
-mod target;
-mod tuples;
-mod values;
 
 pub use explanation::{
     explanation_of, explanation_with_fellow, fault_path, own_message, sentence,
@@ -27,4 +17,4 @@ pub use explanation::{
 pub use fault::ExplanationFault;
 pub use known::{fellow_of, fellows_of};
 pub use laws::{fellow_is_another, repeated_has_fellow};
-pub use path::{keyed_path, position_path};
+pub use ysay_place::{keyed_path, position_path};

@@ -1,6 +1,6 @@
 //! Of keys that may be missing, the first other one that is the same.
 
-ghost use Rattle.std.specs.Prelude.{◌≡◌, ℕ, IfOk};
+ghost use Rattle.std.specs.Prelude.{◌≡◌, IfOk};
 ghost use Rattle.std.specs.Ordering.{eq_by_cmp, is_eq};
 ghost use Rattle.std.specs.Map.{lookup};
 ghost use Rattle.ysay_fault.specs.Others as spec;

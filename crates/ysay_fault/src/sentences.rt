@@ -2,31 +2,26 @@
 
 ghost use Rattle.std.specs.Prelude.{◌≡◌, IfOk, option_and_then, option_map, string_bytes, true, unwrap_or};
 ghost use Rattle.std.specs.Option.{option_map_or};
-ghost use Rattle.yspec.specs.document.Document.{instances_in};
 ghost use Rattle.yspec.specs.document.Sorting.{IsSorted};
 ghost use Rattle.ytype.specs.View as held;
 ghost use Rattle.yschema_model.specs.Layout.{amount_view, number_of};
 ghost use Rattle.yschema_model.specs.View as schema_view;
 ghost use Rattle.yinst_tree.specs.View as document_view;
 ghost use Rattle.ysay_fault.specs.Fellows.{fellow_entry, fellow_item};
-ghost use Rattle.ysay_fault.specs.Messages.{message_words};
-ghost use Rattle.ysay_fault.specs.Values as values;
+ghost use Rattle.ysay_value.specs.Messages.{message_words};
+ghost use Rattle.ysay_value.specs.Values as values;
 ghost use Rattle.ysay_fault.specs.Sentences as spec;
 
 use crate::cases::stored_case_names;
 use crate::fellows::fellow_text;
-use crate::identities::hint_words;
-use crate::messages::{message_at, message_words, type_at};
-use crate::near::near_words;
-use crate::path::module_at;
-use crate::place::{count_of, instance_found, row_at, row_found};
-use crate::taken::taken_words;
-use crate::target::target_path;
-use crate::tuples::{keys_at, keys_said, leafs_said, unique_at};
-use crate::values::value_text;
 use itoa::Buffer;
 use std::alloc::{AllocError, Global};
 use yinst_tree::{Step, Stored, Tree};
+use ysay_place::{count_of, instance_found, module_at, row_at, row_found, target_path};
+use ysay_value::{
+    hint_words, keys_at, keys_said, leafs_said, message_at, message_words, near_words, taken_words,
+    type_at, unique_at, value_text,
+};
 use yschema_model::{Amount, Children, Kind, Schema, SchemaId};
 use ytype::Raw;
 

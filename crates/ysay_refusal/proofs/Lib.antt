@@ -1,5 +1,2 @@
 pub mod NodeLemmas
 pub mod MemberLemmas
-pub mod PartLemmas
-pub mod SpellingLemmas
-pub mod SpellingLaws

@@ -1,4 +1,4 @@
--- Documents and edits that are refused under a module, and what is said of them.
+-- Documents that are refused under a module, and what is said of them.
 use Rattle.std.specs.Prelude.{ℕ, [], codes, List, Result, Ok, Err}
 use Rattle.std.specs.Option.{option_map_or}
 use Rattle.yspec.specs.text.Text.{Text}
@@ -8,9 +8,7 @@ use Rattle.yspec.specs.schema.Schema.{Schema}
 use Rattle.yspec.specs.linking.Compiling.{schema_of}
 use Rattle.yspec.specs.document.Document.{Tree}
 use Rattle.yspec.specs.document.Reading.{Refusal, document_of}
-use Rattle.yspec.specs.edit.EditText.{edit_of}
 use Rattle.yspec.specs.edit.Examples.{module_text}
-use Rattle.ysay_refusal.specs.Part.{said_of_edit}
 use Rattle.ysay_refusal.specs.Sentence.{said_of_refusal}
 
 abbrev pub said_of : Schema → List ℕ → Result Tree Refusal → Text
@@ -23,9 +21,4 @@ lines = codes "  container host {\n    leaf name { type string; }\n    leaf-list
 -- what is said of a document under a module p of these lines
 abbrev pub said_under : Text → Text
 said_under document = option_map_or (λ m. said_of (schema_of m) document (document_of (schema_of m) document))
-    (result_ok (module_of (module_text (codes "p") lines))) []
-
--- and of the edit that a text spells, where it is refused with this number
-abbrev pub edit_under : ℕ → Text → Text
-edit_under code text = option_map_or (λ m. option_map_or (λ e. said_of_edit (schema_of m) e code) (edit_of text) [])
     (result_ok (module_of (module_text (codes "p") lines))) []

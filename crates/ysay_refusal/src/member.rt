@@ -128,7 +128,7 @@ fn due_among(
 }
 
 /// The name that is due in place of one in the other form.
-pub(crate) fn due_name(
+pub fn due_name(
     alloc: Global,
     schema: &Schema,
     parent: Option<SchemaId>,
@@ -270,7 +270,7 @@ fn near_among(
 }
 
 /// The nearest of the names that may stand there.
-pub(crate) fn near_name(
+pub fn near_name(
     alloc: Global,
     schema: &Schema,
     parent: Option<SchemaId>,

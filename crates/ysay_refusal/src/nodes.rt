@@ -13,7 +13,7 @@ use std::alloc::{AllocError, Global};
 use yschema_model::{Child, Children, Schema, SchemaId};
 
 /// The module of a node; none at the top.
-pub(crate) fn module_of(schema: &Schema, id: Option<SchemaId>) -> Option<usize>
+pub fn module_of(schema: &Schema, id: Option<SchemaId>) -> Option<usize>
     ensures { result ≡ schema_spec.module_at (view schema.now) (number_of id) }
 {
     match schema.kind(id?) {

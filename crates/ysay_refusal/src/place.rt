@@ -57,7 +57,7 @@ fn module_after(schema: &Schema, step: &Step) -> Option<usize>
 }
 
 /// The value to which steps lead from that of a node of a module, or from the top.
-pub(crate) fn value_from<'a>(
+pub fn value_from<'a>(
     alloc: Global,
     schema: &Schema,
     parent_module: Option<usize>,
@@ -81,7 +81,7 @@ pub(crate) fn value_from<'a>(
 }
 
 /// The last step to a place.
-pub(crate) fn last_step(steps: &[Step]) -> Option<&Step>
+pub fn last_step(steps: &[Step]) -> Option<&Step>
     ensures { option_map (λ step. step_view step.now) result
         ≡ spec.last_step (place_view steps.now) }
 {

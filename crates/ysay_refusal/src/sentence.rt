@@ -32,11 +32,8 @@ fn unknown_near(alloc: Global, name: &str, near: &str) -> Result<String, AllocEr
     .concat(alloc)
 }
 
-pub(crate) fn unknown_member(
-    alloc: Global,
-    name: &str,
-    near: Option<String>,
-) -> Result<String, AllocError>
+/// That nothing is called so, with the name that is near if one is.
+pub fn unknown_member(alloc: Global, name: &str, near: Option<String>) -> Result<String, AllocError>
     ensures { IfOk result (λ text. string_bytes text
         ≡ spec.unknown_member name.now (option_map string_bytes near)) }
 {
@@ -54,11 +51,8 @@ fn written_otherwise(alloc: Global, name: &str, due: &str) -> Result<String, All
     ["here \"", name, "\" is written ", due, "."].concat(alloc)
 }
 
-pub(crate) fn other_member(
-    alloc: Global,
-    name: &str,
-    due: Option<String>,
-) -> Result<String, AllocError>
+/// How a member is written that stands in the other form; nothing where it isn't one that is due.
+pub fn other_member(alloc: Global, name: &str, due: Option<String>) -> Result<String, AllocError>
     ensures { IfOk result (λ text. string_bytes text
         ≡ spec.other_member name.now (option_map string_bytes due)) }
 {
@@ -185,7 +179,7 @@ fn of_kind(
 // ---- all
 
 /// Of the value at the place of a refusal, by the last step to it.
-pub(crate) fn said_at(
+pub fn said_at(
     alloc: Global,
     schema: &Schema,
     code: DocCode,

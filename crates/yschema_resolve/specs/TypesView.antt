@@ -6,7 +6,7 @@ use Rattle.yspec.specs.linking.TypeStatements as spec
 use Rattle.yspec.specs.linking.Planned.{Planned, Plan, nodes_of, meant_in, target_of, type_of, is_on_circle}
 use Rattle.yspec.specs.linking.SchemaNodes.{number_in}
 use Rattle.ylink.specs.TypeView.{meant_view}
-use Rattle.ylink.specs.declared.types.Meant.{Meant}
+use Rattle.ylink_types.specs.declared.types.Meant.{Meant}
 use Rattle.ybase_graph.specs.declared.chains.Chain.{Chain}
 use Rattle.yschema_resolve.specs.ChainTypes.{own_type, as_meant}
 use Rattle.yschema_resolve.specs.ModulesView.{names_in}

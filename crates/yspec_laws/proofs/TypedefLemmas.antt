@@ -17,8 +17,8 @@ use Rattle.yspec.proofs.LinkingProofs.NumberedLemmas.{size-numbered}
 use Rattle.ybase_graph.specs.Reaching.{HasEdge}
 use Rattle.ybase_preorder.proofs.NumberLemmas.{AreFrom, from_append, found_among}
 use Rattle.ylink_names.proofs.PlacedLemmas.{number_of}
-use Rattle.ylink.proofs.KnownLemmas.{same_known}
-use Rattle.ylink.proofs.OrderLemmas.{straight}
+use Rattle.ylink_types.proofs.KnownLemmas.{same_known}
+use Rattle.ylink_types.proofs.OrderLemmas.{straight}
 use Rattle.yspec_laws.proofs.ListLemmas.{fewer}
 use Rattle.yspec_laws.proofs.RankLemmas.{rank, rank_most, settled, IsStraight}
 

@@ -12,9 +12,9 @@ use Rattle.yspec.specs.document.Reading.{Refusal}
 use Rattle.ysay_text.specs.Line.{shown, shown_line}
 use Rattle.ysay_text.specs.Sentence.{of_line}
 use Rattle.yspec.specs.edit.EditText.{Edit}
-use Rattle.ysay_refusal.specs.Part.{said_of_edit}
+use Rattle.ysay_edit.specs.Part.{said_of_edit}
 use Rattle.ysay_refusal.specs.Sentence.{said_of_refusal}
-use Rattle.ysay_refusal.specs.Spelling.{said_of_line}
+use Rattle.ysay_edit.specs.Spelling.{said_of_line}
 use Rattle.ysay_repeated.specs.Said.{said_of_repeated}
 use Rattle.yspec_run.specs.Part.{Part}
 

@@ -1,6 +1,6 @@
 -- Expressions of `if-feature`: what spells one, and when it holds (RFC 7950, 7.20.2, and `if-feature-expr` of 14; RFC 6020,
 -- 7.18.2).
-use Rattle.std.specs.Prelude.{ℕ, zero, suc, ◌+◌, ◌*◌, ◌==◌, ◌&&◌, ◌||◌, Bool, not, List, [], ◌∷◌, ◌++◌, length, codes, Option, Some, None, option_map, if◌then◌else◌}
+use Rattle.std.specs.Prelude.{ℕ, zero, suc, ◌+◌, ◌*◌, ◌==◌, ◌&&◌, ◌||◌, Bool, not, List, [], ◌∷◌, ◌++◌, length, codes, Option, Some, None, nat_lt, option_map, if◌then◌else◌}
 use Rattle.yspec.specs.text.Text.{Text, is_text, is_white}
 use Rattle.yspec.specs.linking.Arguments.{Name, name_of}
 use Rattle.yspec_wide.specs.Language.{YangVersion, yang_1, yang_1_1}
@@ -113,9 +113,14 @@ abbrev pub all_read : Read → Option Expression
 all_read (Some (e, [])) = Some e
 all_read _ = None
 
+-- the most words and parentheses of an expression
+abbrev pub word_limit : ℕ
+word_limit = 127
+
 -- three steps a word are enough
 abbrev pub expression_read : List Token → Option Expression
-expression_read tokens = all_read (read (3 * length tokens + 3) expr tokens)
+expression_read tokens =
+    if nat_lt word_limit (length tokens) then None else all_read (read (3 * length tokens + 3) expr tokens)
 
 -- The expression that an argument spells, if it spells one; in YANG 1 it is the name of a feature.
 abbrev pub expression_of : YangVersion → Text → Option Expression

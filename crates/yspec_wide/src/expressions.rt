@@ -1,6 +1,7 @@
 //! Expressions of `if-feature`, worked out.
 
-ghost use Rattle.std.specs.Prelude.{◌≡◌, [], ◌∷◌, codes, Some, None, true, false};
+ghost use Rattle.std.specs.Prelude.{◌≡◌, List, [], ◌∷◌, codes, length, nat_lt, Some, None, true, false};
+ghost use Rattle.yspec_wide.specs.Expressions.{Token, expression_read};
 ghost use Rattle.yspec_wide.specs.Language.{yang_1, yang_1_1};
 ghost use Rattle.yspec_wide.specs.Samples.{all_tell};
 
@@ -21,6 +22,7 @@ pub fn refused()
         ≡ None ∷ None ∷ None ∷ None ∷ None ∷ None ∷ [] }
     ensures parentheses { all_tell yang_1_1 (codes "a" ∷ []) (codes "(a" ∷ codes "a)" ∷ codes "()" ∷ codes "(a) a" ∷ codes "p:" ∷ [])
         ≡ None ∷ None ∷ None ∷ None ∷ None ∷ [] }
+    ensures long { (tokens : List Token) → nat_lt 127 (length tokens) ≡ true → expression_read tokens ≡ None }
     ensures of_yang_1 { all_tell yang_1 (codes "a" ∷ codes "not" ∷ []) (codes "a" ∷ codes "p:a" ∷ codes "not" ∷ codes "not b" ∷ codes "(a)" ∷ codes " a" ∷ [])
         ≡ Some true ∷ Some true ∷ Some true ∷ None ∷ None ∷ None ∷ [] }
 {}

@@ -1,4 +1,4 @@
--- For callers: what growths make ready, what a loan leaves, and what is added to a row taken out again.
+-- For callers: what growths make ready, what a loan leaves, what is added to a row taken out again, and where a node is that stands once.
 use Rattle.std.proofs.Common.{◌≡◌, ◌+◌, ◌-◌, ◌<◌, ◌≤◌, ℕ, zero, suc, Bool, true, false, cond, List, [], ◌∷◌, length, Option, Some, None, option_map, refl, sym, subst, ap, ◌∙◌, arith, ltb, leb, insert, remove, one-add}
 use Rattle.std.specs.Prelude.{IfSome, unwrap_or}
 use Rattle.std.specs.List.{prefix_len}
@@ -12,6 +12,7 @@ use Rattle.ystore.specs.Rows.{Child, added, without_last, first_place, end_place
 use Rattle.ystore.specs.Store.{held_at, entry_at, loans, reads, has_room, is_awaited, ChangesEntry, MakesRoom}
 use Rattle.std.specs.Borrow.{GName}
 use Rattle.ystore.specs.Views.{Loan, lent, new_loan, store_of}
+pub use Rattle.ystore.proofs.NearLemmas.{near_once}
 use Rattle.ystore.specs.declared.key.Key.{Key}
 use Rattle.ystore.specs.declared.nodes.Nodes.{Nodes}
 use Rattle.ystore.specs.declared.nodes.counted.Counted.{Counted}

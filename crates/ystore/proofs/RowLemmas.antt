@@ -1,9 +1,9 @@
 -- Rows whose schema numbers ascend.
-use Rattle.std.proofs.Common.{◌≡◌, ℕ, zero, suc, ◌+◌, ◌-◌, ◌<◌, ◌≤◌, Bool, true, false, cond, List, [], ◌∷◌, length, get_or, set, take, drop, refl, sym, subst, ap, ◌∙◌, arith, ltb, leb, eqb, map, filter, insert, remove, min, not, slice_get, option_map, Option, Some, None, zero-add, suc-add, one-add, length-drop}
+use Rattle.std.proofs.Common.{◌≡◌, ℕ, zero, suc, ◌+◌, ◌-◌, ◌<◌, ◌≤◌, Bool, true, false, cond, List, [], ◌∷◌, length, get_or, set, take, drop, refl, sym, subst, ap, ◌∙◌, arith, ltb, leb, eqb, map, filter, insert, remove, min, not, slice_get, option_map, Some, None, zero-add, suc-add, one-add, length-drop}
 use Rattle.std.specs.List.{list_all, prefix_len}
 use Rattle.std.specs.Option.{option_map_or}
 use Rattle.std.specs.List.Sorted.{IsNonDecreasingBy, IsPartitionPoint}
-use Rattle.std.proofs.lemmas.Bool.{and_parts, and_from, leb-true, leb-false, ltb-true, ltb-false, le-leb, le-ltb, lt-ltb, eq-eqb, ne_eqb, eqb-true, eqb-false, false≢true}
+use Rattle.std.proofs.lemmas.Bool.{and_parts, and_from, leb-true, leb-false, ltb-true, ltb-false, le-leb, le-ltb, lt-ltb, eq-eqb, ne_eqb, eqb-true, eqb-false}
 use Rattle.std.proofs.lemmas.List.Sums.{prefix_len_is, prefix_len-le-length, passes_at_first}
 use Rattle.std.proofs.lemmas.List.{length-take-le, length-map}
 use Rattle.std.proofs.lemmas.Option.{slice_get-map, slice_get_past, none-some, same_Some}
@@ -359,7 +359,7 @@ place_in_row child (c ∷ cs) all =
         let start = first_is_start child.0 cs (follow_from (number child) c cs (omega (arith, eqb-true (number c) (number child) same)) parts.0) in
         rw (same, node, less) (ap (λ n. 1 + n) (later ∙ ap (λ f. cond (ltb index count) (f + index) (length cs)) start) ∙ one_further index count (length cs))
 
-entry_within : (node : NodeId) (ids : List NodeId) → entries.place_of node ids ≤ length ids
+pub entry_within : (node : NodeId) (ids : List NodeId) → entries.place_of node ids ≤ length ids
 entry_within node ids = prefix_len-le-length (λ n. not (eqb n.0 node.0)) ids
 
 -- no child of a row stands behind those of its schema node
@@ -458,59 +458,3 @@ pub none_shifted : (s : SchemaId) (from to at : ℕ) (row : List Child)
 none_shifted s from to at row is past =
     subst (λ (p : ℕ). row ≡ option_map_or (λ c. brought c to (remove row p)) (slice_get row p) row) is
     (sym (ap (λ o. option_map_or (λ c. brought c to (remove row at)) o row) (slice_get_past row at past)))
-
--- ---- a node that stands once
-
--- whether it is this node, if there is one
-abbrev pub is_node : NodeId → Option Child → Bool
-is_node node there = option_map_or (λ c. eqb c.1.0 node.0) there false
-
--- no node is this one among those that stand less far from a place
-abbrev pub NoneNear : NodeId → List Child → ℕ → ℕ → Type 0
-NoneNear node of near far = (k : ℕ) → near ≤ k + far → k < near + far → is_node node (slice_get of k) ≡ false
-
-is_there : (node : NodeId) (o : Option Child) → is_node node o ≡ true → option_map (λ c. c.1) o ≡ Some node
-is_there node (Some c) e = ap (λ (m : ℕ). let n : NodeId = record { 0 = m } in Some n) (eqb-true c.1.0 node.0 e)
-is_there node None e = absurd (false≢true e)
-
-is_other : (node : NodeId) (o : Option Child) → is_node node o ≡ false → option_map (λ c. c.1) o ≡ Some node → ⊥
-is_other node (Some c) e same =
-    let equal : eqb c.1.0 node.0 ≡ true = eq-eqb c.1.0 node.0 (ap (λ (n : NodeId). n.0) (same_Some c.1 node same)) in
-    false≢true (sym e ∙ equal)
-is_other node None e same = none-some node same
-
-pub near_is : (node : NodeId) (of : List Child) (k : ℕ) → entries.StandsOnce node (map (λ c. c.1) of) → is_node node (slice_get of k) ≡ true
-    → k ≡ entries.place_of node (map (λ c. c.1) of)
-near_is node of k once here =
-    let there : slice_get (map (λ c. c.1) of) k ≡ Some node = slice_get-map (λ c. c.1) of k ∙ is_there node (slice_get of k) here in
-    sym (first_is node (map (λ c. c.1) of) k (λ j less held. let same = once j k held there in absurd (omega (arith, less, same))) there)
-
-pub none_near : (node : NodeId) (of : List Child) (near far : ℕ) → near ≤ length of → length of ≤ far → NoneNear node of near far
-    → length of ≡ entries.place_of node (map (λ c. c.1) of)
-none_near node of near far within all none =
-    let long = length-map of (λ (c : Child). c.1) in
-    sym (none_is node (map (λ c. c.1) of) (λ j less held.
-    is_other node (slice_get of j) (none j (omega (arith, within, all)) (omega (arith, less, long, all))) (sym (slice_get-map (λ c. c.1) of j) ∙ held)) ∙ long)
-
-pub none_nearer : (node : NodeId) (of : List Child) (near far : ℕ) → NoneNear node of near far
-    → is_node node (slice_get of (near + far)) ≡ false → (far < near → is_node node (slice_get of (near - 1 - far)) ≡ false)
-    → NoneNear node of near (far + 1)
-none_nearer node of near far none ahead behind k from upto = by (ltb k (near + far)) refl (leb near (k + far)) refl
-  where
-    by : (is_before : Bool) → ltb k (near + far) ≡ is_before → (is_from : Bool) → leb near (k + far) ≡ is_from → is_node node (slice_get of k) ≡ false
-    by false e is_from f =
-        let past = ltb-false k (near + far) e in
-        let same : near + far ≡ k = omega (arith, past, upto) in
-        subst (λ (j : ℕ). is_node node (slice_get of j) ≡ false) same ahead
-    by true e true f = none k (leb-true near (k + far) f) (ltb-true k (near + far) e)
-    by true e false f =
-        let below = leb-false near (k + far) f in
-        let same : near - 1 - far ≡ k = omega (arith, below, from) in
-        subst (λ (j : ℕ). is_node node (slice_get of j) ≡ false) same (behind (omega (arith, below)))
-
--- what stands before a place, and from it on
-pub ahead_at : (near k : ℕ) (of : List Child) → slice_get (drop near of) k ≡ slice_get of (near + k)
-ahead_at near k of = dropped_at near k of
-
-pub behind_at : (near k : ℕ) (of : List Child) → k < near → slice_get (take near of) k ≡ slice_get of k
-behind_at near k of less = taken_at near k of less

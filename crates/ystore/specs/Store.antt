@@ -57,6 +57,10 @@ reads nodes = nodes.count.reads.calls
 abbrev pub node_count : Nodes → ℕ
 node_count nodes = slab.slab_len nodes.records
 
+-- at which place among those of its schema node a node was put in its row; rows alone say where it stands since
+abbrev pub place_put : Nodes → NodeId → ℕ
+place_put nodes id = option_map_or (λ r. r.place) (record_at nodes (Below id)) 0
+
 -- ---- parts of what is held
 
 abbrev pub label_at : Nodes → NodeId → Option Label

@@ -2,18 +2,20 @@
 
 ghost use Rattle.std.specs.Prelude.{◌≡◌, eqb, false, map, slice_get, true};
 ghost use Rattle.std.specs.Option.{option_map_or};
-ghost use Rattle.ystore.specs.Entries.{StandsOnce, place_of};
+ghost use Rattle.ystore.specs.Entries.{place_near};
 ghost use Rattle.ystore.specs.Rows.{ascends};
+ghost use Rattle.ystore.specs.Shelf.{shelved};
 
 use crate::row::NodeId;
+use crate::shelf::Shelf;
 use std::alloc::{AllocError, Global};
 use yschema_model::SchemaId;
 
 /// The nodes of a row, each with its schema node, by which they ascend.
 #[derive(Debug, Drop)]
 pub struct Children {
-    nodes: Vec<(SchemaId, NodeId)>,
-    ghost ascending: { ascends nodes.items ≡ true },
+    nodes: Shelf,
+    ghost ascending: { ascends (shelved nodes) ≡ true },
 }
 
 impl Children {
@@ -21,7 +23,6 @@ impl Children {
     ghost use Rattle.ystore.specs.Children.{nodes_of, room_of};
     ghost use Rattle.ystore.specs.Rows as rows;
     ghost use Rattle.ystore.specs.Entries as entries;
-    ghost use Rattle.ystore.specs.Entries.{StandsOnce};
 
     /// None, with room for so many.
     pub fn with_capacity(alloc: Global, room: usize) -> Result<Children, AllocError>
@@ -29,7 +30,7 @@ impl Children {
         ensures room { IfOk result (λ made. room_of made ≡ room) }
     {
         Ok(Children {
-            nodes: Vec::with_capacity(alloc, room)?,
+            nodes: Shelf::with_capacity(alloc, room)?,
         })
     }
 
@@ -39,7 +40,7 @@ impl Children {
         ensures room { room_of result ≡ 0 }
     {
         Children {
-            nodes: Vec::new(alloc),
+            nodes: Shelf::new(alloc),
         }
     }
 
@@ -55,7 +56,8 @@ impl Children {
         ensures place { result ≡ rows.first_place schema (nodes_of self.now) }
         ensures within { result ≤ length (nodes_of self.now) }
     {
-        self.nodes.partition_point(|child| child.0.0 < schema.0)
+        self.as_slice()
+            .partition_point(|child| child.0.0 < schema.0)
     }
 
     /// The place behind the last of a schema node.
@@ -63,7 +65,8 @@ impl Children {
         ensures place { result ≡ rows.end_place schema (nodes_of self.now) }
         ensures within { result ≤ length (nodes_of self.now) }
     {
-        self.nodes.partition_point(|child| child.0.0 <= schema.0)
+        self.as_slice()
+            .partition_point(|child| child.0.0 <= schema.0)
     }
 
     /// The place of a child, or the end.
@@ -87,7 +90,7 @@ impl Children {
     pub fn get(&self, place: usize) -> Option<NodeId>
         ensures { result ≡ option_map (λ c. c.1) (slice_get (nodes_of self.now) place) }
     {
-        match self.nodes.get(place) {
+        match self.as_slice().get(place) {
             Some(child) => Some(child.1),
             None => None,
         }
@@ -119,16 +122,15 @@ impl Children {
         count
     }
 
-    /// The same, where the node stands once among them; it is looked for from a place of the row on.
+    /// The one of them that is next to a place.
     pub fn index_near(&self, schema: SchemaId, node: NodeId, near: usize) -> usize
-        ensures { StandsOnce node (rows.of_schema schema (nodes_of self.now))
-            → result ≡ entries.place_of node (rows.of_schema schema (nodes_of self.now)) }
+        ensures { result ≡ entries.place_near near node (rows.of_schema schema (nodes_of self.now)) }
     {
         let first = self.first_place(schema);
         let end = self.end_place(schema);
         let (_, rest) = self.as_slice().split_at(first);
         let (of, _) = rest.split_at(end - first);
-        place_near(of, node, near.saturating_sub(first))
+        place_near(of, node, near)
     }
 
     /// The place in the row of a place among those of a schema node, or that behind them.
@@ -166,18 +168,19 @@ impl Children {
         ensures kept { room_of self.old ≤ room_of self.new }
         ensures err { OnErr result (room_of self.new ≡ room_of self.old) }
     {
-        self.nodes.reserve(1)
+        self.nodes.reserve()
     }
 
-    /// Adds a child behind those of its schema node, where there is room for one, and answers where in the row it stands.
+    /// Adds a child behind those of its schema node, where there is room for one, and answers its place among them.
     pub fn add(&mut self, child: (SchemaId, NodeId)) -> usize
         requires { length (nodes_of self.old) < room_of self.old }
         ensures nodes { nodes_of self.new ≡ rows.added child (nodes_of self.old) }
         ensures room { room_of self.new ≡ room_of self.old }
     {
+        let first = self.first_place(child.0);
         let place = self.end_place(child.0);
-        let _ = self.nodes.insert(place, child);
-        place
+        self.nodes.insert(place, child);
+        place.saturating_sub(first)
     }
 
     /// Adds a child at a place among those of its schema node, or behind them, where there is room for one.
@@ -187,20 +190,21 @@ impl Children {
         ensures room { room_of self.new ≡ room_of self.old }
     {
         let place = self.place_among(child.0, place);
-        let _ = self.nodes.insert(place, child);
+        self.nodes.insert(place, child);
     }
 
-    /// Puts another node of the same schema node in the place of a child, if it is there, and answers that place in the row, or
-    /// the end.
+    /// Puts another node of the same schema node in the place of a child, if it is there, and answers its place among those of
+    /// the schema node.
     pub fn put(&mut self, child: (SchemaId, NodeId), node: NodeId) -> usize
         ensures nodes { nodes_of self.new ≡ rows.put child node (nodes_of self.old) }
         ensures room { room_of self.new ≡ room_of self.old }
     {
+        let first = self.first_place(child.0);
         let place = self.place_of(child);
         if place < self.nodes.len() {
-            self.nodes[place] = (child.0, node);
+            self.nodes.set(place, (child.0, node));
         }
-        place
+        place.saturating_sub(first)
     }
 
     /// Takes away the one at a place among those of a schema node, if there is one.
@@ -226,27 +230,28 @@ impl Children {
     }
 
     /// Brings the one at a place among those of a schema node, or the last of them, to another place among them, or behind them.
-    /// Answers which one it is, and where in the row it stands then; none where there are none of them.
+    /// Answers which one it is, and its place among them then; none where there are none of them.
     pub fn shift_at(&mut self, schema: SchemaId, from: usize, to: usize) -> Option<(NodeId, usize)>
         ensures nodes { nodes_of self.new ≡ rows.shifted schema from to (nodes_of self.old) }
         ensures room { room_of self.new ≡ room_of self.old }
     {
+        let first = self.first_place(schema);
         let last = self.count_of(schema).saturating_sub(1);
         let from = self.place_at(schema, from.min(last));
         if from < self.nodes.len() {
             let child = self.nodes.remove(from);
             let to = self.place_among(child.0, to);
-            let _ = self.nodes.insert(to, child);
-            Some((child.1, to))
+            self.nodes.insert(to, child);
+            Some((child.1, to.saturating_sub(first)))
         } else {
             None
         }
     }
 }
 
-/// A place at which a node stands among some, or their number. It is looked for from a place on, forward and backward at once.
+/// The place of a node among some that is next to a place, or their number. It is looked for forward and backward at once.
 fn place_near(of: &[(SchemaId, NodeId)], node: NodeId, near: usize) -> usize
-    ensures { StandsOnce node (map (λ c. c.1) of.now) → result ≡ place_of node (map (λ c. c.1) of.now) }
+    ensures { result ≡ place_near near node (map (λ c. c.1) of.now) }
 {
     let near = near.min(of.len());
     let (before, after) = of.split_at(near);

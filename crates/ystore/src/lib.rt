@@ -10,6 +10,7 @@ mod laws;
 mod nodes;
 mod record;
 mod row;
+mod shelf;
 
 pub use key::Key;
 pub use laws::{kept_loans, same_keys};

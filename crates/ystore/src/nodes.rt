@@ -75,7 +75,7 @@ impl Nodes {
     {
         match row {
             Row::Top => Some(&self.top),
-            Row::Below(id) => self.records.get(id.0),
+            Row::Below(id) => self.records.get(id.0 as usize),
         }
     }
 
@@ -85,7 +85,7 @@ impl Nodes {
     {
         match row {
             Row::Top => Some(&mut self.top),
-            Row::Below(id) => self.records.get_mut(id.0),
+            Row::Below(id) => self.records.get_mut(id.0 as usize),
         }
     }
 

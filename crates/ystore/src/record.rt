@@ -48,7 +48,7 @@ pub(crate) struct Record {
     pub(crate) told: Told,
     /// How many faults are told of the node and of all below it.
     pub(crate) total: usize,
-    /// Where in its row the node was put; it may stand elsewhere since.
+    /// At which place among those of its schema node the node was put in its row; it may stand elsewhere since.
     pub(crate) place: usize,
 }
 

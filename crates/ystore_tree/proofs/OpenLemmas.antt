@@ -1,5 +1,5 @@
 -- Documents put into stores.
-use Rattle.std.proofs.Common.{◌≡◌, ℕ, zero, suc, ◌+◌, ◌<◌, ◌≤◌, List, [], length, drop, get_or, Some, option_map, refl, sym, ap, ap₂, ◌∙◌, arith, subst, cond}
+use Rattle.std.proofs.Common.{◌≡◌, ℕ, zero, suc, ◌+◌, ◌<◌, ◌≤◌, List, [], ◌∷◌, length, drop, get_or, Some, option_map, refl, sym, ap, ap₂, ◌∙◌, arith, subst, cond}
 use Rattle.std.specs.Option.{option_map_or}
 use Rattle.std.proofs.lemmas.Bool.{le-leb}
 use Rattle.std.proofs.lemmas.List.{at_drop_more, at_drop_all}
@@ -156,8 +156,17 @@ pub tree_more : (before : Branches) (n : Numbered) (below : Branches) (s : Store
 tree_more before n below s t label under =
     tree_join before (node n below end) ∙ ap₂ (λ (l : Stored) (r : Tree). join (tree_of before) (node l r end)) label under
 
-pub one_less : (rows : List rust.Stored) (i : ℕ) (s : rust.Stored) → i < length rows → length (drop i rows) ≡ suc (length (drop (i + 1) rows))
-one_less rows i s within = at_drop_more (λ xs. length xs) rows i s within
+-- the same of a row that is taken apart
+pub taken_stored : (rows rest : List rust.Stored) (s : rust.Stored) (t whole : Tree) → rows ≡ s ∷ rest → join t (row_view rows) ≡ whole
+    → join (join t (node (view s).0 (view s).1 end)) (row_view rest) ≡ whole
+taken_stored rows rest s t whole is so = join_assoc t (node (view s).0 (view s).1 end) (row_view rest) ∙ (ap (λ xs. join t (row_view xs)) (sym is) ∙ so)
+
+none_left : (rows : List rust.Stored) → length rows ≡ 0 → rows ≡ []
+none_left [] is = refl
+none_left (s ∷ rows) is = let no : ⊥ = cc in absurd no
+
+pub all_taken : (rows : List rust.Stored) (count : ℕ) (t whole : Tree) → count ≡ 0 → count ≡ length rows → join t (row_view rows) ≡ whole → t ≡ whole
+all_taken rows count t whole ended is so = sym (join_end t) ∙ (sym (ap (λ xs. join t (row_view xs)) (none_left rows (sym is ∙ ended))) ∙ so)
 
 pub same_store : (a b : Nodes) (t : Tree) → a ≡ b → Holds a t → Holds b t
 same_store a b t same holds = subst (λ (n : Nodes). Holds n t) same holds

@@ -1,19 +1,17 @@
 //! Documents put into stores, and parts of them put in and taken out beside the tree.
 
-ghost use Rattle.std.specs.Prelude.{◌≡◌, ◌<◌, ◌^◌, IfOk, OnOk, OnErr, option_map, replicate, false};
+ghost use Rattle.std.specs.Prelude.{◌≡◌, ◌<◌, ◌^◌, IfOk, OnOk, replicate, false};
 ghost use Rattle.yspec.specs.Forest.{end};
 ghost use Rattle.yspec.specs.document.Sorting.{IsSorted};
-ghost use Rattle.ytype.specs.View.{raw_of};
 ghost use Rattle.yschema_model.specs.View as schema_view;
 ghost use Rattle.yinst_tree.specs.View.{view, tree_view};
-ghost use Rattle.ystore.specs.Held.{label_of, told_of};
+ghost use Rattle.ystore.specs.Held.{told_of};
 ghost use Rattle.ystore.specs.Views.{store_of, lent};
 ghost use Rattle.ystore_tree.specs.Hanging.{Branches, Holds, Keeps};
 ghost use Rattle.ystore_tree.specs.Growing.{Gets, Grows, Inserts, Removes, Freshens};
 ghost use Rattle.ystore_tree.specs.Growing as growing;
 ghost use Rattle.ystore.specs.declared.row.Row.TheVariants.{Top};
 
-use crate::copying::copy_of_value;
 use std::alloc::{AllocError, Global};
 use yinst_tree::{Stored, Tree};
 use yschema_model::{Kind, Schema, SchemaId};
@@ -45,12 +43,19 @@ pub fn insert_tree(
 {
     let mut numbers = Vec::new(counted.alloc());
     for stored in tree.roots() {
-        let id = insert_part(counted, schema, Row::Top, stored, &mut numbers)?;
+        let part = copy_of(stored)?;
+        let id = insert_part(counted, schema, Row::Top, part, &mut numbers)?;
         counted.reserve_child(Row::Top)?;
         counted.add_child(Row::Top, stored.id(), id);
         numbers.clear();
     }
     Ok(())
+}
+
+fn copy_of(stored: &Stored) -> Result<Stored, AllocError>
+    ensures { IfOk result (λ copy. view copy ≡ view stored.now) }
+{
+    stored.clone()
 }
 
 /// Inserts a stored node with all that stands below it, as one of a row that doesn't list it yet, and lists their numbers,
@@ -60,42 +65,30 @@ pub fn insert_part(
     counted: &mut Counted<'_>,
     schema: &Schema,
     above: Row,
-    stored: &Stored,
+    stored: Stored,
     numbers: &mut Vec<NodeId>,
 ) -> Result<NodeId, AllocError>
-    ensures ok { IfOk result (λ id. Inserts above id (view stored.now).0 (view stored.now).1
+    ensures ok { IfOk result (λ id. Inserts above id (view stored).0 (view stored).1
         (store_of counted.old) (store_of counted.new) numbers.old.items numbers.new.items) }
     ensures grows { Grows (store_of counted.old) (store_of counted.new) }
     ensures fresh { Freshens (schema_view.view schema.now) (store_of counted.old) (store_of counted.new) }
     ensures same_reference { lent counted.new ≡ lent counted.old }
 {
-    let rows = stored.below();
-    let label = label_at(stored, above)?;
-    let of = stored.id();
+    let (of, value, below) = stored.into_parts();
     let told = nothing_told(counted.alloc(), flag_count(schema, of))?;
-    let id = counted.insert(label, told, 0, rows.len())?;
+    let label = Label {
+        schema: of,
+        value,
+        parent: above,
+    };
+    let id = counted.insert(label, told, 0, below.len())?;
     numbers.push(id)?;
-    for child in rows {
+    for child in below {
+        let number = child.id();
         let node = insert_part(counted, schema, Row::Below(id), child, numbers)?;
-        counted.add_child(Row::Below(id), child.id(), node);
+        counted.add_child(Row::Below(id), number, node);
     }
     Ok(id)
-}
-
-/// The label of a stored node in a row.
-fn label_at(stored: &Stored, above: Row) -> Result<Label, AllocError>
-    ensures label { IfOk result (λ label. label_of label ≡ record {
-      schema = label.schema;
-      value = (view stored.now).0.value;
-      parent = above;
-    }) }
-    ensures number { IfOk result (λ label. label.schema.0 ≡ (view stored.now).0.schema_number) }
-{
-    Ok(Label {
-        schema: stored.id(),
-        value: copy_of_value(stored.value())?,
-        parent: above,
-    })
 }
 
 /// How many flags a node has: an entry one for its key and one for each `unique`, an item of configuration one.

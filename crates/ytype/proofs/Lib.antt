@@ -1,4 +1,1 @@
-pub mod RowLemmas
-pub mod LimitLemmas
 pub mod MemberLemmas
-mod IdentityLemmas

@@ -4,7 +4,7 @@ use Rattle.std.specs.Prelude.{slice_get, option_and_then, option_to_list}
 use Rattle.std.proofs.lemmas.List.{map-append}
 use Rattle.std.proofs.lemmas.List.Folds.{list_any-append}
 use Rattle.std.specs.List.{list_any}
-use Rattle.ytype.proofs.RowLemmas.{here, past, gone, at_place}
+use Rattle.ytype_simple.proofs.RowLemmas.{here, past, gone, at_place}
 use Rattle.yspec.specs.types.Types.{Content, value, SimpleType, first_value}
 
 by_none : (given : SimpleType → Option Content) (n : ℕ) (m : SimpleType) (rest : List SimpleType) → None ≡ given m

@@ -1,7 +1,5 @@
-pub mod Identities
-pub mod View
-pub mod Founds
-pub mod Forms
+pub use Rattle.ytype_simple.specs.Identities
+pub use Rattle.ytype_simple.specs.View
 pub mod Shapes
 pub mod Refusals
 pub mod Laws

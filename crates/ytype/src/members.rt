@@ -4,21 +4,16 @@ ghost use Rattle.std.specs.Prelude.{◌≡◌, [], ◌∷◌, ◌++◌, IfOk, On
 ghost use Rattle.std.specs.List.{list_any};
 ghost use Rattle.yspec.specs.types.Types.{simple_taken, first_value, simple_in};
 ghost use Rattle.yspec.specs.types.Values.{simple_read};
-ghost use Rattle.ytype.specs.View.{raw_of};
-ghost use Rattle.ytype.specs.Founds.{contents, now_of};
-ghost use Rattle.ytype.specs.Identities.{is_identity, module_names_view};
+ghost use Rattle.ytype_simple.specs.View.{raw_of};
+ghost use Rattle.ytype_simple.specs.Founds.{contents, now_of};
+ghost use Rattle.ytype_simple.specs.Identities.{is_identity, module_names_view};
 
-use crate::identity::ModuleNames;
-use crate::raw::Raw;
-use crate::simple::SimpleType;
-use crate::val::{Content, Val};
+use crate::val::Val;
 use std::alloc::{AllocError, Global};
 use std::marker::Model;
 use std::rc::Rc;
 use ybase_row::Row;
-
-/// More members than a text of 4 MB can state one by one; those of more count as want of memory.
-const MOST_MEMBERS: usize = 1 << 20;
+use ytype_simple::{Content, ModuleNames, Raw, SimpleType};
 
 /// The members of a union in their order, which copies and the unions around it share.
 #[derive(Debug, Drop)]
@@ -32,7 +27,7 @@ impl Model for Members {
     ghost use Rattle.std.specs.Prelude.{◌≡◌, List};
     ghost use Rattle.std.specs.List.{list_any};
     ghost use Rattle.yspec.specs.types.Types as types;
-    ghost use Rattle.ytype.specs.Identities.{is_identity};
+    ghost use Rattle.ytype_simple.specs.Identities.{is_identity};
 
     ghost Value = { List types.SimpleType };
 
@@ -76,7 +71,7 @@ impl Members {
         })
     }
 
-    /// Those of two unions, in this order. More than 2^20 count as want of memory.
+    /// Those of two unions, in this order.
     #[tactic(auto, using(crate::proofs::MemberLemmas::any_of_both))]
     pub(crate) fn joined(
         alloc: Global,
@@ -85,17 +80,14 @@ impl Members {
     ) -> Result<Members, AllocError>
         ensures { IfOk result (λ members. members ≡ front.now ++ back.now) }
     {
-        let row = Row::joined(alloc, &front.row, &back.row)?;
-        if row.len() > MOST_MEMBERS {
-            return Err(AllocError);
-        }
         Ok(Members {
-            row,
+            row: Row::joined(alloc, &front.row, &back.row)?,
             have_identity: front.have_identity || back.have_identity,
         })
     }
 
-    fn len(&self) -> usize
+    /// How many there are.
+    pub(crate) fn len(&self) -> usize
         ensures { result ≡ length self.now }
     {
         self.row.len()

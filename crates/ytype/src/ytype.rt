@@ -4,22 +4,18 @@ ghost use Rattle.std.specs.Prelude.{◌≡◌, ◌++◌, Ok, IfOk, OnOk, Some, N
 ghost use Rattle.yspec.specs.types.Types.{taken, error_text_of, app_tag_of, message_of, shape_in, type_in, plain, integer_type, string_type, uint8_type, int8, int16, int32, int64, uint8, uint16, uint32, uint64, boolean_base, empty_base, decimal_base, enumeration_base, bits_base};
 ghost use Rattle.yspec.specs.types.Values.{value_of_text, taker};
 ghost use Rattle.yspec.specs.types.Names as names;
-ghost use Rattle.yspec.specs.types.Restriction.{members_of, union_type, leafref_type, narrowed};
+ghost use Rattle.yspec.specs.types.Restriction.{member_count, members_of, union_type, leafref_type, narrowed};
 ghost use Rattle.ytype_numbers.specs.View.{restriction_of, text_of};
 ghost use Rattle.yspec.specs.Results.{Gives};
 ghost use Rattle.ytype_numbers.specs.Words.{narrow_refusal, same};
-ghost use Rattle.ytype.specs.View.{raw_of, base_of, integer_of};
-ghost use Rattle.ytype.specs.Founds.{now_of};
+ghost use Rattle.ytype_simple.specs.View.{raw_of, base_of, integer_of};
+ghost use Rattle.ytype_simple.specs.Founds.{now_of};
 ghost use Rattle.ytype.specs.Shapes.{shape_of};
-ghost use Rattle.ytype.specs.Identities.{identities_view, module_names_view};
+ghost use Rattle.ytype_simple.specs.Identities.{identities_view, module_names_view};
 ghost use Rattle.ytype.specs.Refusals.{value_refusal};
 
-use crate::base::{Base, Integer};
 use crate::fault::BadValue;
-use crate::identity::{Identities, ModuleNames};
 use crate::members::{Members, all_of, first_read, first_taken, members_in};
-use crate::raw::Raw;
-use crate::simple::SimpleType;
 use crate::val::Val;
 use std::alloc::{AllocError, Global};
 use std::marker::Model;
@@ -27,6 +23,7 @@ use std::rc::Rc;
 use ytype_numbers::{
     ErrorText, FractionDigits, Naming, NarrowFault, Restriction, bit_names, enum_names,
 };
+use ytype_simple::{Base, Identities, Integer, ModuleNames, Raw, SimpleType};
 
 #[derive(Debug, Drop)]
 enum Shape {
@@ -214,7 +211,7 @@ impl YType {
         Ok(plain(Base::Identity(identities.clone()?)))
     }
 
-    /// What one of its members takes (9.12). A union of more than 2^20 members is too large, which counts as want of memory.
+    /// What one of its members takes (9.12).
     pub fn union(alloc: Global, types: &[YType]) -> Result<YType, NarrowFault>
         ensures { Gives same narrow_refusal result (Ok (union_type types.now)) }
     {
@@ -290,6 +287,16 @@ impl YType {
         ensures { IfOk result (λ members. members.items ≡ members_of self.now.shape) }
     {
         all_of(alloc, &self.shape.members(alloc)?)
+    }
+
+    /// How many members a union has, those of unions in it as well; 1 of another type.
+    pub fn member_count(&self) -> usize
+        ensures { result ≡ member_count self.now }
+    {
+        match &self.shape {
+            Shape::Single(_) => 1,
+            Shape::Union(members) => members.len(),
+        }
     }
 
     /// Whether a leafref requires an instance; none for another type.

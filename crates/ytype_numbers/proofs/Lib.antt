@@ -1,3 +1,4 @@
+pub mod CoverLemmas
 pub mod DecimalLemmas
 pub mod NumeralLemmas
 pub mod PositionLemmas

@@ -1,3 +1,4 @@
+pub mod Covering
 pub mod Digits
 pub mod Positions
 pub mod Sets

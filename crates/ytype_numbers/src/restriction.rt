@@ -1,7 +1,8 @@
 //! Restrictions as a module writes them, and the sets of numbers that they leave.
 
-ghost use Rattle.std.specs.Prelude.{◌≡◌, ◌≤◌, ◌<◌, ◌^◌, Some, None, ok_or};
+ghost use Rattle.std.specs.Prelude.{◌≡◌, ◌≤◌, ◌<◌, ◌^◌, true, Some, None, ok_or};
 ghost use Rattle.yspec.specs.types.Ranges.{is_above, is_near, bound_in, part_in, parts_in, is_ascending_from, is_covered, lies_within, ends_of, restricted};
+ghost use Rattle.ytype_numbers.specs.Covering.{CoverAlike};
 ghost use Rattle.ytype_numbers.specs.View.{bound_of};
 ghost use Rattle.yspec.specs.Results.{Gives};
 ghost use Rattle.ytype_numbers.specs.Words.{narrow_refusal, same};
@@ -166,10 +167,33 @@ fn is_covered(parts: &[Part], part: &Part) -> bool
     false
 }
 
+/// The parts behind those in front that end below another part, which cover nothing of it, nor of what is behind it.
+fn without_parts_below<'p>(parts: &'p [Part], part: &Part) -> &'p [Part]
+    ensures { CoverAlike part.now.low result.now parts.entry.now }
+{
+    let mut left = parts;
+    while let Some((first, others)) = left.split_first() {
+        if part.low() <= first.high() {
+            return left;
+        }
+        left = others;
+    }
+    left
+}
+
+/// Whether each of ascending parts is covered; what ends below one of them is gone through once.
 fn lies_within(inner: &[Part], outer: &[Part]) -> bool
+    requires { is_ascending_from None inner.now ≡ true }
     ensures { result ≡ lies_within inner.now outer.now }
 {
-    inner.iter().all(|part| is_covered(outer, part))
+    let mut left = outer;
+    'inner: for part in inner {
+        left = without_parts_below(left, part);
+        if !is_covered(left, part) {
+            return false;
+        }
+    }
+    true
 }
 
 fn ends_of(parts: &[Part]) -> Part

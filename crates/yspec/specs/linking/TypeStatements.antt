@@ -1,12 +1,12 @@
 -- The types that `type` statements mean, and where one breaks a rule of its own (RFC 7950, 7.3, 7.4 and 9).
-use Rattle.std.specs.Prelude.{ℕ, ℤ, pos, ◌&&◌, Bool, true, false, List, [], ◌∷◌, codes, Option, Some, None, option_map, option_and_then, unwrap_or, if◌then◌else◌}
+use Rattle.std.specs.Prelude.{ℕ, ℤ, pos, ◌&&◌, Bool, true, false, List, [], ◌∷◌, codes, Option, Some, None, option_map, option_and_then, unwrap_or, nat_lt, if◌then◌else◌}
 use Rattle.std.specs.List.{list_all}
 use Rattle.std.specs.Option.{option_map_or}
 use Rattle.yspec.specs.Forest.{Forest, end, node, row}
 use Rattle.yspec.specs.text.Text.{Text, is_text}
 use Rattle.yspec.specs.types.Ranges.{ErrorText, Span}
 use Rattle.yspec.specs.types.Names.{Naming, Assigned, enum_names, bit_names}
-use Rattle.yspec.specs.types.Restriction.{Restriction, range, length, narrowed, union_type}
+use Rattle.yspec.specs.types.Restriction.{Restriction, range, length, narrowed, member_count, union_type}
 use Rattle.yspec.specs.types.Types.{Base, decimal_base, boolean_base, empty_base, enumeration_base, bits_base, YangType, plain, integer_type, string_type}
 use Rattle.yspec.specs.linking.Keyword.{Keyword}
 use Rattle.yspec.specs.linking.Keyword as word
@@ -41,6 +41,8 @@ pub data Verdict : Type 0 where
   means : Meant → Verdict
   -- it breaks a rule of its own
   wrong : Verdict
+  -- it is a union of more members than are read
+  too_large : Verdict
   -- it rests on a type that breaks one
   unjudged : Verdict
 
@@ -120,9 +122,16 @@ abbrev pub member_types : List Verdict → Option (List YangType)
 member_types [] = Some []
 member_types (v ∷ vs) = with_type v (member_types vs)
 
+-- the most members that a union may have, with those of the unions among them
+abbrev pub member_limit : ℕ
+member_limit = 65535
+
+abbrev pub of_members : List YangType → Verdict
+of_members types = if nat_lt member_limit (member_count (union_type types)) then too_large else means (own (union_type types))
+
 abbrev pub union_verdict : List Verdict → Verdict
 union_verdict [] = wrong
-union_verdict (v ∷ vs) = option_map_or (λ types. means (own (union_type types))) (member_types (v ∷ vs)) unjudged
+union_verdict (v ∷ vs) = option_map_or of_members (member_types (v ∷ vs)) unjudged
 
 -- an instance is required unless it is said otherwise
 abbrev pub is_required : Forest Source → Bool
@@ -191,9 +200,10 @@ abbrev pub meaning_of : Verdict → Option Meant
 meaning_of (means m) = Some m
 meaning_of _ = None
 
--- ---- C10
+-- ---- C10, and C18 of unions
 
 -- what a verdict tells of its statement
 abbrev pub told : Source → Verdict → List Break
 told s wrong = broken 10 s.home s.statement.line
+told s too_large = broken 18 s.home s.statement.line
 told s _ = []

@@ -1,5 +1,6 @@
 -- Derived types: what a restriction makes of a type (RFC 7950, 9.2.4, 9.3.4, 9.4.4 and 9.9.3).
 use Rattle.std.specs.Prelude.{ℕ, ◌-◌, ◌^◌, pos, Bool, true, List, [], ◌∷◌, ◌++◌, Option, Some, None, option_map, option_and_then}
+use Rattle.std.specs.Prelude as prelude
 use Rattle.yspec.specs.types.Ranges.{Part, ErrorText, Limit, Span, restricted}
 use Rattle.yspec.specs.types.Types.{Base, integer_base, decimal_base, string_base, SimpleType, Shape, single, union, YangType, numbers_of, int64}
 
@@ -68,6 +69,10 @@ narrowed type r = narrowed_by type.shape type.requires_instance r
 abbrev pub members_of : Shape → List SimpleType
 members_of (single s) = s ∷ []
 members_of (union members) = members
+
+-- how many types take values: one, but for a union
+abbrev pub member_count : YangType → ℕ
+member_count type = prelude.length (members_of type.shape)
 
 -- a union has the members of the unions among its members
 abbrev pub all_members : List YangType → List SimpleType

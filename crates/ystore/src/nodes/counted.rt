@@ -27,7 +27,6 @@ impl<'a> Counted<'a> {
     ghost use Rattle.ystore.specs.Rows as rows;
     ghost use Rattle.ystore.specs.Held.{label_of, told_of};
     ghost use Rattle.ystore.specs.Entries as entries;
-    ghost use Rattle.ystore.specs.Entries.{StandsOnce};
     ghost use Rattle.ystore.specs.Index.{made_ready, tidied};
     ghost use Rattle.ystore.specs.Store as store;
     ghost use Rattle.ystore.specs.Store.{ChangesRow, ChangesEntry, MakesRoom, Stays};
@@ -177,17 +176,25 @@ impl<'a> Counted<'a> {
         }
     }
 
-    /// The place of a node among those of a schema node in a row, where it stands there once, or their number.
-    pub fn place_of(&mut self, row: Row, schema: SchemaId, node: NodeId) -> usize
-        ensures place { StandsOnce node (rows.of_schema schema (store.children_at (store_of self.old) row))
-            → result ≡ entries.place_of node (rows.of_schema schema (store.children_at (store_of self.old) row)) }
+    /// At which place among those of its schema node a node was put in its row; it may stand elsewhere since.
+    pub fn place_put(&mut self, id: NodeId) -> usize
+        ensures place { result ≡ store.place_put (store_of self.old) id }
         ensures counted { IsRead self.old self.new }
     {
         self.nodes.count.count_read();
-        let near = match self.nodes.record(Row::Below(node)) {
+        match self.nodes.record(Row::Below(id)) {
             Some(record) => record.place,
             None => 0,
-        };
+        }
+    }
+
+    /// The place of a node among those of a schema node in a row, the one that is next to another place; or their number.
+    pub fn place_near(&mut self, row: Row, schema: SchemaId, node: NodeId, near: usize) -> usize
+        ensures place { result
+            ≡ entries.place_near near node (rows.of_schema schema (store.children_at (store_of self.old) row)) }
+        ensures counted { IsRead self.old self.new }
+    {
+        self.nodes.count.count_read();
         match self.nodes.record(row) {
             Some(record) => record.children.index_near(schema, node, near),
             None => 0,
@@ -295,6 +302,10 @@ impl<'a> Counted<'a> {
         ensures err { OnErr result (Stays (store_of self.old) (store_of self.new)) }
         ensures same_reference { lent self.new ≡ lent self.old }
     {
+        let number = self.nodes.records.vacant_key();
+        if number > u32::MAX as usize {
+            return Err(AllocError);
+        }
         let record = Record {
             label: Some(label),
             children: Children::with_capacity(self.nodes.alloc, room)?,
@@ -303,14 +314,14 @@ impl<'a> Counted<'a> {
             place: 0,
         };
         match self.nodes.records.insert(record) {
-            Ok(number) => Ok(NodeId(number)),
+            Ok(_) => Ok(NodeId(number as u32)),
             Err(_) => Err(AllocError),
         }
     }
 
     // ---- writes to records
 
-    /// Remembers where in its row a node was put.
+    /// Remembers at which place among those of its schema node a node was put in its row.
     fn remember(&mut self, id: NodeId, place: usize)
         ensures store { ChangesRow (Below id) (λ held. held) (store_of self.old) (store_of self.new) }
         ensures same_reference { lent self.new ≡ lent self.old }
@@ -320,7 +331,7 @@ impl<'a> Counted<'a> {
         }
     }
 
-    /// Adds a node to a row, and answers where it stands there.
+    /// Adds a node to a row, and answers its place among those of its schema node.
     fn add(&mut self, row: Row, child: (SchemaId, NodeId)) -> usize
         requires { store.has_room (store_of self.old) row }
         ensures store { ChangesRow row (option_map (store.with_children (rows.added child)))
@@ -357,7 +368,7 @@ impl<'a> Counted<'a> {
         }
     }
 
-    /// Puts a node in the place of a child of a row, and answers where that stands, or the end.
+    /// Puts a node in the place of a child of a row, and answers its place among those of its schema node.
     fn put(&mut self, row: Row, child: (SchemaId, NodeId), new: NodeId) -> usize
         ensures store { ChangesRow row (option_map (store.with_children (rows.put child new)))
             (store_of self.old) (store_of self.new) }
@@ -403,7 +414,7 @@ impl<'a> Counted<'a> {
     }
 
     /// Brings the node at a place among those of a schema node in a row, or the last of them, to another place among them, and
-    /// answers it, with where in the row it stands then.
+    /// answers it, with its place among them then.
     fn shift_at(
         &mut self,
         row: Row,
@@ -482,7 +493,7 @@ impl<'a> Counted<'a> {
         ensures store { ChangesRow (Below id) (λ _. None) (store_of self.old) (store_of self.new) }
         ensures same_reference { lent self.new ≡ lent self.old }
     {
-        self.nodes.records.try_remove(id.0);
+        self.nodes.records.try_remove(id.0 as usize);
     }
 
     // ---- writes to the index

@@ -1,7 +1,7 @@
 use Rattle.std.proofs.Common.{◌∙◌, ap, subst}
 use Rattle.yspec_run.specs.Output.{performed}
 use Rattle.yapp_words.specs.Command.{view}
-use Rattle.yapp.specs.Failing.{LeadsTo, reported}
+use Rattle.yapp_report.specs.Failing.{LeadsTo, reported}
 use Rattle.yapp.proofs.ContentsLemmas.{came_of_reading, came_of_texts, names_in, texts_in}
 use Rattle.yapp.proofs.answering.answer.Goals as goal
 

@@ -2,7 +2,7 @@ use Rattle.std.proofs.Common.{sym, subst}
 use Rattle.std.specs.Prelude.{position}
 use Rattle.yspec.specs.text.Text.{is_text}
 use Rattle.yspec_run.specs.Output.{drawn}
-use Rattle.yapp.specs.Failing.{LeadsTo, reported}
+use Rattle.yapp_report.specs.Failing.{LeadsTo, reported}
 use Rattle.yapp.proofs.answering.draw.Goals as goal
 
 pub returns-in-Ok-clause-leads : goal.returns-in-Ok-clause-leads

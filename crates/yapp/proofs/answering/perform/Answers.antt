@@ -1,10 +1,10 @@
-use Rattle.std.proofs.Common.{List, ℕ, Bor, map, subst, ap, sym, ◌∙◌}
+use Rattle.std.proofs.Common.{List, Bor, map, subst, ap, sym, ◌∙◌}
 use Rattle.yspec.specs.text.Text.{Text}
 use Rattle.yspec_run.specs.Output.{Outcome, edition, performed}
 use Rattle.yapp_words.specs.Command.{options_view, view}
 use Rattle.yapp_words.specs.declared.command.Request.{Request}
-use Rattle.yapp.specs.Failing.{LeadsTo, reported}
-use Rattle.yapp.proofs.ExplainedLemmas.{nothing_due}
+use Rattle.yapp_report.specs.Failing.{LeadsTo, reported}
+use Rattle.yapp_report.proofs.ExplainedLemmas.{nothing_due}
 use Rattle.yapp.proofs.answering.perform.Goals as goal
 
 pub returns-in-Explain-clause-explained : goal.returns-in-Explain-clause-explained

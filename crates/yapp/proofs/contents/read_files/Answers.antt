@@ -1,6 +1,7 @@
 use Rattle.std.proofs.Common.{ℕ, Global, Vec, [], ◌∷◌, ◌+◌, ◌∙◌, ap, arith, drop, get_or, length, refl, subst, sym}
 use Rattle.std.proofs.lemmas.List.{at_drop_all, at_drop_more, length-append, length-map, map-append}
-use Rattle.yapp.specs.Files.{IsTold, store}
+use Rattle.yapp.specs.Files.{store}
+use Rattle.yapp_report.specs.Unread.{IsTold}
 use Rattle.yapp.proofs.ContentsLemmas.{ReadSoFar, cut_short, memory_reads, names_in, no_name, none_read, one_read, reading_fails, texts_in, were_read}
 use Rattle.yapp.proofs.contents.read_files.Goals as goal
 

@@ -2,7 +2,7 @@ use Rattle.std.proofs.Common.{subst}
 use Rattle.std.proofs.lemmas.Result.{IfOk-weaker}
 use Rattle.yspec.specs.edit.Live as live
 use Rattle.yspec_run.specs.Script.{lines_of}
-use Rattle.yapp.specs.Asked.{edits_in, kinds_in}
+use Rattle.yapp_script.specs.Asked.{edits_in, kinds_in}
 use Rattle.yapp.specs.Edited.{IsRun, tree_of}
 use Rattle.yapp.proofs.DocumentLemmas.{edited_by}
 use Rattle.yapp.proofs.document.edit.Goals as goal

@@ -3,7 +3,7 @@ use Rattle.yspec.specs.document.Reading.{document_of}
 use Rattle.yspec_run.specs.Output.{other_files, unless_repeated, with_first, with_tree}
 use Rattle.yschema_model.specs.View as schema_view
 use Rattle.yapp.specs.Edited.{schema_of, tree_of}
-use Rattle.yapp.specs.Failing.{FailsWith}
+use Rattle.yapp_report.specs.Failing.{FailsWith}
 use Rattle.yapp.proofs.ContentsLemmas.{texts_in}
 use Rattle.yapp.proofs.document.read_document.Goals as goal
 

@@ -6,12 +6,12 @@ use Rattle.ysay_fault.specs.Sentences.{explained_fault}
 use Rattle.yapp_words.specs.Command.{options_view}
 use Rattle.ycheck_config.specs.Inspecting.{inspection_view}
 use Rattle.yspec_run.specs.Output.{text_instead}
-use Rattle.yapp.specs.Asked.{refused_parts}
+use Rattle.yapp_script.specs.Asked.{refused_parts}
 use Rattle.yapp.specs.Edited.{schema_of, tree_of}
-use Rattle.yapp.specs.Saving.{saved_view}
-use Rattle.yapp.specs.declared.script.RefusedLine.{RefusedLine}
+use Rattle.yapp_report.specs.Saving.{saved_view}
+use Rattle.yapp_script.specs.declared.script.RefusedLine.{RefusedLine}
 use Rattle.yapp.proofs.DocumentLemmas.{report_is}
-use Rattle.yapp.proofs.ExplainedLemmas.{none_so}
+use Rattle.yapp_report.proofs.ExplainedLemmas.{none_so}
 use Rattle.yapp.proofs.document.report_on.Goals as goal
 
 pub returns-clause-reported : goal.returns-clause-reported

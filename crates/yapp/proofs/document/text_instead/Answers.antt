@@ -4,7 +4,7 @@ use Rattle.yspec.specs.document.Writing.{written_text}
 use Rattle.ysay_json.specs.FaultData.{json_text}
 use Rattle.ycheck_config.specs.Inspecting.{inspection_view}
 use Rattle.yspec_run.specs.Part.{objects}
-use Rattle.yapp.specs.Asked.{refused_parts}
+use Rattle.yapp_script.specs.Asked.{refused_parts}
 use Rattle.yapp.proofs.document.text_instead.Goals as goal
 
 pub returns-then-options : goal.returns-then-options

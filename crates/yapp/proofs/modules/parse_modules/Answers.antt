@@ -3,7 +3,7 @@ use Rattle.std.proofs.lemmas.List.{at_drop_all, at_drop_more, length-map}
 use Rattle.yspec_run.specs.Output.{with_module}
 use Rattle.yspec.specs.text.Statement.{module_of}
 use Rattle.ytext.specs.View.{modules_view}
-use Rattle.yapp.specs.Failing.{FailsWith}
+use Rattle.yapp_report.specs.Failing.{FailsWith}
 use Rattle.yapp.proofs.ContentsLemmas.{ParsedSoFar, all_parsed, names_in, no_name, none_parsed, one_parsed, parsed_same, parsing_fails, texts_in, texts_parsed}
 use Rattle.yapp.proofs.modules.parse_modules.Goals as goal
 

@@ -1,5 +1,5 @@
 use Rattle.std.proofs.Common.{arith, inl, inr, refl, ap, ◌∙◌, map, string_bytes, false, true}
-use Rattle.yapp.specs.Failing.{unsaid}
+use Rattle.yapp_report.specs.Failing.{unsaid}
 use Rattle.yapp.specs.Files.{came_to, said_besides}
 use Rattle.yapp_words.specs.Command.{Declines, asks_reasons, refusals}
 use Rattle.yapp_words.specs.declared.command.NoRequest.TheVariants as none

@@ -1,6 +1,6 @@
 use Rattle.yspec_run.specs.Output.{printed}
 use Rattle.std.specs.Prelude.{Ok}
-use Rattle.yapp.specs.Failing.{reported}
+use Rattle.yapp_report.specs.Failing.{reported}
 use Rattle.yapp.specs.Files.{said_besides}
 use Rattle.yapp.proofs.RunningLemmas.{both_end, end_is, report_tells, told_of}
 use Rattle.yapp.proofs.program.tell.Goals as goal

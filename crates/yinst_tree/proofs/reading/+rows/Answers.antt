@@ -89,7 +89,7 @@ pub stored_node-returns-in_ok-put_rows-in-Object : goal.stored_node-returns-in_o
 stored_node-returns-in_ok-put_rows-in-Object t c =
     object_node (schema_view.view c.args.schema.now) (schema_view.node_view c.args.id.0 c.args.node.now) (schema_view.row_view c.args.children) (json.view c.args.value) c.new.result
     (json.members_view c.in-Object.members.entries) _ _ _ c.new.ensures.node c.new.ensures.below
-    (ap json.view c.in-Object.is ∙ view-Object c.in-Object.members) (ap row_view c.new-below.ensures.items) c.in_ok-put_rows-in-Object.ensures
+    (ap json.view c.in-Object.is ∙ view-Object c.in-Object.members) (ap row_view c.in_ok-below-in-Object.ensures.items) c.in_ok-put_rows-in-Object.ensures
 
 pub stored_node-returns-in_default : goal.stored_node-returns-in_default
 stored_node-returns-in_default t c =

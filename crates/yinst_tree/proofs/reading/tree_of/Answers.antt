@@ -17,7 +17,7 @@ returns-in-Ok c =
     tree_right s (json.view c.args.value) ms (place_view c.new-place.result.items) (tree_view c.new.result) c.in-Ok.field-0
     (ap json.view c.in-Object.is ∙ view-Object c.in-Object.members) (ap place_view c.new-place.ensures.items) c.in-Ok.ensures.told
     (c.new.ensures ∙ (sym (ap (λ (t : Taken). t.0) c.in_ok-put_rows-in-Ok.ensures)
-    ∙ (ap₂ (λ vs f. (taken s None f (row_view vs, ms)).0) c.new-row.ensures.items c.roots.ensures
+    ∙ (ap₂ (λ vs f. (taken s None f (row_view vs, ms)).0) c.in_ok-row-in-Ok.ensures.items c.roots.ensures
     ∙ taken_is s None s.nodes end ms (top_apart c.args.schema.now None) (nodes_apart c.args.schema.now))))
 
 pub returns : goal.returns

@@ -10,8 +10,8 @@ use Rattle.ybase_preorder.specs.View.{forest_in, slots_in}
 use Rattle.ybase_preorder.proofs.RowLemmas.{size_forest}
 use Rattle.ylink_grammar.specs.LinkView.{view}
 use Rattle.ylink_names.specs.Ordered.{AreInOrder}
-use Rattle.ylink.proofs.OrderLemmas.{all_in_order, none_in_order, both_ok, straight}
-use Rattle.ylink.proofs.WithinLemmas.{edges_within}
+use Rattle.ylink_types.proofs.OrderLemmas.{all_in_order, none_in_order, both_ok, straight}
+use Rattle.ylink_types.proofs.WithinLemmas.{edges_within}
 use Rattle.ylink.proofs.ordering.order_of.Goals as goal
 
 pub returns-then-not-names_any : goal.returns-then-not-names_any

@@ -13,8 +13,8 @@ use Rattle.ylink_grammar.specs.LinkView.{view}
 use Rattle.ylink_grammar.specs.SourceView.{source_view}
 use Rattle.ylink_names.specs.ScopeView.{placed_at}
 use Rattle.ylink_names.proofs.MeaningLemmas.{next_meant, all_meant}
-use Rattle.ylink.specs.TypeView.{verdict_view}
-use Rattle.ylink.specs.TypedefView.{verdicts_in}
+use Rattle.ylink_types.specs.TypeView.{verdict_view}
+use Rattle.ylink_types.specs.TypedefView.{verdicts_in}
 use Rattle.ylink.specs.VerdictView.{judged, held_view, members_in, members_below, table_view}
 use Rattle.ylink.proofs.VerdictLemmas.{seam, no_member, next_member, all_members}
 use Rattle.ylink.proofs.verdicts.+add_verdicts.Goals as goal

@@ -6,8 +6,8 @@ use Rattle.yspec.specs.linking.Scopes.{placed}
 use Rattle.ybase_preorder.specs.View.{row_by, row_view}
 use Rattle.ylink_grammar.specs.LinkView.{view}
 use Rattle.ylink_grammar.specs.SourceView.{source_view}
-use Rattle.ylink.specs.TypeView.{verdict_view}
-use Rattle.ylink.specs.TypedefView.{verdicts_in}
+use Rattle.ylink_types.specs.TypeView.{verdict_view}
+use Rattle.ylink_types.specs.TypedefView.{verdicts_in}
 use Rattle.ylink.specs.VerdictView.{judged, members_below, table_view}
 use Rattle.ylink.proofs.verdicts.+add_verdicts.Given as goal
 

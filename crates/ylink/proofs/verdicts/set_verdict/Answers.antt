@@ -1,7 +1,7 @@
 use Rattle.std.proofs.Common.{Some, ap, ◌∙◌}
 use Rattle.std.specs.Prelude.{slice_set}
 use Rattle.std.proofs.lemmas.List.{map-set}
-use Rattle.ylink.specs.TypeView.{verdict_view}
+use Rattle.ylink_types.specs.TypeView.{verdict_view}
 use Rattle.ylink.specs.VerdictView.{held_view, table_view}
 use Rattle.ylink.proofs.verdicts.set_verdict.Goals as goal
 

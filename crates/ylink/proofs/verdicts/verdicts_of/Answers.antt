@@ -3,7 +3,7 @@ use mathlib.Core.Path.{fun_ext}
 use Rattle.yspec.specs.linking.DerivedTypes.{verdict_by}
 use Rattle.yspec.specs.linking.Scopes.{placed, statements_of}
 use Rattle.ylink_grammar.specs.LinkView.{view}
-use Rattle.ylink.specs.TypedefView.{verdicts_in}
+use Rattle.ylink_types.specs.TypedefView.{verdicts_in}
 use Rattle.ylink.specs.VerdictView.{judged, table_view}
 use Rattle.ylink.proofs.verdicts.verdicts_of.Goals as goal
 

@@ -16,7 +16,7 @@ use Rattle.yspec.proofs.EditProofs.FittingEditLemmas.{edit_fits}
 use Rattle.yschema_model.proofs.CallerLemmas.{numbered}
 use Rattle.yspec_reach.specs.Parts.{exchange_of}
 use Rattle.ylive_edit.specs.Reads.{created_parts, moved_parts, parts_reads, removed_parts, replaced_parts}
-use Rattle.ylive_edit.proofs.ReadLemmas.{if_ok, refused_within, spent_place, spent_refused, within_more}
+use Rattle.ylive_edit.proofs.ReadLemmas.{if_ok, refused_within, spent_fewer, spent_place, spent_refused, within_more}
 use Rattle.ylive_edit.proofs.amending.amend.Goals as goal
 
 pub returns-in-Ok-clause-amends : goal.returns-in-Ok-clause-amends
@@ -129,8 +129,8 @@ returns-in-Ok-place_of-2-clause-reads c = λ tree holds sorted fits.
     let given = subst (If (Fits s)) (ap (λ a. a >>= spec.removed s tree) placed.3)
     (subst (λ e. If (Fits s) (applied s tree (edit_view e))) c.in-Remove.is (edit_fits s tree (edit_view c.args.edit.now) (numbered c.args.schema.now) fits)) in
     let parts = ap (λ e. exchange_of s tree (edit_view e)) c.in-Remove.is ∙ ap (λ a. a >>= removed_parts s) placed.3 in
-    within_more c.remove.result (3 + parts_reads s tree (removed_parts s t)) _ (store_of c.args.counted.now) (store_of c.place_of-in-Remove.new.counted) (store_of c.remove.new.counted)
-    (spent_place _ _ (levels s.nodes) 3 _ _ c.in-Ok-place_of-2.ensures.reads (omega arith) (sym (ap (parts_reads s tree) parts)))
+    within_more c.remove.result (4 + parts_reads s tree (removed_parts s t)) _ (store_of c.args.counted.now) (store_of c.place_of-in-Remove.new.counted) (store_of c.remove.new.counted)
+    (spent_place _ _ (levels s.nodes) 4 _ _ c.in-Ok-place_of-2.ensures.reads (omega arith) (sym (ap (parts_reads s tree) parts)))
     (c.remove.ensures.reads tree placed.0 placed.1 placed.2 fits (if_ok (Fits s) (spec.removed s tree t) given))
 
 pub returns-in-Err-clause-reads : goal.returns-in-Err-clause-reads
@@ -179,8 +179,8 @@ returns-in-Ok-place_to_move-clause-reads c = λ tree holds sorted fits.
     let given = subst (If (Fits s)) (ap (λ a. a >>= spec.moved s tree position) placed.3)
     (subst (λ e. If (Fits s) (applied s tree (edit_view e))) c.in-Move.is (edit_fits s tree (edit_view c.args.edit.now) (numbered c.args.schema.now) fits)) in
     let parts = ap (λ e. exchange_of s tree (edit_view e)) c.in-Move.is ∙ ap (λ a. a >>= moved_parts s position) placed.3 in
-    within_more c.move_node.result (4 + parts_reads s tree (moved_parts s position t)) _ (store_of c.args.counted.now) (store_of c.place_to_move.new.counted) (store_of c.move_node.new.counted)
-    (spent_place _ _ (levels s.nodes) 4 _ _ c.in-Ok-place_to_move.ensures.reads (omega arith) (sym (ap (parts_reads s tree) parts)))
+    within_more c.move_node.result (5 + parts_reads s tree (moved_parts s position t)) _ (store_of c.args.counted.now) (store_of c.place_to_move.new.counted) (store_of c.move_node.new.counted)
+    (spent_fewer _ _ (levels s.nodes) 5 _ _ c.in-Ok-place_to_move.ensures.fewer (omega arith) (sym (ap (parts_reads s tree) parts)))
     (c.move_node.ensures.reads tree placed.0 placed.1 placed.2 fits (if_ok (Fits s) (spec.moved s tree position t) given))
 
 pub returns-in-Err-place_to_move-clause-reads : goal.returns-in-Err-place_to_move-clause-reads

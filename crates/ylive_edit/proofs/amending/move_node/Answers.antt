@@ -43,7 +43,7 @@ shift_part-requires c =
     let old = store_of c.args.counted.now in
     let mid = store_of c.instance_meant.new.counted in
     let last = store_of c.count_of.new.self in
-    let placed = store_of c.place_of-from.new.self in
+    let placed = store_of c.place_among-from.new.counted in
     let r = c.requires.at in
     let meant = c.in-Ok.ensures.meets r.tree r.steps r.f r.at in
     let step = meant.0 in
@@ -56,10 +56,10 @@ shift_part-requires c =
         f = r.f;
         step = step;
         of = id;
-        at = at_read s last placed r.tree r.steps row r.f at_last (one_read last placed c.place_of-from.ensures.counted.store);
+        at = at_read s last placed r.tree r.steps row r.f at_last c.place_among-from.ensures.kept;
         part = part_of step id c.in-Ok.node r.f meant.3 meant.2;
         is_number = refl;
-        is_index = sym (place_found s last r.tree r.steps row r.f at_last id (instance_index step) c.in-Ok.node meant.3 c.place_of-from.result c.place_of-from.ensures.place);
+        is_index = sym (place_found s last r.tree r.steps row r.f at_last id (instance_index step) c.in-Ok.node meant.3 c.place_among-from.result c.place_among-from.ensures.place);
       },
     )
 
@@ -71,7 +71,7 @@ returns-in_ok-shift_part-in-Ok-clause-amends c = λ tree above f at.
     let old = store_of c.args.counted.now in
     let mid = store_of c.instance_meant.new.counted in
     let last = store_of c.count_of.new.self in
-    let placed = store_of c.place_of-from.new.self in
+    let placed = store_of c.place_among-from.new.counted in
     let t = target_at s above f c.args.place.last in
     let meant = c.in-Ok.ensures.meets tree above f at in
     let step = meant.0 in
@@ -82,9 +82,9 @@ returns-in_ok-shift_part-in-Ok-clause-amends c = λ tree above f at.
       edit_at above (spec.with_moved step c.args.position) tree,
       moved_is s tree c.args.position t step false meant.1 past,
       c.in_ok-shift_part-in-Ok.ensures.shifted tree above f step _ c.args.position
-          (at_read s last placed tree above row f at_last (one_read last placed c.place_of-from.ensures.counted.store))
+          (at_read s last placed tree above row f at_last c.place_among-from.ensures.kept)
           (part_of step id c.in-Ok.node f meant.3 meant.2)
-          (sym (place_found s last tree above row f at_last id (instance_index step) c.in-Ok.node meant.3 c.place_of-from.result c.place_of-from.ensures.place))
+          (sym (place_found s last tree above row f at_last id (instance_index step) c.in-Ok.node meant.3 c.place_among-from.result c.place_among-from.ensures.place))
           (sym c.saturating_sub-to.ensures),
     )
 
@@ -95,11 +95,11 @@ returns-in_err-shift_part-in-Ok-clause-amends c = λ tree above f at.
     let old = store_of c.args.counted.now in
     let mid = store_of c.instance_meant.new.counted in
     let last = store_of c.count_of.new.self in
-    let placed = store_of c.place_of-from.new.self in
+    let placed = store_of c.place_among-from.new.counted in
     let at_mid = at_read s old mid tree above row f at c.in-Ok.ensures.kept in
     let at_last = at_read s mid last tree above row f at_mid (one_read mid last c.count_of.ensures.counted.store) in
     wanting s c.from_residual.result tree _ (store_of c.shift_part.new.counted) c.from_residual.ensures.1
-    (c.in_err-shift_part-in-Ok.ensures.shows tree above f (at_read s last placed tree above row f at_last (one_read last placed c.place_of-from.ensures.counted.store)))
+    (c.in_err-shift_part-in-Ok.ensures.shows tree above f (at_read s last placed tree above row f at_last c.place_among-from.ensures.kept))
 
 pub returns-in-Err-clause-amends : goal.returns-in-Err-clause-amends
 returns-in-Err-clause-amends c = λ tree above f at.
@@ -134,7 +134,7 @@ returns-in_ok-shift_part-in-Ok-clause-reads c = λ tree above f at fits given.
     let old = store_of c.args.counted.now in
     let mid = store_of c.instance_meant.new.counted in
     let last = store_of c.count_of.new.self in
-    let placed = store_of c.place_of-from.new.self in
+    let placed = store_of c.place_among-from.new.counted in
     let t = target_at s above f c.args.place.last in
     let meant = c.in-Ok.ensures.meets tree above f at in
     let step = meant.0 in
@@ -144,12 +144,12 @@ returns-in_ok-shift_part-in-Ok-clause-reads c = λ tree above f at fits given.
     (le-ltb c.count_of.result c.args.position c.if-count_of-position.false) in
     let two = c.in-Ok.ensures.reads in
     let one = c.count_of.ensures.counted.store.counted in
-    let again = c.place_of-from.ensures.counted.store.counted in
+    let again = c.place_among-from.ensures.reads in
     let parts = exchange_within s tree _ _ (moved_parts_are s c.args.position t step meant.1 past) in
     let shifted = c.in_ok-shift_part-in-Ok.ensures.reads tree above f t.last step _ c.args.position
-    (at_read s last placed tree above row f at_last (one_read last placed c.place_of-from.ensures.counted.store))
+    (at_read s last placed tree above row f at_last c.place_among-from.ensures.kept)
     (part_of step id c.in-Ok.node f meant.3 meant.2)
-    (sym (place_found s last tree above row f at_last id (instance_index step) c.in-Ok.node meant.3 c.place_of-from.result c.place_of-from.ensures.place))
+    (sym (place_found s last tree above row f at_last id (instance_index step) c.in-Ok.node meant.3 c.place_among-from.result c.place_among-from.ensures.place))
     (sym c.saturating_sub-to.ensures) fits
     (subst (λ r. IfOk r (Fits s)) (moved_is s tree c.args.position t step false meant.1 past) given) in
     omega (arith, two, one, again, parts, shifted)

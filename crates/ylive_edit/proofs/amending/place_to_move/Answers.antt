@@ -8,6 +8,7 @@ use Rattle.yschema_model.specs.View as schema_view
 use Rattle.yinst_path.specs.Binding.{step_view, steps_view}
 use Rattle.yinst_path.specs.EditView.{path_view}
 use Rattle.ystore.specs.Views.{store_of}
+use Rattle.ystore.proofs.StoreLemmas.{on_ok}
 use Rattle.ylive_edit.specs.Locating.{CountFromOne, Locates}
 use Rattle.ylive_edit.proofs.OrderLemmas.{moved_from_one}
 use Rattle.ylive_edit.proofs.StepLemmas.{IsShort, short_bound}
@@ -34,3 +35,13 @@ returns-in-Ok-clause-reads c =
     let all = ap length c.as_slice.ensures.value in
     let read = c.locate.ensures.reads in
     omega (arith, few, same, all, read)
+
+pub returns-in-Ok-clause-fewer : goal.returns-in-Ok-clause-fewer
+returns-in-Ok-clause-fewer c =
+    let s = schema_view.view c.args.schema.now in
+    let path = path_view c.args.path.now in
+    let few = (subst (If (λ bs. IsShort s.nodes bs × EndsInMany bs)) c.in-Ok.ensures (to_move (IsShort s.nodes) s path c.args.position (short_bound s false path))).0 in
+    let same = length-map c.in-Ok.bound.steps.items (step_view s) in
+    let all = ap length c.as_slice.ensures.value in
+    let read = c.locate.ensures.reads in
+    on_ok c.locate.result c.locate.ensures.some (λ some. omega (arith, few, same, all, read, some))

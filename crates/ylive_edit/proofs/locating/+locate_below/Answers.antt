@@ -47,11 +47,13 @@ returns-in-Ok-clause-reads t c =
     let rest = c.locate_below.ensures.reads in
     let e : c.args.steps.now ≡ c.in-Some.step.now ∷ c.in-Some.more.now = search rules in
     let long = ap length e in
-    omega (arith, two, rest, long)
+    let least = c.in-Some.len_at_least in
+    omega (arith, two, rest, long, least)
 
 pub returns-in-Err-clause-reads : goal.returns-in-Err-clause-reads
 returns-in-Err-clause-reads t c =
     let two = c.in-Err.ensures.reads in
     let e : c.args.steps.now ≡ c.in-Some.step.now ∷ c.in-Some.more.now = search rules in
     let long = ap length e in
-    omega (arith, two, long)
+    let least = c.in-Some.len_at_least in
+    omega (arith, two, long, least)

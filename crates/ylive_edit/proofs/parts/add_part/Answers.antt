@@ -14,12 +14,12 @@ returns-in_err-hang_part-clause-amends c = λ tree steps f at.
 
 pub returns-in-true-clause-amends : goal.returns-in-true-clause-amends
 returns-in-true-clause-amends c = λ tree steps f at.
-    part.hung (schema_view.view c.args.schema.now) tree (edit_at steps (with_branch (branch_of c.args.part.now)) tree) (store_of c.hang_part.new.counted)
+    part.hung (schema_view.view c.args.schema.now) tree (edit_at steps (with_branch (branch_of c.args.part)) tree) (store_of c.hang_part.new.counted)
     c.in_ok-hang_part.field-0 c.in-true.is (c.in_ok-hang_part.ensures.hangs tree steps f at)
 
 pub returns-in-false-clause-amends : goal.returns-in-false-clause-amends
 returns-in-false-clause-amends c = λ tree steps f at.
-    part.no_room (schema_view.view c.args.schema.now) tree (edit_at steps (with_branch (branch_of c.args.part.now)) tree) (store_of c.hang_part.new.counted)
+    part.no_room (schema_view.view c.args.schema.now) tree (edit_at steps (with_branch (branch_of c.args.part)) tree) (store_of c.hang_part.new.counted)
     c.refused.result c.in_ok-hang_part.field-0 c.in-false.is c.refused.ensures (c.in_ok-hang_part.ensures.hangs tree steps f at)
 
 pub returns-in_err-hang_part-clause-reads : goal.returns-in_err-hang_part-clause-reads
@@ -27,9 +27,9 @@ returns-in_err-hang_part-clause-reads c = λ tree steps f last at fits given. me
 
 pub returns-in-true-clause-reads : goal.returns-in-true-clause-reads
 returns-in-true-clause-reads c = λ tree steps f last at fits given.
-    c.in_ok-hang_part.ensures.reads tree steps f last at fits (fits_within (schema_view.view c.args.schema.now) (edit_at steps (with_branch (branch_of c.args.part.now)) tree) given)
+    c.in_ok-hang_part.ensures.reads tree steps f last at fits (fits_within (schema_view.view c.args.schema.now) (edit_at steps (with_branch (branch_of c.args.part)) tree) given)
 
 pub returns-in-false-clause-reads : goal.returns-in-false-clause-reads
 returns-in-false-clause-reads c = λ tree steps f last at fits given.
     refused_within (Unit {0}) c.refused.result _ (store_of c.args.counted.now) (store_of c.hang_part.new.counted)
-    (c.in_ok-hang_part.ensures.reads tree steps f last at fits (fits_within (schema_view.view c.args.schema.now) (edit_at steps (with_branch (branch_of c.args.part.now)) tree) given))
+    (c.in_ok-hang_part.ensures.reads tree steps f last at fits (fits_within (schema_view.view c.args.schema.now) (edit_at steps (with_branch (branch_of c.args.part)) tree) given))

@@ -1,4 +1,5 @@
 use Rattle.std.proofs.Common.{ap, arith, refl, subst, ◌∙◌}
+use Rattle.std.proofs.lemmas.Bool.{false≢true}
 use Rattle.yspec.specs.Forest.{end, node}
 use Rattle.yschema_model.specs.View as schema_view
 use Rattle.yinst_tree.specs.View.{view}
@@ -24,8 +25,8 @@ returns-then-node_count-most-clause-hangs c = λ tree steps f at.
     let s = schema_view.view c.args.schema.now in
     let old = store_of c.args.counted.now in
     let mid = store_of c.insert_part.new.counted in
-    let label = (view c.args.part.now).0 in
-    let below = (view c.args.part.now).1 in
+    let label = (view c.args.part).0 in
+    let below = (view c.args.part).1 in
     let made = subst (λ had. Inserts c.args.above c.in_ok-new.new label below old mid had c.insert_part.new.numbers.items) c.new-numbers.ensures.items c.in_ok-new.ensures.ok in
     let many = c.if-node_count-most.true in
     let count = c.node_count.ensures in
@@ -37,20 +38,20 @@ change_row-requires c =
     let s = schema_view.view c.args.schema.now in
     let old = store_of c.args.counted.now in
     let mid = store_of c.insert_part.new.counted in
-    let label = (view c.args.part.now).0 in
-    let below = (view c.args.part.now).1 in
+    let label = (view c.args.part).0 in
+    let below = (view c.args.part).1 in
     let made = subst (λ had. Inserts c.args.above c.in_ok-new.new label below old mid had c.insert_part.new.numbers.items) c.new-numbers.ensures.items c.in_ok-new.ensures.ok in
     let at = c.requires.at in
     part.adding s old mid at.tree at.steps c.args.above at.f c.in_ok-new.new label below c.insert_part.new.numbers.items made c.insert_part.ensures.fresh at.at c.requires.sorted
-    c.deref-2.result.now c.deref-2.ensures.value c.id.result c.id.ensures
+    c.deref-2.result.now c.deref-2.ensures.value c.id-of.result c.id-of.ensures
 
 pub returns-clause-hangs : goal.returns-clause-hangs
 returns-clause-hangs c = λ tree steps f at.
     let s = schema_view.view c.args.schema.now in
     let old = store_of c.args.counted.now in
     let mid = store_of c.insert_part.new.counted in
-    let label = (view c.args.part.now).0 in
-    let below = (view c.args.part.now).1 in
+    let label = (view c.args.part).0 in
+    let below = (view c.args.part).1 in
     let has = c.insert_part.new.numbers.items in
     let made = subst (λ had. Inserts c.args.above c.in_ok-new.new label below old mid had has) c.new-numbers.ensures.items c.in_ok-new.ensures.ok in
     let fresh = c.insert_part.ensures.fresh in
@@ -59,7 +60,7 @@ returns-clause-hangs c = λ tree steps f at.
     let count = c.node_count.ensures in
     let most = c.requires.most in
     let more_size = part.more_size s old mid tree steps c.args.above f c.in_ok-new.new label below has made fresh at sorted in
-    let p = part.adding s old mid tree steps c.args.above f c.in_ok-new.new label below has made fresh at sorted c.deref-2.result.now c.deref-2.ensures.value c.id.result c.id.ensures in
+    let p = part.adding s old mid tree steps c.args.above f c.in_ok-new.new label below has made fresh at sorted c.deref-2.result.now c.deref-2.ensures.value c.id-of.result c.id-of.ensures in
     part.hangs s old mid tree steps c.args.above f c.in_ok-new.new label below has made fresh at sorted c.args.most (store_of c.change_row.new.counted) (omega (arith, few, count))
     (c.in_ok-change_row.ensures.keeps p)
     (c.in_ok-change_row.ensures.told p (part.told_mid s old mid tree steps c.args.above f c.in_ok-new.new label below has made fresh at sorted)
@@ -70,8 +71,8 @@ returns-in_err-change_row-clause-shows c = λ tree steps f at.
     let s = schema_view.view c.args.schema.now in
     let old = store_of c.args.counted.now in
     let mid = store_of c.insert_part.new.counted in
-    let label = (view c.args.part.now).0 in
-    let below = (view c.args.part.now).1 in
+    let label = (view c.args.part).0 in
+    let below = (view c.args.part).1 in
     let has = c.insert_part.new.numbers.items in
     let made = subst (λ had. Inserts c.args.above c.in_ok-new.new label below old mid had has) c.new-numbers.ensures.items c.in_ok-new.ensures.ok in
     let loose = node made.root (part.g s old mid tree steps c.args.above f c.in_ok-new.new label below has made c.insert_part.ensures.fresh at c.requires.sorted) end in
@@ -97,8 +98,8 @@ returns-clause-reads c = λ tree steps f last at fits then.
     let s = schema_view.view c.args.schema.now in
     let old = store_of c.args.counted.now in
     let mid = store_of c.insert_part.new.counted in
-    let label = (view c.args.part.now).0 in
-    let below = (view c.args.part.now).1 in
+    let label = (view c.args.part).0 in
+    let below = (view c.args.part).1 in
     let has = c.insert_part.new.numbers.items in
     let made = subst (λ had. Inserts c.args.above c.in_ok-new.new label below old mid had has) c.new-numbers.ensures.items c.in_ok-new.ensures.ok in
     let fresh = c.insert_part.ensures.fresh in
@@ -108,7 +109,7 @@ returns-clause-reads c = λ tree steps f last at fits then.
     let most = c.requires.most in
     let more_size = part.more_size s old mid tree steps c.args.above f c.in_ok-new.new label below has made fresh at sorted in
     let added_size = part.added_size s old mid tree steps c.args.above f c.in_ok-new.new label below has made fresh at sorted in
-    let p = part.adding s old mid tree steps c.args.above f c.in_ok-new.new label below has made fresh at sorted c.deref-2.result.now c.deref-2.ensures.value c.id.result c.id.ensures in
+    let p = part.adding s old mid tree steps c.args.above f c.in_ok-new.new label below has made fresh at sorted c.deref-2.result.now c.deref-2.ensures.value c.id-of.result c.id-of.ensures in
     let b = part.b s old mid tree steps c.args.above f c.in_ok-new.new label below has made fresh at sorted in
     let more = part.more s old mid tree steps c.args.above f c.in_ok-new.new label below has made fresh at sorted in
     let changed = part.branch_is s old mid tree steps c.args.above f c.in_ok-new.new label below has made fresh at sorted in
@@ -119,3 +120,33 @@ returns-clause-reads c = λ tree steps f last at fits then.
     (c.in_ok-change_row.ensures.reads p (part.told_mid s old mid tree steps c.args.above f c.in_ok-new.new label below has made fresh at sorted)
     (part.fresh_mid s old mid tree steps c.args.above f c.in_ok-new.new label below has made fresh at sorted) (omega (arith, few, count, most, more_size))
     (narrow_at s at.way f more tree _ (numbered c.args.schema.now) at.is_tree now fits (then (omega (arith, few, count, added_size)))))
+
+pub returns-clause-carries : goal.returns-clause-carries
+returns-clause-carries c = λ tree steps f at _.
+    let s = schema_view.view c.args.schema.now in
+    let old = store_of c.args.counted.now in
+    let mid = store_of c.insert_part.new.counted in
+    let label = (view c.args.part).0 in
+    let below = (view c.args.part).1 in
+    let has = c.insert_part.new.numbers.items in
+    let made = subst (λ had. Inserts c.args.above c.in_ok-new.new label below old mid had has) c.new-numbers.ensures.items c.in_ok-new.ensures.ok in
+    let fresh = c.insert_part.ensures.fresh in
+    let sorted = c.requires.sorted in
+    let few = c.if-node_count-most.false in
+    let count = c.node_count.ensures in
+    let most = c.requires.most in
+    let more_size = part.more_size s old mid tree steps c.args.above f c.in_ok-new.new label below has made fresh at sorted in
+    let p = part.adding s old mid tree steps c.args.above f c.in_ok-new.new label below has made fresh at sorted c.deref-2.result.now c.deref-2.ensures.value c.id-of.result c.id-of.ensures in
+    part.carries s old mid tree steps c.args.above f c.in_ok-new.new label below has made fresh at sorted (store_of c.change_row.new.counted)
+    (c.in_ok-change_row.ensures.keeps p)
+    (c.in_ok-change_row.ensures.told p (part.told_mid s old mid tree steps c.args.above f c.in_ok-new.new label below has made fresh at sorted)
+    (part.fresh_mid s old mid tree steps c.args.above f c.in_ok-new.new label below has made fresh at sorted) (omega (arith, few, count, most, more_size)))
+
+pub returns-then-node_count-most-clause-carries : goal.returns-then-node_count-most-clause-carries
+returns-then-node_count-most-clause-carries c = λ tree steps f at yes. absurd (false≢true yes)
+
+pub returns-in_err-new-clause-carries : goal.returns-in_err-new-clause-carries
+returns-in_err-new-clause-carries c = λ tree steps f at. part.if_err _ _ c.from_residual.result c.from_residual.ensures.1
+
+pub returns-in_err-change_row-clause-carries : goal.returns-in_err-change_row-clause-carries
+returns-in_err-change_row-clause-carries c = λ tree steps f at. part.if_err _ _ c.from_residual-in_err-change_row.result c.from_residual-in_err-change_row.ensures.1

@@ -27,8 +27,8 @@ returns-then-saturating_sub-gt-DOCUMENT_LIMIT-clause-amends c = λ tree steps f 
     let s = schema_view.view c.args.schema.now in
     let old = store_of c.args.counted.now in
     let mid = store_of c.insert_part.new.counted in
-    let label = (view c.args.part.now).0 in
-    let below = (view c.args.part.now).1 in
+    let label = (view c.args.part).0 in
+    let below = (view c.args.part).1 in
     let made = subst (λ had. Inserts c.args.above c.in_ok-new.new label below old mid had c.insert_part.new.numbers.items) c.new-numbers.ensures.items c.in_ok-new.ensures.ok in
     let many = c.if-saturating_sub-gt-DOCUMENT_LIMIT.true in
     let count = c.node_count.ensures in
@@ -42,20 +42,20 @@ change_row-requires c =
     let s = schema_view.view c.args.schema.now in
     let old = store_of c.args.counted.now in
     let mid = store_of c.insert_part.new.counted in
-    let label = (view c.args.part.now).0 in
-    let below = (view c.args.part.now).1 in
+    let label = (view c.args.part).0 in
+    let below = (view c.args.part).1 in
     let made = subst (λ had. Inserts c.args.above c.in_ok-new.new label below old mid had c.insert_part.new.numbers.items) c.new-numbers.ensures.items c.in_ok-new.ensures.ok in
     let p = c.requires.at.1 in
     part.putting s old mid p.tree p.steps c.args.above p.f c.in_ok-new.new label below c.insert_part.new.numbers.items made c.insert_part.ensures.fresh p.at c.requires.sorted
-    p.step p.of c.args.old c.args.old_numbers.now p.part c.deref-2.result.now c.deref-2.ensures.value c.id.result c.id.ensures (sym p.is_number)
+    p.step p.of c.args.old c.args.old_numbers.now p.part c.deref-2.result.now c.deref-2.ensures.value c.id-of.result c.id-of.ensures (sym p.is_number)
 
 pub returns-clause-amends : goal.returns-clause-amends
 returns-clause-amends c = λ tree steps f step schema at is same.
     let s = schema_view.view c.args.schema.now in
     let old = store_of c.args.counted.now in
     let mid = store_of c.insert_part.new.counted in
-    let label = (view c.args.part.now).0 in
-    let below = (view c.args.part.now).1 in
+    let label = (view c.args.part).0 in
+    let below = (view c.args.part).1 in
     let has = c.insert_part.new.numbers.items in
     let made = subst (λ had. Inserts c.args.above c.in_ok-new.new label below old mid had has) c.new-numbers.ensures.items c.in_ok-new.ensures.ok in
     let fresh = c.insert_part.ensures.fresh in
@@ -63,7 +63,7 @@ returns-clause-amends c = λ tree steps f step schema at is same.
     let few = c.if-saturating_sub-gt-DOCUMENT_LIMIT.false in
     let count = c.node_count.ensures in
     let less = c.saturating_sub.ensures in
-    let p = part.putting s old mid tree steps c.args.above f c.in_ok-new.new label below has made fresh at sorted step schema c.args.old c.args.old_numbers.now is c.deref-2.result.now c.deref-2.ensures.value c.id.result c.id.ensures same in
+    let p = part.putting s old mid tree steps c.args.above f c.in_ok-new.new label below has made fresh at sorted step schema c.args.old c.args.old_numbers.now is c.deref-2.result.now c.deref-2.ensures.value c.id-of.result c.id-of.ensures same in
     let other_size = part.other_size s old mid tree steps c.args.above f c.in_ok-new.new label below has made fresh at sorted step schema c.args.old c.args.old_numbers.now is in
     part.put_part s old mid tree steps c.args.above f c.in_ok-new.new label below has made fresh at sorted step schema c.args.old c.args.old_numbers.now is (store_of c.change_row.new.counted)
     (omega (arith, few, less, count)) (c.in_ok-change_row.ensures.keeps p)
@@ -75,8 +75,8 @@ returns-in_err-change_row-clause-amends c = λ tree steps f step schema at is sa
     let s = schema_view.view c.args.schema.now in
     let old = store_of c.args.counted.now in
     let mid = store_of c.insert_part.new.counted in
-    let label = (view c.args.part.now).0 in
-    let below = (view c.args.part.now).1 in
+    let label = (view c.args.part).0 in
+    let below = (view c.args.part).1 in
     let has = c.insert_part.new.numbers.items in
     let made = subst (λ had. Inserts c.args.above c.in_ok-new.new label below old mid had has) c.new-numbers.ensures.items c.in_ok-new.ensures.ok in
     let loose = node made.root (part.g s old mid tree steps c.args.above f c.in_ok-new.new label below has made c.insert_part.ensures.fresh at c.requires.sorted) end in
@@ -103,8 +103,8 @@ returns-clause-reads c = λ tree steps f last step schema at is same fits given.
     let s = schema_view.view c.args.schema.now in
     let old = store_of c.args.counted.now in
     let mid = store_of c.insert_part.new.counted in
-    let label = (view c.args.part.now).0 in
-    let below = (view c.args.part.now).1 in
+    let label = (view c.args.part).0 in
+    let below = (view c.args.part).1 in
     let has = c.insert_part.new.numbers.items in
     let made = subst (λ had. Inserts c.args.above c.in_ok-new.new label below old mid had has) c.new-numbers.ensures.items c.in_ok-new.ensures.ok in
     let fresh = c.insert_part.ensures.fresh in
@@ -112,7 +112,7 @@ returns-clause-reads c = λ tree steps f last step schema at is same fits given.
     let few = c.if-saturating_sub-gt-DOCUMENT_LIMIT.false in
     let count = c.node_count.ensures in
     let less = c.saturating_sub.ensures in
-    let p = part.putting s old mid tree steps c.args.above f c.in_ok-new.new label below has made fresh at sorted step schema c.args.old c.args.old_numbers.now is c.deref-2.result.now c.deref-2.ensures.value c.id.result c.id.ensures same in
+    let p = part.putting s old mid tree steps c.args.above f c.in_ok-new.new label below has made fresh at sorted step schema c.args.old c.args.old_numbers.now is c.deref-2.result.now c.deref-2.ensures.value c.id-of.result c.id-of.ensures same in
     let other_size = part.other_size s old mid tree steps c.args.above f c.in_ok-new.new label below has made fresh at sorted step schema c.args.old c.args.old_numbers.now is in
     let put_size = part.put_size s old mid tree steps c.args.above f c.in_ok-new.new label below has made fresh at sorted step schema c.args.old c.args.old_numbers.now is in
     let other = part.other s old mid tree steps c.args.above f c.in_ok-new.new label below has made fresh at sorted step schema c.args.old c.args.old_numbers.now is in

@@ -8,5 +8,5 @@ pub returns-in-Ok-check_live-clause-answer : goal.returns-in-Ok-check_live-claus
 returns-in-Ok-check_live-clause-answer c =
     let es = edits_view c.args.edits.now in
     ap (checked_from (schema_view.view c.args.schema) es) c.in-Ok.ensures.answer
-    ∙ sym (ap (λ (l : Live). checked_from l.schema es (Ok l.tree)) c.in-Ok-open.ensures.opened)
+    ∙ sym (ap (λ (l : Live). checked_from l.schema es (Ok l.tree)) c.in-Ok-from_parts.ensures.opened)
     ∙ sym c.in-Ok-check_live.ensures

@@ -4,7 +4,7 @@ use Rattle.yspec.specs.text.Text.{Text}
 use Rattle.yspec.specs.document.Document.{instances_in}
 use Rattle.yinst_tree.specs.View.{row_view}
 use Rattle.ysay_fault.specs.Cases.{case_names, listed}
-use Rattle.ysay_fault.proofs.CaseLemmas.{joined}
+use Rattle.ysay_value.proofs.JoiningLemmas.{joined}
 use Rattle.ysay_fault.proofs.cases.stored_case_names.Goals as goal
 
 pub returns-in_ok-case_names-in-Some : goal.returns-in_ok-case_names-in-Some

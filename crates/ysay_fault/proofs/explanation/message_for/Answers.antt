@@ -1,6 +1,6 @@
 use Rattle.yschema_model.specs.View.{view}
 use Rattle.yinst_tree.specs.View.{row_view, tree_view, place_view}
-use Rattle.ysay_fault.proofs.PlaceLemmas.{row_in_order}
+use Rattle.ysay_place.proofs.PlaceLemmas.{row_in_order}
 use Rattle.ysay_fault.proofs.SentenceLemmas.{own_of_last}
 use Rattle.ysay_fault.proofs.explanation.message_for.Goals as goal
 

@@ -7,7 +7,7 @@ use Rattle.ysay_fault.specs.Fellows.{fellow_entry}
 use Rattle.ysay_fault.specs.FoundFellows.{fellow_at}
 use Rattle.ysay_fault.specs.Sentences.{same_unique}
 use Rattle.ysay_fault.proofs.FoundLemmas.{fellow_at_last}
-use Rattle.ysay_fault.proofs.PlaceLemmas.{row_in_order}
+use Rattle.ysay_place.proofs.PlaceLemmas.{row_in_order}
 use Rattle.ysay_fault.proofs.SentenceLemmas.{said_of_last}
 use Rattle.ysay_fault.proofs.explanation.sentence_at.Goals as goal
 

@@ -1,5 +1,5 @@
 use Rattle.std.proofs.Common.{sym}
-use Rattle.ysay_fault.proofs.PlaceLemmas.{above_seen}
+use Rattle.ysay_place.proofs.PlaceLemmas.{above_seen}
 use Rattle.ysay_fault.proofs.explanation.steps_above.Goals as goal
 
 pub returns-in-Some : goal.returns-in-Some

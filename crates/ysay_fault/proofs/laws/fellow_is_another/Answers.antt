@@ -1,6 +1,6 @@
 use Rattle.yspec.specs.document.Document.{instances}
 use Rattle.yspec.specs.document.Instances.{tuple, is_tuple, value_of, is_value}
-use Rattle.ysay_fault.specs.Places.{instance_to}
+use Rattle.ysay_place.specs.Places.{instance_to}
 use Rattle.ysay_fault.proofs.FellowLemmas.{apart, of_given, of_some}
 use Rattle.ysay_fault.proofs.laws.fellow_is_another.Goals as goal
 

@@ -2,7 +2,7 @@ use Rattle.std.proofs.Common.{sym, ap, ◌∙◌}
 use Rattle.std.specs.Option.{option_map_or}
 use Rattle.yspec.specs.schema.Schema.{children_of}
 use Rattle.yschema_model.specs.View.{view}
-use Rattle.ysay_fault.proofs.PlaceLemmas.{last_seen}
+use Rattle.ysay_place.proofs.PlaceLemmas.{last_seen}
 use Rattle.ysay_fault.proofs.sentences.children_at.Goals as goal
 
 pub returns-in-Some : goal.returns-in-Some

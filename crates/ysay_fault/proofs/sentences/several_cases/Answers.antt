@@ -4,7 +4,7 @@ use Rattle.yspec.specs.document.Document.{instances_in}
 use Rattle.yspec.specs.document.Sorting.{IsSorted}
 use Rattle.yinst_tree.specs.View.{tree_view, place_view}
 use Rattle.ysay_fault.specs.Cases.{stored_case_names}
-use Rattle.ysay_fault.proofs.PlaceLemmas.{row_sorted}
+use Rattle.ysay_place.proofs.PlaceLemmas.{row_sorted}
 use Rattle.ysay_fault.proofs.sentences.several_cases.Goals as goal
 
 pub returns : goal.returns

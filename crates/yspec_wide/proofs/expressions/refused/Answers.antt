@@ -4,4 +4,4 @@ use Rattle.yspec_wide.proofs.expressions.refused.Goals as goal
 
 pub returns : goal.returns
 unfolding ywide_on_literals
-returns c = record { words_missing = refl; parentheses = refl; of_yang_1 = refl }
+returns c = record { words_missing = refl; parentheses = refl; long = λ tokens more. rw more refl; of_yang_1 = refl }

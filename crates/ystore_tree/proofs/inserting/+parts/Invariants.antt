@@ -1,4 +1,4 @@
-use Rattle.std.proofs.Common.{◌≡◌, drop, length}
+use Rattle.std.proofs.Common.{◌≡◌, length}
 use Rattle.yspec.specs.Forest.{join}
 use Rattle.yspec.specs.document.Document.{Tree}
 use Rattle.yinst_tree.specs.View.{view, row_view}
@@ -13,8 +13,8 @@ abbrev pub invariant-loop-child : goal.invariant-loop-child
 invariant-loop-child l =
     record {
       same_reference : lent l.counted ≡ lent l.fn.counted;
-      room : has_room_for (length (drop l.child-index l.rows)) (store_of l.counted) (Below l.id);
+      room : has_room_for (length l.child-iterator.rest.items) (store_of l.counted) (Below l.id);
       fresh : Freshens (schema_view.view l.schema) (store_of l.fn.counted) (store_of l.counted);
-      made : (t : Tree) × (join t (row_view (drop l.child-index l.rows)) ≡ (view l.stored).1)
-          × Inserts l.fn.above l.id (view l.stored).0 t (store_of l.fn.counted) (store_of l.counted) l.fn.numbers.items l.numbers.items;
+      made : (t : Tree) × (join t (row_view l.child-iterator.rest.items) ≡ (view l.fn.stored).1)
+          × Inserts l.fn.above l.id (view l.fn.stored).0 t (store_of l.fn.counted) (store_of l.counted) l.fn.numbers.items l.numbers.items;
     }

@@ -1,6 +1,6 @@
-use Rattle.std.proofs.Common.{arith, ap, ◌∙◌, ◌+◌, drop}
+use Rattle.std.proofs.Common.{arith, ap, sym, ◌≡◌, ◌∙◌, ◌+◌, drop}
 use Rattle.yspec.specs.Forest.{end, node, join}
-use Rattle.yinst_tree.specs.View.{view, tree_view, row_view}
+use Rattle.yinst_tree.specs.View.{Labelled, view, tree_view, row_view}
 use Rattle.yschema_model.specs.View as schema_view
 use Rattle.ystore.specs.Rows as rows
 use Rattle.ystore.specs.Views.{store_of}
@@ -23,13 +23,14 @@ loop-stored-preserved c = (
       let so = c.loop-stored.invariant.2 before keeps in
       let made = c.in_ok-id.ensures.ok in
       let s = c.stored-item.result in
+      let same : view c.in_ok-part.part ≡ view s = c.in_ok-part.ensures in
       let rows = c.roots-stored-items.result.now in
       let i = c.loop-stored.stored-index in (
         join so.0 (node made.root made.branches end),
-        ap (λ t. join t (row_view (drop (i + 1) rows))) (tree_more so.0 made.root made.branches (view s).0 (view s).1 made.is_label made.is_below)
+        ap (λ t. join t (row_view (drop (i + 1) rows))) (tree_more so.0 made.root made.branches (view s).0 (view s).1 (made.is_label ∙ ap (λ (v : Labelled). v.0) same) (made.is_below ∙ ap (λ (v : Labelled). v.1) same))
             ∙ next_stored rows i s (tree_of so.0) (tree_view c.args.tree.now) (omega arith) c.stored-item.is so.1,
         top_more before so.0 (store_of c.loop-stored.counted) (store_of c.insert_part.new.counted) (store_of c.reserve_child.new.self) (store_of c.add_child.new.self)
-            c.in_ok-id.id c.id.result (view s).0 (view s).1 _ _ made so.2 c.in_ok-reserve_child.ensures.ok c.id.ensures c.add_child.ensures.store,
+            c.in_ok-id.id c.id.result (view c.in_ok-part.part).0 (view c.in_ok-part.part).1 _ _ made so.2 c.in_ok-reserve_child.ensures.ok (c.id.ensures ∙ ap (λ (v : Labelled). v.0.schema_number) (sym same)) c.add_child.ensures.store,
       ),
 )
 

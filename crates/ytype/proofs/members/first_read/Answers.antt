@@ -1,9 +1,9 @@
 use Rattle.std.proofs.Common.{sym, ap, ◌∙◌, Some}
 use Rattle.yspec.specs.types.Types.{SimpleType, Val}
 use Rattle.yspec.specs.types.Values.{simple_read}
-use Rattle.ytype.specs.View.{content_of}
-use Rattle.ytype.specs.Founds.{contents}
-use Rattle.ytype.specs.Identities.{module_names_view}
+use Rattle.ytype_simple.specs.View.{content_of}
+use Rattle.ytype_simple.specs.Founds.{contents}
+use Rattle.ytype_simple.specs.Identities.{module_names_view}
 use Rattle.ytype.proofs.MemberLemmas.{not_first, is_first}
 use Rattle.ytype.proofs.members.first_read.Goals as goal
 

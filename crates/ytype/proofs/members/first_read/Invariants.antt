@@ -1,7 +1,7 @@
 use Rattle.std.proofs.Common.{◌≡◌, drop}
 use Rattle.yspec.specs.types.Types.{SimpleType, first_value}
 use Rattle.yspec.specs.types.Values.{simple_read}
-use Rattle.ytype.specs.Identities.{module_names_view}
+use Rattle.ytype_simple.specs.Identities.{module_names_view}
 use Rattle.ytype.proofs.members.first_read.Given as goal
 
 abbrev pub invariant-members : goal.invariant-members

@@ -1,7 +1,7 @@
 use Rattle.std.proofs.Common.{sym, ap, ◌∙◌, Some}
 use Rattle.yspec.specs.types.Types.{SimpleType, Val, simple_taken}
-use Rattle.ytype.specs.View.{raw_of, content_of}
-use Rattle.ytype.specs.Founds.{contents}
+use Rattle.ytype_simple.specs.View.{raw_of, content_of}
+use Rattle.ytype_simple.specs.Founds.{contents}
 use Rattle.ytype.proofs.MemberLemmas.{not_first, is_first}
 use Rattle.ytype.proofs.members.first_taken.Goals as goal
 

@@ -1,6 +1,6 @@
 use Rattle.std.proofs.Common.{◌≡◌, drop}
 use Rattle.yspec.specs.types.Types.{SimpleType, first_value, simple_taken}
-use Rattle.ytype.specs.View.{raw_of}
+use Rattle.ytype_simple.specs.View.{raw_of}
 use Rattle.ytype.proofs.members.first_taken.Given as goal
 
 abbrev pub invariant-members : goal.invariant-members

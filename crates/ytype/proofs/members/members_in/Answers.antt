@@ -1,7 +1,7 @@
 use Rattle.std.proofs.Common.{◌∙◌, sym}
 use Rattle.std.specs.String.{string_bytes}
 use Rattle.std.proofs.lemmas.Result.{IfOk-weaker}
-use Rattle.ytype.proofs.IdentityLemmas.{members_kept}
+use Rattle.ytype_simple.proofs.IdentityLemmas.{members_kept}
 use Rattle.ytype.proofs.members.members_in.Goals as goal
 
 pub returns-else-have_identity : goal.returns-else-have_identity

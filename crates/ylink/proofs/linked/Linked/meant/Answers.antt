@@ -2,7 +2,7 @@ use Rattle.std.proofs.Common.{◌≡◌, Some, None, sym, ap, ◌∙◌}
 use Rattle.std.specs.Prelude.{option_map, option_and_then}
 use Rattle.yspec.specs.linking.TypeStatements.{meaning_of}
 use Rattle.ybase_preorder.specs.View.{forest_in}
-use Rattle.ylink.specs.TypeView.{verdict_view}
+use Rattle.ylink_types.specs.TypeView.{verdict_view}
 use Rattle.ylink.specs.VerdictView.{table_view, verdict_held}
 use Rattle.ylink.proofs.VerdictLemmas.{meant_held}
 use Rattle.ylink.proofs.linked.Linked.meant.Goals as goal

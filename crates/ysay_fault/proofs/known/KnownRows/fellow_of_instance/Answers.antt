@@ -3,7 +3,7 @@ use Rattle.std.specs.Prelude.{option_and_then, slice_get}
 use Rattle.yschema_model.specs.View as schema_view
 use Rattle.yinst_tree.specs.View as document_view
 use Rattle.ysay_fault.specs.FoundFellows as spec
-use Rattle.ysay_fault.specs.Places.{row_at}
+use Rattle.ysay_place.specs.Places.{row_at}
 use Rattle.ysay_fault.proofs.FoundLemmas.{found_fellow}
 use Rattle.ysay_fault.proofs.known.KnownRows.fellow_of_instance.Goals as goal
 

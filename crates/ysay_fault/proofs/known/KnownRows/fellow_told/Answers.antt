@@ -3,7 +3,7 @@ use Rattle.std.proofs.lemmas.Result.{IfOk-weaker}
 use Rattle.yschema_model.specs.View as schema_view
 use Rattle.yinst_tree.specs.View as document_view
 use Rattle.ycheck.specs.View as fault_view
-use Rattle.ysay_fault.specs.Places.{row_at}
+use Rattle.ysay_place.specs.Places.{row_at}
 use Rattle.ysay_fault.proofs.FoundLemmas.{told_by}
 use Rattle.ysay_fault.proofs.known.KnownRows.fellow_told.Goals as goal
 

@@ -7,9 +7,9 @@ use Rattle.ystore.proofs.children.Children.first_place.Goals as goal
 
 pub returns-clause-place : goal.returns-clause-place
 returns-clause-place c =
-    let row = c.deref.result.now in
+    let row = c.as_slice.result.now in
     let s = c.args.schema in
-    let is_row = c.deref.ensures.value in
+    let is_row = c.as_slice.ensures in
     let all = subst (λ r. ascends r ≡ true) (sym is_row) c.args.self.now.ascending in
     let parted = IsPartitionedBy-ltb number row s.0 (ascends_by_index row all) in
     let point = IsPartitionPoint-from_clause (λ y. ltb y.0.0 s.0) _ _ c.partition_point.ensures.partitioned parted (λ a r q k. search rules) in

@@ -1,7 +1,7 @@
-use Rattle.std.proofs.Common.{◌≡◌, ◌∙◌, ◌-◌, arith, ap, ap₂, drop, map, subst, sym, take}
+use Rattle.std.proofs.Common.{◌≡◌, ◌∙◌, ◌-◌, arith, ap, ap₂, drop, map, sym, take}
 use Rattle.ystore.specs.Children.{nodes_of}
-use Rattle.ystore.specs.Entries.{StandsOnce, place_of}
-use Rattle.ystore.specs.Rows.{Child}
+use Rattle.ystore.specs.Entries.{place_near}
+use Rattle.ystore.specs.Rows.{Child, of_schema}
 use Rattle.ystore.proofs.RowLemmas.{first_before_end, together_is}
 use Rattle.ystore.proofs.children.Children.index_near.Goals as goal
 
@@ -14,10 +14,10 @@ returns c =
     let row = nodes_of c.args.self.now in
     let first = c.first_place-first.result in
     let end = c.end_place-end.result in
-    subst (λ ids. StandsOnce c.args.node ids → c.place_near.result ≡ place_of c.args.node ids)
-    (ap (map (λ (d : Child). d.1))
+    let part : map (λ (d : Child). d.1) c.split_at-2.result.0.now ≡ of_schema c.args.schema row =
+    ap (map (λ (d : Child). d.1))
     (c.split_at-2.ensures.front
     ∙ (ap (take (end - first)) (c.split_at.ensures.back ∙ ap (drop first) c.as_slice.ensures)
     ∙ (ap₂ (λ f e. take (e - f) (drop f row)) c.first_place-first.ensures.place c.end_place-end.ensures.place
-    ∙ sym (together_is c.args.schema row c.args.self.now.ascending)))))
-    c.place_near.ensures
+    ∙ sym (together_is c.args.schema row c.args.self.now.ascending)))) in
+    c.place_near.ensures ∙ ap (place_near c.args.near c.args.node) part

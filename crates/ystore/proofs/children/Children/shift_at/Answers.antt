@@ -1,33 +1,31 @@
-use Rattle.std.proofs.Common.{rules, ◌≡◌, ◌∙◌, ◌-◌, ◌<◌, ◌≤◌, ap, length, min, refl, true}
-use Rattle.std.proofs.lemmas.Option.{slice_get_read}
+use Rattle.std.proofs.Common.{rules, ◌≡◌, ◌∙◌, ◌-◌, ◌≤◌, ap, length, min, true}
 use Rattle.ystore.specs.Children.{nodes_of}
 use Rattle.ystore.specs.Rows.{ascends, brought, of_schema, place_at}
+use Rattle.ystore.specs.Shelf.{shelved}
 use Rattle.ystore.proofs.RowLemmas.{ascends_brought, ascends_remove, none_shifted, shifted_is}
 use Rattle.ystore.proofs.children.Children.shift_at.Goals as goal
 
 pub invariant_of-self : goal.invariant_of-self
 invariant_of-self c =
-    record { ascending = rw c.remove-child.ensures.items (ascends_remove (nodes_of c.args.self.now) c.place_at-from.result c.args.self.now.ascending) }
+    record { ascending = rw c.remove-child.ensures.nodes (ascends_remove (nodes_of c.args.self.now) c.place_at-from.result c.args.self.now.ascending) }
 
 pub invariant_of-self-then-from-len : goal.invariant_of-self-then-from-len
 invariant_of-self-then-from-len c =
-    let rest = c.remove-child.new.self.items in
-    let all : ascends rest ≡ true = rw c.remove-child.ensures.items (ascends_remove (nodes_of c.args.self.now) c.place_at-from.result c.args.self.now.ascending) in
-    let now : c.insert.new.self.items ≡ brought c.remove-child.result c.args.to rest = search rules in
+    let rest = shelved c.remove-child.new.self in
+    let all : ascends rest ≡ true = rw c.remove-child.ensures.nodes (ascends_remove (nodes_of c.args.self.now) c.place_at-from.result c.args.self.now.ascending) in
+    let now : shelved c.insert.new.self ≡ brought c.remove-child.result c.args.to rest = search rules in
     record { ascending = rw now (ascends_brought rest c.remove-child.result c.args.to all) }
 
 pub returns-then-from-len-clause-nodes : goal.returns-then-from-len-clause-nodes
 returns-then-from-len-clause-nodes c =
     let row = nodes_of c.args.self.now in
     let child = c.remove-child.result in
-    let rest = c.remove-child.new.self.items in
-    let now : c.insert.new.self.items ≡ brought child c.args.to rest = search rules in
+    let rest = shelved c.remove-child.new.self in
+    let now : shelved c.insert.new.self ≡ brought child c.args.to rest = search rules in
     let is : c.place_at-from.result ≡ place_at c.args.schema (min c.args.from (length (of_schema c.args.schema row) - 1)) row = search rules in
-    let within : c.place_at-from.result < length row = search rules in
-    let there = slice_get_read row (length row) c.place_at-from.result child refl within c.remove-child.ensures.value in
     now
-    ∙ (ap (brought child c.args.to) c.remove-child.ensures.items
-    ∙ shifted_is c.args.schema c.args.from c.args.to c.place_at-from.result row child is there)
+    ∙ (ap (brought child c.args.to) c.remove-child.ensures.nodes
+    ∙ shifted_is c.args.schema c.args.from c.args.to c.place_at-from.result row child is c.remove-child.ensures.value)
 
 pub returns-else-from-len-clause-nodes : goal.returns-else-from-len-clause-nodes
 returns-else-from-len-clause-nodes c =

@@ -1,7 +1,0 @@
-use Rattle.std.proofs.Common.{drop}
-use Rattle.yapp.specs.Asked.{edits_in, kinds_in}
-use Rattle.yapp.proofs.ScriptLemmas.{ReadSoFar, lines_in}
-use Rattle.yapp.proofs.script.Script.with_lines.Given as goal
-
-abbrev pub invariant-loop-line : goal.invariant-loop-line
-invariant-loop-line l = ReadSoFar l.is_strict (kinds_in l.script) (edits_in l.script) (lines_in l.lines) (lines_in (drop l.line-index l.lines))

@@ -1,0 +1,46 @@
+-- The parts of what is printed, each with its end.
+use Rattle.std.proofs.Common.{◌≡◌, codes, ℕ, Bool, true, false, List, [], ◌∷◌, ◌++◌, ap, sym, ◌∙◌, refl, append_assoc}
+use Rattle.std.proofs.lemmas.List.{append-nil}
+use Rattle.yspec_run.specs.Part.{Part, plain, spelled, spelled_part}
+use Rattle.std.specs.Prelude.{Option, Some, None, decimal, option_map}
+use Rattle.std.specs.Option.{option_map_or}
+use Rattle.yspec_run.specs.Script.{telling_code}
+use Rattle.yapp_script.specs.Asked.{refusal_of, value_number}
+use Rattle.yapp_script.specs.declared.script.Refusal.{Refusal}
+use Rattle.yapp_script.specs.declared.script.ValueCode.{ValueCode}
+
+-- the line of a document's refusal: up to its path, and from there on
+pub refusal_parts : (name number path : List ℕ)
+    → (name ++ (codes ": " ++ ((codes "J" ++ number) ++ (codes " " ++ path)))) ++ codes "\n"
+    ≡ (name ++ (codes ": J" ++ (number ++ codes " "))) ++ (path ++ codes "\n")
+refusal_parts name number path =
+    append_assoc name (codes ": " ++ ((codes "J" ++ number) ++ (codes " " ++ path))) (codes "\n")
+    ∙ (ap (λ (xs : List ℕ). name ++ (codes ": J" ++ xs))
+    (append_assoc number (codes " " ++ path) (codes "\n") ∙ sym (append_assoc number (codes " ") (path ++ codes "\n")))
+    ∙ sym (append_assoc name (codes ": J" ++ (number ++ codes " ")) (path ++ codes "\n")))
+
+-- a part alone
+pub one_part : (with_reasons : Bool) (p : Part) → spelled_part with_reasons p ≡ spelled with_reasons (p ∷ [])
+one_part with_reasons p = sym (append-nil (spelled_part with_reasons p))
+
+-- of which nothing is said
+pub one_plain : (with_reasons : Bool) (t : List ℕ) → t ≡ spelled with_reasons (plain t ∷ [])
+one_plain true t = sym (append-nil (t ++ []) ∙ append-nil t)
+one_plain false t = sym (append-nil (t ++ []) ∙ append-nil t)
+
+pub parts_behind : (with_reasons : Bool) (xs ys : List Part) → spelled with_reasons (xs ++ ys) ≡ spelled with_reasons xs ++ spelled with_reasons ys
+parts_behind with_reasons [] ys = refl
+parts_behind with_reasons (x ∷ xs) ys = ap (λ t. spelled_part with_reasons x ++ t) (parts_behind with_reasons xs ys)
+    ∙ sym (append_assoc (spelled_part with_reasons x) (spelled with_reasons xs) (spelled with_reasons ys))
+
+pub told_of_value : (r : Refusal) (value : ValueCode) (n : ℕ) → r.value ≡ Some value → n ≡ value_number value
+    → codes "J" ++ decimal n ≡ telling_code (refusal_of r)
+told_of_value r value n is e =
+    ap (λ (m : ℕ). codes "J" ++ decimal m) e
+    ∙ sym (ap (λ (v : Option ValueCode). option_map_or (λ m. codes "J" ++ decimal m) (option_map value_number v) (codes "E" ++ decimal (refusal_of r).code)) is)
+
+pub told_of_edit : (r : Refusal) (n : ℕ) → r.value ≡ None → n ≡ (refusal_of r).code
+    → codes "E" ++ decimal n ≡ telling_code (refusal_of r)
+told_of_edit r n is e =
+    ap (λ (m : ℕ). codes "E" ++ decimal m) e
+    ∙ sym (ap (λ (v : Option ValueCode). option_map_or (λ m. codes "J" ++ decimal m) (option_map value_number v) (codes "E" ++ decimal (refusal_of r).code)) is)

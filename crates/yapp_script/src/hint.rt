@@ -1,0 +1,229 @@
+//! What is said below a line that tells a code, above the reason of the code: what stands there, and what may have been
+//! meant.
+
+ghost use Rattle.std.specs.Prelude.{◌≡◌, ◌∷◌, [], codes, IfOk, map, option_map, slice_get, string_bytes, unwrap_or};
+ghost use Rattle.std.specs.Option.{option_map_or};
+ghost use Rattle.ysay_text.specs.Line as line_spec;
+ghost use Rattle.ylink_grammar.specs.BreakView.{break_view, code_number};
+ghost use Rattle.ytext.specs.View.{modules_view};
+ghost use Rattle.yschema_model.specs.View as schema_view;
+ghost use Rattle.yinst_path.specs.Applying.{edit_number};
+ghost use Rattle.yinst_path.specs.EditView.{edit_view};
+ghost use Rattle.yinst_tree.specs.Told as document;
+ghost use Rattle.yinst_tree.specs.View.{place_view};
+ghost use Rattle.yspec_run.specs.Hint as spec;
+
+use std::alloc::{AllocError, Global};
+use yinst::{Edit, EditCode};
+use yinst_tree::{DocCode, Step};
+use ylink_grammar::{BrokenRule, CompileCode};
+use ysay_edit::{said_of_edit, said_of_line};
+use ysay_refusal::said_of_refusal;
+use ysay_repeated::said_of_repeated;
+use ysay_text::{line_sentence, shown, shown_line};
+use yschema_model::Schema;
+use ytext::Module;
+
+/// A text as a line, behind its front; nothing of an empty one.
+fn as_line(alloc: Global, front: &str, text: &str) -> Result<String, AllocError>
+    ensures { IfOk result (λ line. string_bytes line ≡ spec.as_line front.now text.now) }
+{
+    if text.is_empty() {
+        Ok(String::new(alloc))
+    } else {
+        [front, text, "\n"].concat(alloc)
+    }
+}
+
+/// The line of a text that is told.
+fn line_hint(alloc: Global, line: u32, bytes: &[u8]) -> Result<String, AllocError>
+    ensures { IfOk result (λ hint. string_bytes hint ≡ spec.line_hint line bytes.now) }
+{
+    let shown = shown_line(alloc, line, bytes)?;
+    as_line(alloc, "  | ", shown.as_str())
+}
+
+/// Whether a text begins as a JSON object does, behind white space.
+fn begins_object(bytes: &[u8]) -> bool
+    ensures { result ≡ spec.begins_object bytes.now }
+{
+    for byte in bytes {
+        if *byte > b' ' {
+            return *byte == b'{';
+        }
+    }
+    false
+}
+
+fn object_hint(bytes: &[u8]) -> &'static str
+    ensures { result.now ≡ spec.object_hint (spec.begins_object bytes.now) }
+{
+    if begins_object(bytes) {
+        "  this begins as JSON, not as a module; a document stands before the modules.\n"
+    } else {
+        ""
+    }
+}
+
+/// What is said of a module's text that is refused in a line: that line, and whether it is a document's.
+pub fn slip_hint(alloc: Global, line: u32, bytes: &[u8]) -> Result<String, AllocError>
+    ensures { IfOk result (λ hint. string_bytes hint ≡ spec.slip_hint line bytes.now) }
+{
+    let mut hint = line_hint(alloc, line, bytes)?;
+    hint.push_str(object_hint(bytes))?;
+    Ok(hint)
+}
+
+/// What is said of the statements of a line of a module, of C1 alone.
+fn statement_hint(
+    alloc: Global,
+    code: CompileCode,
+    line: u32,
+    of: &Module,
+) -> Result<String, AllocError>
+    ensures { IfOk result (λ hint. string_bytes hint
+        ≡ spec.statement_hint (code_number code) line (modules_view (of.now ∷ []))) }
+{
+    if code.number() == 1 {
+        let said = line_sentence(alloc, line, of)?;
+        as_line(alloc, "  ", said.as_str())
+    } else {
+        Ok(String::new(alloc))
+    }
+}
+
+/// The same of a module of a set, by its number.
+fn module_hint(alloc: Global, modules: &[Module], rule: BrokenRule) -> Result<String, AllocError>
+    ensures { let b = break_view rule in IfOk result (λ hint. string_bytes hint
+        ≡ spec.statement_hint b.code b.line
+        (spec.module_at b.module_number (modules_view modules.now))) }
+{
+    match modules.get(rule.module) {
+        Some(of) => statement_hint(alloc, rule.code, rule.line, of),
+        None => Ok(String::new(alloc)),
+    }
+}
+
+/// The contents of a file, by its number.
+fn contents_at(contents: &[Vec<u8>], number: usize) -> &[u8]
+    ensures { result.now ≡ unwrap_or (slice_get (map (λ c. c.items) contents.entry.now) number) [] }
+{
+    match contents.get(number) {
+        Some(bytes) => bytes.as_slice(),
+        None => &[],
+    }
+}
+
+/// What is said of a rule that a module breaks, by the contents of the files and the statements of all.
+pub fn break_hint(
+    alloc: Global,
+    contents: &[Vec<u8>],
+    modules: &[Module],
+    rule: BrokenRule,
+) -> Result<String, AllocError>
+    ensures { IfOk result (λ hint. string_bytes hint ≡ spec.break_hint
+        (map (λ c. c.items) contents.now) (modules_view modules.now) (break_view rule)) }
+{
+    let mut hint = line_hint(alloc, rule.line, contents_at(contents, rule.module))?;
+    let said = module_hint(alloc, modules, rule)?;
+    hint.push_str(said.as_str())?;
+    Ok(hint)
+}
+
+/// What is said of a document that is refused at a place, by its bytes.
+pub fn refusal_hint(
+    alloc: Global,
+    schema: &Schema,
+    bytes: &[u8],
+    code: DocCode,
+    place: &[Step],
+) -> Result<String, AllocError>
+    ensures { IfOk result (λ hint. string_bytes hint
+        ≡ spec.refusal_hint (schema_view.view schema.now) bytes.now
+        (record { code = document.code_number code; place = place_view place.now })) }
+{
+    let said = said_of_refusal(alloc, schema, bytes, code, place)?;
+    as_line(alloc, "  ", said.as_str())
+}
+
+/// What is said of a document that gives a member twice, by the place of its node.
+pub fn repeated_hint(alloc: Global, schema: &Schema, place: &[Step]) -> Result<String, AllocError>
+    ensures { IfOk result (λ hint. string_bytes hint
+        ≡ spec.repeated_hint (schema_view.view schema.now) (place_view place.now)) }
+{
+    let said = said_of_repeated(alloc, schema, place)?;
+    as_line(alloc, "  ", said.as_str())
+}
+
+/// What is said of an edit that is refused.
+fn edit_hint(
+    alloc: Global,
+    schema: &Schema,
+    edit: &Edit,
+    code: EditCode,
+) -> Result<String, AllocError>
+    ensures { IfOk result (λ hint. string_bytes hint ≡ spec.edit_hint
+        (schema_view.view schema.now) (edit_view edit.now) (edit_number code)) }
+{
+    let said = said_of_edit(alloc, schema, edit, code)?;
+    as_line(alloc, "  ", said.as_str())
+}
+
+/// What is said of a line that is refused before it is tried: where it spells no edit.
+fn spelling_hint(alloc: Global, line: &[u8], code: EditCode) -> Result<String, AllocError>
+    ensures { IfOk result (λ hint. string_bytes hint
+        ≡ spec.spelling_hint line.now (edit_number code)) }
+{
+    if code.number() == 1 {
+        let said = said_of_line(alloc, line)?;
+        as_line(alloc, "  ", said.as_str())
+    } else {
+        Ok(String::new(alloc))
+    }
+}
+
+/// What is said of a line by the edit that it asks for, if it asks for one.
+fn asked_hint(
+    alloc: Global,
+    schema: &Schema,
+    line: &[u8],
+    edit: Option<&Edit>,
+    code: EditCode,
+) -> Result<String, AllocError>
+    ensures { IfOk result (λ hint. string_bytes hint ≡ option_map_or
+        (λ e. spec.edit_hint (schema_view.view schema.now) e (edit_number code))
+        (option_map (λ e. edit_view e.now) edit.entry)
+        (spec.spelling_hint line.now (edit_number code))) }
+{
+    match edit {
+        Some(edit) => edit_hint(alloc, schema, edit, code),
+        None => spelling_hint(alloc, line, code),
+    }
+}
+
+/// A line of a script, behind a bar.
+fn bar_hint(alloc: Global, line: &[u8]) -> Result<String, AllocError>
+    ensures { IfOk result (λ hint. string_bytes hint
+        ≡ spec.as_line (codes "  | ") (line_spec.shown line.now)) }
+{
+    let shown = shown(alloc, line)?;
+    as_line(alloc, "  | ", shown.as_str())
+}
+
+/// What is said of a refused line of a script: itself, and what is said by the edit that it asks for, if it asks for one.
+pub fn script_hint(
+    alloc: Global,
+    schema: &Schema,
+    line: &[u8],
+    edit: Option<&Edit>,
+    code: EditCode,
+) -> Result<String, AllocError>
+    ensures { IfOk result (λ hint. string_bytes hint ≡ spec.script_hint
+        (schema_view.view schema.now) line.now (option_map (λ e. edit_view e.now) edit.entry)
+        (edit_number code)) }
+{
+    let mut hint = bar_hint(alloc, line)?;
+    let said = asked_hint(alloc, schema, line, edit, code)?;
+    hint.push_str(said.as_str())?;
+    Ok(hint)
+}

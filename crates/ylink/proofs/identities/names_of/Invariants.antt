@@ -1,6 +1,0 @@
-use Rattle.std.proofs.Common.{◌≡◌, map, take}
-use Rattle.ylink.specs.IdentityView.{assigned_by, home_view}
-use Rattle.ylink.proofs.identities.names_of.Given as goal
-
-abbrev pub invariant-loop-identity : goal.invariant-loop-identity
-invariant-loop-identity l = l.names ≡ map (assigned_by (map home_view l.homes)) (take l.identity-index l.identities)

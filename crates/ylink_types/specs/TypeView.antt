@@ -1,0 +1,24 @@
+-- What `type` statements mean, as the specification's.
+use Rattle.std.specs.Prelude.{nat_lt, if◌then◌else◌}
+use Rattle.yspec.specs.types.Types.{YangType}
+use Rattle.yspec.specs.types.Restriction.{member_count}
+use Rattle.yspec.specs.linking.TypeStatements as spec
+use Rattle.ylink_types.specs.declared.types.Meant.{Meant}
+use Rattle.ylink_types.specs.declared.types.Meant.TheVariants as meants
+use Rattle.ylink_types.specs.declared.types.Verdict.{Verdict}
+use Rattle.ylink_types.specs.declared.types.Verdict.TheVariants as verdicts
+use Rattle.ylink_grammar.specs.NameView.{names_view}
+
+abbrev pub meant_view : Meant → spec.Meant
+meant_view (meants.Own type) = spec.own type
+meant_view (meants.OfTarget home steps required) = spec.of_target home (names_view steps.items) required
+
+abbrev pub verdict_view : Verdict → spec.Verdict
+verdict_view (verdicts.Means meant) = spec.means (meant_view meant)
+verdict_view verdicts.Wrong = spec.wrong
+verdict_view verdicts.TooLarge = spec.too_large
+verdict_view verdicts.Unjudged = spec.unjudged
+
+-- on a type that is made as a union
+abbrev pub judged_union : YangType → spec.Verdict
+judged_union type = if nat_lt spec.member_limit (member_count type) then spec.too_large else spec.means (spec.own type)

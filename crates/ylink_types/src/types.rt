@@ -1,0 +1,513 @@
+//! What `type` statements name and mean (RFC 7950, 7.4 and 9).
+
+ghost use Rattle.std.specs.Prelude.{◌≡◌, IfOk, false, true, None, map, nat_lt, option_map, option_and_then};
+ghost use Rattle.std.specs.Option.{option_map_or};
+ghost use Rattle.yspec.specs.Forest.{Forest, row};
+ghost use Rattle.yspec.specs.linking.Arguments.{fraction_digits_of, leafref_path_of};
+ghost use Rattle.yspec.specs.linking.Identities.{bases_in};
+ghost use Rattle.yspec.specs.linking.Keyword as word;
+ghost use Rattle.yspec.specs.linking.Source as sources;
+ghost use Rattle.yspec.specs.linking.TypeStatements as spec;
+ghost use Rattle.ybase_preorder.specs.View.{row_by, label_by};
+ghost use Rattle.ybase_words.specs.KeywordView.{keyword_view};
+ghost use Rattle.ylink_grammar.specs.LinkView.{view};
+ghost use Rattle.ylink_grammar.specs.NameView.{names_view};
+ghost use Rattle.ylink_grammar.specs.SourceView.{source_view};
+ghost use Rattle.ybase_words.specs.BuiltInView.{built_in_view};
+ghost use Rattle.yspec.specs.linking.DerivedTypes.{unknown};
+ghost use Rattle.yspec.specs.types.Restriction.{member_count};
+ghost use Rattle.ylink_types.specs.TypeView.{judged_union, meant_view, verdict_view};
+ghost use Rattle.ylink_types.specs.TypedefView.{known_view, verdicts_in, RestsOn};
+
+use crate::derived::bases_in;
+use crate::limit::{accepted_type, measured_type, narrowed_type, ranged_type};
+use crate::naming::{bits, enumeration};
+use crate::typedefs::{Known, Typedefs};
+use std::alloc::{AllocError, Global};
+use ybase_preorder::{Node, Siblings};
+use ybase_words::{BuiltIn, Keyword};
+use ylink_grammar::{
+    Name, Source, Sources, argument_of, argument_with, fraction_digits, leafref_path,
+};
+use ytype::{FractionDigits, YType};
+
+/// What a `type` statement means.
+#[derive(Drop)]
+pub enum Meant<'t> {
+    /// A type that refers to no other node.
+    Own(YType),
+    /// The type of the node to which a path leads that stands in a module of the set.
+    OfTarget {
+        home: usize,
+        steps: Vec<Name<'t>>,
+        required: bool,
+    },
+}
+
+/// What is known of a `type` statement.
+#[derive(Drop)]
+pub enum Verdict<'t> {
+    Means(Meant<'t>),
+    /// It breaks a rule of its own.
+    Wrong,
+    /// It is a union of more members than are read.
+    TooLarge,
+    /// It rests on a type that breaks one.
+    Unjudged,
+}
+
+/// Whether a built-in type may bear a substatement.
+fn may_bear(type_name: BuiltIn, keyword: Keyword) -> bool
+    ensures { result ≡ spec.may_bear (built_in_view type_name) (keyword_view keyword) }
+{
+    match type_name {
+        BuiltIn::Int8
+        | BuiltIn::Int16
+        | BuiltIn::Int32
+        | BuiltIn::Int64
+        | BuiltIn::Uint8
+        | BuiltIn::Uint16
+        | BuiltIn::Uint32
+        | BuiltIn::Uint64 => matches!(keyword, Keyword::Range),
+        BuiltIn::Decimal64 => matches!(keyword, Keyword::FractionDigits | Keyword::Range),
+        BuiltIn::String => matches!(keyword, Keyword::Length),
+        BuiltIn::Enumeration => matches!(keyword, Keyword::Enum),
+        BuiltIn::Bits => matches!(keyword, Keyword::Bit),
+        BuiltIn::Union => matches!(keyword, Keyword::Type),
+        BuiltIn::Leafref => matches!(keyword, Keyword::Path | Keyword::RequireInstance),
+        BuiltIn::Identityref => matches!(keyword, Keyword::Base),
+        BuiltIn::Boolean | BuiltIn::Empty => false,
+    }
+}
+
+/// The built-in type that a `type` statement of a set names, which has that number.
+fn built_in_meant(sources: &Sources<'_>, number: u32, statement: &Source<'_>) -> Option<BuiltIn>
+    ensures { option_map built_in_view result
+        ≡ spec.built_in_meant (view sources.now) (source_view number statement.now) }
+{
+    statement.built_in()
+}
+
+fn are_in_place(type_name: BuiltIn, below: Siblings<'_, Source<'_>>) -> bool
+    ensures { result ≡ spec.are_in_place (built_in_view type_name)
+        (row_by source_view below.entry) }
+{
+    for statement in below {
+        if !may_bear(type_name, statement.label().keyword) {
+            return false;
+        }
+    }
+    true
+}
+
+fn digits_stated(below: Siblings<'_, Source<'_>>) -> Option<FractionDigits>
+    ensures { result ≡ option_and_then fraction_digits_of
+        (sources.argument_with word.fraction_digits_word (row_by source_view below.entry)) }
+{
+    FractionDigits::new(fraction_digits(argument_with(Keyword::FractionDigits, below)?)?)
+}
+
+fn decimal(alloc: Global, below: Siblings<'_, Source<'_>>) -> Result<Option<YType>, AllocError>
+    ensures { IfOk result (λ type. type
+        ≡ spec.single_type spec.decimal64 (row_by source_view below.entry)) }
+{
+    match digits_stated(below) {
+        Some(digits) => ranged_type(alloc, below, YType::decimal64(alloc, digits)),
+        None => Ok(None),
+    }
+}
+
+/// A type that is no union, no leafref and no identityref.
+fn single_type(
+    alloc: Global,
+    type_name: BuiltIn,
+    below: Siblings<'_, Source<'_>>,
+) -> Result<Option<YType>, AllocError>
+    ensures { IfOk result (λ type. type
+        ≡ spec.single_type (built_in_view type_name) (row_by source_view below.entry)) }
+{
+    match type_name {
+        BuiltIn::Int8 => ranged_type(alloc, below, YType::int8(alloc)),
+        BuiltIn::Int16 => ranged_type(alloc, below, YType::int16(alloc)),
+        BuiltIn::Int32 => ranged_type(alloc, below, YType::int32(alloc)),
+        BuiltIn::Int64 => ranged_type(alloc, below, YType::int64(alloc)),
+        BuiltIn::Uint8 => ranged_type(alloc, below, YType::uint8(alloc)),
+        BuiltIn::Uint16 => ranged_type(alloc, below, YType::uint16(alloc)),
+        BuiltIn::Uint32 => ranged_type(alloc, below, YType::uint32(alloc)),
+        BuiltIn::Uint64 => ranged_type(alloc, below, YType::uint64(alloc)),
+        BuiltIn::Decimal64 => decimal(alloc, below),
+        BuiltIn::String => measured_type(alloc, below, YType::string(alloc)),
+        BuiltIn::Boolean => accepted_type(YType::boolean(alloc)),
+        BuiltIn::Empty => accepted_type(YType::empty(alloc)),
+        BuiltIn::Enumeration => enumeration(alloc, below),
+        BuiltIn::Bits => bits(alloc, below),
+        BuiltIn::Union | BuiltIn::Leafref | BuiltIn::Identityref => Ok(None),
+    }
+}
+
+fn is_required(below: Siblings<'_, Source<'_>>) -> bool
+    ensures { result ≡ spec.is_required (row_by source_view below.entry) }
+{
+    match argument_with(Keyword::RequireInstance, below) {
+        Some(text) => text == "true",
+        None => true,
+    }
+}
+
+/// The path of a leafref, where it has one.
+fn path_stated<'t>(
+    alloc: Global,
+    below: Siblings<'_, Source<'t>>,
+) -> Result<Option<Vec<Name<'t>>>, AllocError>
+    ensures { IfOk result (λ path. option_map (λ p. names_view p.items) path
+        ≡ option_and_then leafref_path_of
+        (sources.argument_with word.path_word (row_by source_view below.entry))) }
+{
+    match argument_with(Keyword::Path, below) {
+        Some(text) => leafref_path(alloc, text),
+        None => Ok(None),
+    }
+}
+
+fn leafref_verdict<'t>(
+    alloc: Global,
+    is_member: bool,
+    statement: Node<'_, Source<'t>>,
+) -> Result<Verdict<'t>, AllocError>
+    ensures { IfOk result (λ verdict. verdict_view verdict
+        ≡ spec.leafref_verdict is_member (label_by source_view statement.entry)
+        (row_by source_view statement.entry.children)) }
+{
+    if is_member {
+        return Ok(Verdict::Wrong);
+    }
+    let below = statement.children();
+    match path_stated(alloc, below)? {
+        Some(steps) => Ok(Verdict::Means(Meant::OfTarget {
+            home: statement.label().home,
+            steps,
+            required: is_required(below),
+        })),
+        None => Ok(Verdict::Wrong),
+    }
+}
+
+/// The types of members, where each has one.
+fn member_types(alloc: Global, members: Vec<Verdict<'_>>) -> Result<Option<Vec<YType>>, AllocError>
+    ensures { IfOk result (λ types. option_map (λ t. t.items) types
+        ≡ spec.member_types (map verdict_view members.entry.items)) }
+{
+    let mut types = Vec::new(alloc);
+    for member in members {
+        match member {
+            Verdict::Means(Meant::Own(member_type)) => types.push(member_type)?,
+            _ => return Ok(None),
+        }
+    }
+    Ok(Some(types))
+}
+
+/// The most members that a union may have, those of unions in it as well.
+const MOST_MEMBERS: usize = 65535;
+
+fn is_too_large(made: &YType) -> bool
+    ensures { result ≡ nat_lt spec.member_limit (member_count made.now) }
+{
+    made.member_count() > MOST_MEMBERS
+}
+
+/// The verdict on a type that is made as a union.
+fn judge_union<'t>(made: YType) -> Verdict<'t>
+    ensures { verdict_view result ≡ judged_union made }
+{
+    if is_too_large(&made) {
+        Verdict::TooLarge
+    } else {
+        Verdict::Means(Meant::Own(made))
+    }
+}
+
+/// The verdict on a union of types that have a meaning.
+fn of_members<'t>(alloc: Global, types: &[YType]) -> Result<Verdict<'t>, AllocError>
+    ensures { IfOk result (λ verdict. verdict_view verdict ≡ spec.of_members types.now) }
+{
+    match accepted_type(YType::union(alloc, types))? {
+        Some(made) => Ok(judge_union(made)),
+        None => Ok(Verdict::Wrong),
+    }
+}
+
+fn union_verdict<'t>(alloc: Global, members: Vec<Verdict<'t>>) -> Result<Verdict<'t>, AllocError>
+    ensures { IfOk result (λ verdict. verdict_view verdict
+        ≡ spec.union_verdict (map verdict_view members.entry.items)) }
+{
+    if members.is_empty() {
+        return Ok(Verdict::Wrong);
+    }
+    match member_types(alloc, members)? {
+        Some(types) => Ok(of_members(alloc, &types)?),
+        None => Ok(Verdict::Unjudged),
+    }
+}
+
+/// A type that refers to no other node, or another verdict where there is none.
+fn own_or<'t>(made: Option<YType>, other: Verdict<'t>) -> Verdict<'t>
+    ensures { verdict_view result
+        ≡ option_map_or (λ type. spec.means (spec.own type)) made (verdict_view other.entry) }
+{
+    match made {
+        Some(made) => Verdict::Means(Meant::Own(made)),
+        None => other,
+    }
+}
+
+/// The verdict on a `type` statement that names identityref, given the identities of the set.
+fn identity_verdict<'t>(
+    alloc: Global,
+    typedefs: &Typedefs<'t>,
+    statement: Node<'_, Source<'t>>,
+) -> Result<Verdict<'t>, AllocError>
+    ensures { (modules : Forest sources.Source) → RestsOn typedefs.now modules
+        → IfOk result (λ verdict. verdict_view verdict ≡ spec.identity_verdict modules
+        statement.entry.label.now.home
+        (bases_in modules (row_by source_view statement.entry.children))) }
+{
+    let bases = bases_in(alloc, typedefs.meanings(), statement.children())?;
+    let home = statement.label().home;
+    Ok(own_or(
+        typedefs.identities().type_of(alloc, home, &bases)?,
+        Verdict::Wrong,
+    ))
+}
+
+fn verdict_in_place<'t>(
+    alloc: Global,
+    typedefs: &Typedefs<'t>,
+    is_member: bool,
+    type_name: BuiltIn,
+    statement: Node<'_, Source<'t>>,
+    members: Vec<Verdict<'t>>,
+) -> Result<Verdict<'t>, AllocError>
+    ensures { (modules : Forest sources.Source) → RestsOn typedefs.now modules
+        → IfOk result (λ verdict. verdict_view verdict
+        ≡ spec.verdict_in_place modules is_member (label_by source_view statement.entry)
+        (built_in_view type_name) (row_by source_view statement.entry.children)
+        (map verdict_view members.entry.items)) }
+{
+    match type_name {
+        BuiltIn::Union => union_verdict(alloc, members),
+        BuiltIn::Leafref => leafref_verdict(alloc, is_member, statement),
+        BuiltIn::Identityref => identity_verdict(alloc, typedefs, statement),
+        _ => Ok(own_or(
+            single_type(alloc, type_name, statement.children())?,
+            Verdict::Wrong,
+        )),
+    }
+}
+
+/// What a substatement makes of what a typedef means.
+fn restricted_by<'t>(
+    alloc: Global,
+    meant: Meant<'t>,
+    statement: Node<'_, Source<'t>>,
+) -> Result<Option<Meant<'t>>, AllocError>
+    ensures { IfOk result (λ made. option_map meant_view made
+        ≡ spec.restricted_by (label_by source_view statement.entry)
+        (row_by source_view statement.entry.children) (meant_view meant.entry)) }
+{
+    match meant {
+        Meant::Own(outer) => match narrowed_type(alloc, outer, statement)? {
+            Some(narrowed) => Ok(Some(Meant::Own(narrowed))),
+            None => Ok(None),
+        },
+        Meant::OfTarget { home, steps, .. } => {
+            if !Keyword::RequireInstance.is(statement.label().keyword) {
+                return Ok(None);
+            }
+            Ok(Some(Meant::OfTarget {
+                home,
+                steps,
+                required: argument_of(statement) == "true",
+            }))
+        }
+    }
+}
+
+/// What the substatements of a `type` statement make of what the typedef means that it names; nothing where one of them may
+/// not stand there.
+fn restricted_in<'t>(
+    alloc: Global,
+    meant: Meant<'t>,
+    below: Siblings<'_, Source<'t>>,
+) -> Result<Option<Meant<'t>>, AllocError>
+    ensures { IfOk result (λ made. option_map meant_view made
+        ≡ spec.restricted_in (row_by source_view below.entry) (meant_view meant.entry)) }
+{
+    let mut made = meant;
+    for statement in below {
+        match restricted_by(alloc, made, statement)? {
+            Some(restricted) => made = restricted,
+            None => return Ok(None),
+        }
+    }
+    Ok(Some(made))
+}
+
+/// The verdict on a `type` statement that names a typedef, given what is known of that one.
+fn derived<'t>(
+    alloc: Global,
+    is_member: bool,
+    named: Option<&Known<'t>>,
+    below: Siblings<'_, Source<'t>>,
+) -> Result<Verdict<'t>, AllocError>
+    ensures { IfOk result (λ verdict. verdict_view verdict
+        ≡ spec.derived is_member (row_by source_view below.entry)
+        (option_map_or (λ k. known_view k.now) named.entry unknown).verdict) }
+{
+    let Some(known) = named else {
+        return Ok(Verdict::Unjudged);
+    };
+    let Verdict::Means(meant) = &known.verdict else {
+        return Ok(Verdict::Unjudged);
+    };
+    if is_member && meant.is_reference() {
+        return Ok(Verdict::Wrong);
+    }
+    match restricted_in(alloc, meant.copy()?, below)? {
+        Some(restricted) => Ok(Verdict::Means(restricted)),
+        None => Ok(Verdict::Wrong),
+    }
+}
+
+/// The verdict on a `type` statement of a set, given those on the `type` statements below it.
+pub fn judge_type<'t>(
+    alloc: Global,
+    sources: &Sources<'t>,
+    typedefs: &Typedefs<'t>,
+    is_member: bool,
+    statement: Node<'_, Source<'t>>,
+    members: Vec<Verdict<'t>>,
+) -> Result<Verdict<'t>, AllocError>
+    requires { RestsOn typedefs.now (view sources.now) }
+    ensures { IfOk result (λ verdict. verdict_view verdict
+        ≡ spec.verdict (view sources.now) (verdicts_in typedefs.now) is_member
+        (label_by source_view statement.entry) (row_by source_view statement.entry.children)
+        (map verdict_view members.entry.items)) }
+{
+    let Some(type_name) = built_in_meant(sources, statement.number(), statement.label()) else {
+        let named = typedefs.named(statement.number());
+        return derived(alloc, is_member, named, statement.children());
+    };
+    if !are_in_place(type_name, statement.children()) {
+        return Ok(Verdict::Wrong);
+    }
+    verdict_in_place(alloc, typedefs, is_member, type_name, statement, members)
+}
+
+/// The verdicts on the members of a union that stand in a row of a set.
+fn member_verdicts<'t>(
+    alloc: Global,
+    sources: &Sources<'t>,
+    typedefs: &Typedefs<'t>,
+    statements: Siblings<'_, Source<'t>>,
+) -> Result<Vec<Verdict<'t>>, AllocError>
+    requires { RestsOn typedefs.now (view sources.now) }
+    ensures { IfOk result (λ found. map verdict_view found.items ≡ spec.verdicts
+        (view sources.now) (verdicts_in typedefs.now) (row_by source_view statements.entry)) }
+{
+    let mut found = Vec::new(alloc);
+    for statement in statements {
+        if !Keyword::Type.is(statement.label().keyword) {
+            continue;
+        }
+        let members = member_verdicts(alloc, sources, typedefs, statement.children())?;
+        let judged = judge_type(alloc, sources, typedefs, true, statement, members)?;
+        found.push(judged)?;
+    }
+    Ok(found)
+}
+
+/// The verdict on a `type` statement of a set, a member of a union or not.
+pub(crate) fn verdict_on<'t>(
+    alloc: Global,
+    sources: &Sources<'t>,
+    typedefs: &Typedefs<'t>,
+    is_member: bool,
+    statement: Node<'_, Source<'t>>,
+) -> Result<Verdict<'t>, AllocError>
+    requires { RestsOn typedefs.now (view sources.now) }
+    ensures { IfOk result (λ verdict. verdict_view verdict
+        ≡ spec.verdict_on (view sources.now) (verdicts_in typedefs.now) is_member
+        (label_by source_view statement.entry) (row_by source_view statement.entry.children)) }
+{
+    let members = member_verdicts(alloc, sources, typedefs, statement.children())?;
+    judge_type(alloc, sources, typedefs, is_member, statement, members)
+}
+
+impl<'t> Meant<'t> {
+    ghost use Rattle.std.specs.Prelude.{◌≡◌, IfOk, option_map};
+    ghost use Rattle.yspec.specs.linking.TypeStatements as spec;
+    ghost use Rattle.ylink_types.specs.TypeView.{meant_view};
+
+    /// The type that refers to no other node, where it is one.
+    pub fn own(&self) -> Option<&YType>
+        ensures { option_map (λ t. t.now) result ≡ spec.own_type (meant_view self.now) }
+    {
+        match self {
+            Meant::Own(value_type) => Some(value_type),
+            Meant::OfTarget { .. } => None,
+        }
+    }
+
+    fn is_reference(&self) -> bool
+        ensures { result ≡ spec.is_reference (meant_view self.now) }
+    {
+        matches!(self, Meant::OfTarget { .. })
+    }
+
+    fn copy(&self) -> Result<Meant<'t>, AllocError>
+        ensures { IfOk result (λ copy. meant_view copy ≡ meant_view self.now) }
+    {
+        match self {
+            Meant::Own(own) => Ok(Meant::Own(own.clone()?)),
+            Meant::OfTarget {
+                home,
+                steps,
+                required,
+            } => Ok(Meant::OfTarget {
+                home: *home,
+                steps: steps.clone()?,
+                required: *required,
+            }),
+        }
+    }
+}
+
+impl<'t> Verdict<'t> {
+    ghost use Rattle.std.specs.Prelude.{◌≡◌, IfOk, option_map};
+    ghost use Rattle.yspec.specs.linking.TypeStatements as spec;
+    ghost use Rattle.ylink_types.specs.TypeView.{meant_view, verdict_view};
+
+    /// A copy of it.
+    pub fn copy(&self) -> Result<Verdict<'t>, AllocError>
+        ensures { IfOk result (λ copy. verdict_view copy ≡ verdict_view self.now) }
+    {
+        match self {
+            Verdict::Means(meant) => Ok(Verdict::Means(meant.copy()?)),
+            Verdict::Wrong => Ok(Verdict::Wrong),
+            Verdict::TooLarge => Ok(Verdict::TooLarge),
+            Verdict::Unjudged => Ok(Verdict::Unjudged),
+        }
+    }
+
+    /// What the statement means, where it means anything.
+    pub fn meaning(&self) -> Option<&Meant<'t>>
+        ensures { option_map (λ m. meant_view m.now) result
+            ≡ spec.meaning_of (verdict_view self.now) }
+    {
+        match self {
+            Verdict::Means(meant) => Some(meant),
+            _ => None,
+        }
+    }
+}

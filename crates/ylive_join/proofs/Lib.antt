@@ -1,4 +1,0 @@
-pub mod FlagLemmas
-pub mod HolderLemmas
-pub mod JoinedLemmas
-pub mod JudgedLemmas

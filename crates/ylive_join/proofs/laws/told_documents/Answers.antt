@@ -1,5 +1,0 @@
-use Rattle.ylive_join.proofs.JoinedLemmas.{count_is, faults_is, tells_is}
-use Rattle.ylive_join.proofs.laws.told_documents.Goals as goal
-
-pub returns : goal.returns
-returns c = record { tells = tells_is; faults = faults_is; total = count_is }

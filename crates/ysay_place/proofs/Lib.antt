@@ -1,0 +1,3 @@
+pub mod PlaceLemmas
+pub mod PredicateLemmas
+pub mod OrderedLemmas

@@ -1,0 +1,4 @@
+pub mod Places
+pub mod Instances
+pub mod KeyedPath
+pub mod Targets

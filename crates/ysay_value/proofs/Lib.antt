@@ -1,0 +1,2 @@
+pub mod TupleLemmas
+pub mod JoiningLemmas

@@ -1,6 +1,0 @@
-use Rattle.std.proofs.Common.{◌≡◌, drop}
-use Rattle.ytype.specs.Identities.{beside}
-use Rattle.ytype.proofs.identity.beside.Given as goal
-
-abbrev pub invariant-entries : goal.invariant-entries
-invariant-entries l = beside (drop l.entry-index l.entries) l.prefix ≡ beside l.entries l.prefix

@@ -1,0 +1,3 @@
+pub mod RowLemmas
+pub mod LimitLemmas
+pub mod IdentityLemmas

@@ -1,0 +1,4 @@
+pub mod Identities
+pub mod View
+pub mod Founds
+pub mod Forms
