@@ -60,6 +60,15 @@ def objects(count):
     return refused(nest, nest)
 
 
+def items(count):
+    """Documents of one node less than so many, and of one more: an edit fills the first, a second one is refused."""
+    text = module("container c { config false; leaf-list i { type string; } }")
+    document = lambda nodes: '{"m:c":{"i":[' + ",".join(['"x"'] * (nodes - 1)) + "]}}"
+    more = 'create /m:c/i "x"\n'
+    files = {"m.yang": text, "deep.json": document(count - 1), "more.json": document(count + 1), "one.txt": more, "two.txt": 2 * more}
+    return Made(files, [("edit deep.json one.txt m.yang", 0), ("edit deep.json two.txt m.yang", 1), ("validate more.json m.yang", 2)])
+
+
 def open_brackets(count):
     """A document of opening brackets alone."""
     return refused("[" * count, "[" * 1000)
@@ -268,10 +277,10 @@ GROWING = {
 }  # fmt: skip
 
 DEEP = {make.__name__: make for make in (
-    blocks, levels, brackets, objects, open_brackets, typedefs, restricted, unions, groupings, leafrefs, augments, identities, imports
+    blocks, levels, brackets, objects, items, open_brackets, typedefs, restricted, unions, groupings, leafrefs, augments, identities, imports
 )}  # fmt: skip
 DEEPEST = [
-    ("blocks", 64), ("levels", 60), ("brackets", 127), ("brackets", 128), ("objects", 127), ("open_brackets", 1000000),
+    ("blocks", 64), ("levels", 60), ("brackets", 127), ("brackets", 128), ("objects", 127), ("items", 1000000), ("open_brackets", 1000000),
     ("typedefs", 60000), ("restricted", 60000), ("unions", 60000), ("groupings", 60000), ("leafrefs", 60000), ("augments", 60000),
     ("identities", 60000), ("imports", 1000),
 ]  # fmt: skip
