@@ -1,6 +1,6 @@
 //! Worked examples of corners, each of which a plausible slip of a definition would turn.
 
-ghost use Rattle.std.specs.Prelude.{◌≡◌, ◌++◌, ◌∷◌, [], true, false, codes, replicate, Some, nat_lt};
+ghost use Rattle.std.specs.Prelude.{◌≡◌, ◌++◌, ◌∷◌, [], List, true, false, codes, replicate, Some, nat_lt};
 ghost use Rattle.yspec.specs.Forest.{Forest, end, node, size};
 ghost use Rattle.yspec.specs.document.Document.{document_limit};
 ghost use Rattle.yspec.specs.schema.Breaks.{broken, first_broken, level_limit, limit_breaks, node_limit};
@@ -8,6 +8,10 @@ ghost use Rattle.yspec.specs.schema.Diagram.{diagram};
 ghost use Rattle.yspec.specs.text.Statement.{Statement, text_limit};
 ghost use Rattle.yspec.specs.text.Text.{is_identifier};
 ghost use Rattle.yspec.specs.linking.Keyword.{keywords};
+ghost use Rattle.yspec.specs.linking.Source.{Source};
+ghost use Rattle.yspec.specs.linking.TypeStatements.{member_limit, means, of_members, own, told, too_large};
+ghost use Rattle.yspec.specs.types.Restriction.{member_count, union_type};
+ghost use Rattle.yspec.specs.types.Types.{YangType};
 ghost use Rattle.yspec_examples.specs.TableSamples.{table_text};
 ghost use Rattle.yspec.specs.linking.Compiling.{is_too_deep, phases_of_plan};
 ghost use Rattle.yspec.specs.linking.Expansion.{unfit_breaks};
@@ -30,6 +34,12 @@ pub fn limits()
     ensures nodes { node_limit ≡ 65535 }
     ensures levels { level_limit ≡ 60 }
     ensures texts { text_limit ≡ 4194304 }
+    ensures members { member_limit ≡ 65535 }
+    ensures as_many_members { (types : List YangType) → nat_lt member_limit (member_count (union_type types)) ≡ false
+        → of_members types ≡ means (own (union_type types)) }
+    ensures more_members { (types : List YangType) → nat_lt member_limit (member_count (union_type types)) ≡ true
+        → of_members types ≡ too_large }
+    ensures members_told { (s : Source) → told s too_large ≡ broken 18 s.home s.statement.line }
     ensures longest_identifier { is_identifier (replicate 64 97) ≡ true }
     ensures too_long_identifier { is_identifier (replicate 65 97) ≡ false }
     ensures deepest { counted (module_text (codes "m") (nested 60)) ≡ found 0 (codes "60 nodes\n") }
