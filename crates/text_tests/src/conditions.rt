@@ -1,8 +1,8 @@
 //! What arguments of `if-feature` spell.
 
 use std::alloc::{AllocError, Global};
+use ylink_arguments::Name;
 use ylink_conditions::{Expression, YangVersion, expression_of};
-use ylink_grammar::Name;
 
 fn push_name(text: &mut String, name: &Name<'_>) -> Result<(), AllocError> {
     if let Some(prefix) = name.prefix {

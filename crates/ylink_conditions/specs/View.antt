@@ -2,7 +2,7 @@
 use Rattle.std.specs.Prelude.{ℕ, Bool, true, false, List, [], ◌∷◌, map, Option, option_map}
 use Rattle.yspec_wide.specs.Language as language
 use Rattle.yspec_wide.specs.Expressions as spec
-use Rattle.ylink_grammar.specs.NameView.{name_view}
+use Rattle.ylink_arguments.specs.NameView.{name_view}
 use Rattle.ylink_conditions.specs.declared.expression.Expression.{Expression}
 use Rattle.ylink_conditions.specs.declared.expression.Expression.TheVariants as expressions
 use Rattle.ylink_conditions.specs.declared.expression.YangVersion.{YangVersion}

@@ -1,7 +1,7 @@
 //! Expressions of features.
 
 use std::alloc::AllocError;
-use ylink_grammar::Name;
+use ylink_arguments::Name;
 
 /// A version of YANG.
 #[derive(Clone, Copy, Debug)]
@@ -27,7 +27,7 @@ pub enum Expression<'t> {
 
 impl<'t> Expression<'t> {
     ghost use Rattle.std.specs.Prelude.{◌≡◌, ◌++◌, OnOk};
-    ghost use Rattle.ylink_grammar.specs.NameView.{names_view};
+    ghost use Rattle.ylink_arguments.specs.NameView.{names_view};
     ghost use Rattle.ylink_conditions.specs.View.{expression_view};
     ghost use Rattle.yspec_wide.specs.Expressions as spec;
 

@@ -8,7 +8,7 @@ ghost use Rattle.ylink_conditions.specs.View.{expression_view, level_view, read_
 use crate::expression::{Expression, YangVersion};
 use crate::words::{Token, tokens_of};
 use std::alloc::{AllocError, Global};
-use ylink_grammar::name_of;
+use ylink_arguments::name_of;
 
 /// More words than an expression may have, so that none is deeper than a stack.
 const MOST_WORDS: usize = 127;

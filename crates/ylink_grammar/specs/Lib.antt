@@ -1,9 +1,7 @@
 pub mod BreakView
 pub mod Counts
-pub mod Cut
 pub mod FormView
 pub mod LinkView
-pub mod NameView
 pub mod NamedType
 pub mod SourceView
 pub mod TableView

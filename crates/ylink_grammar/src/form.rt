@@ -4,11 +4,12 @@ ghost use Rattle.std.specs.Prelude.{◌≡◌, IfOk};
 ghost use Rattle.yspec.specs.linking.Arguments as spec;
 ghost use Rattle.ylink_grammar.specs.FormView.{form_view};
 
-use crate::name::{absolute_path, key_names, leafref_path, relative_path, unique_paths};
-use crate::number::{count, enum_value, fraction_digits, max_elements};
-use crate::span::spans;
 use std::alloc::{AllocError, Global};
 use ybase_words::{flag_of, is_date, ordered_by_of, status_of};
+use ylink_arguments::{
+    absolute_path, count, enum_value, fraction_digits, key_names, leafref_path, max_elements,
+    relative_path, spans, unique_paths,
+};
 use ytext::{is_identifier, is_name};
 
 /// The form of an argument.

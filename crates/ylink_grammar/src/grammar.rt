@@ -18,11 +18,10 @@ ghost use Rattle.ylink_grammar.specs.BreakView.{break_view, seen};
 
 use crate::fault::{BrokenRule, CompileCode, least, least_when};
 use crate::form::{Form, fits};
-use crate::name::colon_offset;
 use crate::table::{Allowed, Count, needs_of, rule_of};
 use std::alloc::{AllocError, Global};
 use ybase_words::{KEYWORDS, Keyword};
-use ytext::{Module, Stmt};
+use ytext::{Module, Stmt, offset_of};
 
 /// Up to how many substatements are compared with one another, and not counted.
 const FEW: usize = 8;
@@ -42,7 +41,7 @@ pub fn broken(code: CompileCode, module: usize, statement: &Stmt) -> BrokenRule
 fn is_prefixed(statement: &Stmt) -> bool
     ensures { result ≡ spec.is_prefixed (view statement.now).0.keyword }
 {
-    colon_offset(statement.keyword().as_bytes()).is_some()
+    offset_of(statement.keyword().as_bytes(), b':').is_some()
 }
 
 fn has_keyword(statement: &Stmt, keyword: Keyword) -> bool

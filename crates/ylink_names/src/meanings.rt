@@ -18,7 +18,8 @@ use crate::taken::is_built_in;
 use std::alloc::{AllocError, Global};
 use ybase_preorder::Siblings;
 use ybase_words::Keyword;
-use ylink_grammar::{Name, Source, Sources, name_of};
+use ylink_arguments::{Name, name_of};
+use ylink_grammar::{Source, Sources};
 
 /// The modules of a set, as prefixes name them, with the definitions at their tops.
 #[derive(Drop)]
@@ -43,7 +44,7 @@ impl<'a, 't> NamedModules<'a, 't> {
     ghost use Rattle.yspec.specs.Forest.{Forest};
     ghost use Rattle.yspec.specs.linking.Scopes as spec;
     ghost use Rattle.yspec.specs.linking.Source as sources;
-    ghost use Rattle.ylink_grammar.specs.NameView.{name_view};
+    ghost use Rattle.ylink_arguments.specs.NameView.{name_view};
     ghost use Rattle.ylink_grammar.specs.SourceView.{source_view};
     ghost use Rattle.ylink_names.specs.DefinitionView.{kind_word, IsAround};
     ghost use Rattle.ylink_names.specs.MeaningView.{named_in, numbered, number_meant, top_in, AreModules};

@@ -13,7 +13,7 @@ ghost use Rattle.ylink_grammar.specs.BreakView.{seen};
 ghost use Rattle.ybase_words.specs.KeywordView.{keyword_view};
 ghost use Rattle.ylink_grammar.specs.LinkView.{view};
 ghost use Rattle.ytext.specs.View as text;
-ghost use Rattle.ylink_grammar.specs.NameView.{name_view, names_view};
+ghost use Rattle.ylink_arguments.specs.NameView.{name_view, names_view};
 ghost use Rattle.ylink_grammar.specs.NamedType.{argument_text};
 ghost use Rattle.ylink_names.specs.FirstNamedView.{named};
 ghost use Rattle.ylink_names.specs.PrefixView.{AreModulesOf, IsOf, declared_by, imported_by};
@@ -24,9 +24,11 @@ use crate::repeated::repeated_prefix;
 use std::alloc::{AllocError, Global};
 use ybase_preorder::{Node, Siblings};
 use ybase_words::Keyword;
+use ylink_arguments::{
+    Name, absolute_path, key_names, leafref_path, name_of, relative_path, unique_paths,
+};
 use ylink_grammar::{
-    BrokenRule, CompileCode, Name, Source, Sources, absolute_path, argument_of, argument_with,
-    broken, key_names, leafref_path, least, name_of, relative_path, unique_paths,
+    BrokenRule, CompileCode, Source, Sources, argument_of, argument_with, broken, least,
 };
 
 /// What the prefixes of each module stand for, by its number in the set: the number of a module, where the set has it.
@@ -104,7 +106,7 @@ impl<'t> Prefixes<'t> {
     ghost use Rattle.yspec.specs.linking.Imports as imports;
     ghost use Rattle.yspec.specs.linking.Prefixes as spec;
     ghost use Rattle.ylink_grammar.specs.LinkView.{view};
-    ghost use Rattle.ylink_grammar.specs.NameView.{name_view};
+    ghost use Rattle.ylink_arguments.specs.NameView.{name_view};
     ghost use Rattle.ylink_names.specs.PrefixView.{IsOf, declared_in, node_name_view};
 
     /// The prefixes of a set's modules.

@@ -7,7 +7,7 @@ use Rattle.ylink_types.specs.declared.types.Meant.{Meant}
 use Rattle.ylink_types.specs.declared.types.Meant.TheVariants as meants
 use Rattle.ylink_types.specs.declared.types.Verdict.{Verdict}
 use Rattle.ylink_types.specs.declared.types.Verdict.TheVariants as verdicts
-use Rattle.ylink_grammar.specs.NameView.{names_view}
+use Rattle.ylink_arguments.specs.NameView.{names_view}
 
 abbrev pub meant_view : Meant → spec.Meant
 meant_view (meants.Own type) = spec.own type

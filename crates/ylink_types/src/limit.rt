@@ -18,7 +18,8 @@ ghost use Rattle.ylink_types.specs.KindView.{word_of, restriction_by};
 use std::alloc::{AllocError, Global};
 use ybase_preorder::{Node, Siblings};
 use ybase_words::Keyword;
-use ylink_grammar::{Source, argument_of, argument_with, found_with, spans};
+use ylink_arguments::spans;
+use ylink_grammar::{Source, argument_of, argument_with, found_with};
 use ytype::{ErrorText, NarrowFault, Restriction, Span, YType};
 
 /// The restrictions that types have by spans of numbers.

@@ -14,7 +14,8 @@ use crate::limit::accepted_type;
 use std::alloc::{AllocError, Global};
 use ybase_preorder::{Node, Siblings};
 use ybase_words::Keyword;
-use ylink_grammar::{Source, argument_of, argument_with, count, enum_value};
+use ylink_arguments::{count, enum_value};
+use ylink_grammar::{Source, argument_of, argument_with};
 use ytype::{Naming, YType};
 
 fn value_stated(below: Siblings<'_, Source<'_>>) -> Option<i64>

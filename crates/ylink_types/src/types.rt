@@ -11,7 +11,7 @@ ghost use Rattle.yspec.specs.linking.TypeStatements as spec;
 ghost use Rattle.ybase_preorder.specs.View.{row_by, label_by};
 ghost use Rattle.ybase_words.specs.KeywordView.{keyword_view};
 ghost use Rattle.ylink_grammar.specs.LinkView.{view};
-ghost use Rattle.ylink_grammar.specs.NameView.{names_view};
+ghost use Rattle.ylink_arguments.specs.NameView.{names_view};
 ghost use Rattle.ylink_grammar.specs.SourceView.{source_view};
 ghost use Rattle.ybase_words.specs.BuiltInView.{built_in_view};
 ghost use Rattle.yspec.specs.linking.DerivedTypes.{unknown};
@@ -26,9 +26,8 @@ use crate::typedefs::{Known, Typedefs};
 use std::alloc::{AllocError, Global};
 use ybase_preorder::{Node, Siblings};
 use ybase_words::{BuiltIn, Keyword};
-use ylink_grammar::{
-    Name, Source, Sources, argument_of, argument_with, fraction_digits, leafref_path,
-};
+use ylink_arguments::{Name, fraction_digits, leafref_path};
+use ylink_grammar::{Source, Sources, argument_of, argument_with};
 use ytype::{FractionDigits, YType};
 
 /// What a `type` statement means.

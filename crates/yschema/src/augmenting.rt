@@ -8,7 +8,7 @@ ghost use Rattle.yspec.specs.linking.Planned.{nodes_of};
 ghost use Rattle.yspec.specs.linking.Prefixes.{node_name};
 ghost use Rattle.yspec.specs.linking.SchemaNodes.{number_in};
 ghost use Rattle.ybase_preorder.specs.View.{row_by};
-ghost use Rattle.ylink_grammar.specs.NameView.{names_view};
+ghost use Rattle.ylink_arguments.specs.NameView.{names_view};
 ghost use Rattle.ylink_grammar.specs.SourceView.{source_view};
 ghost use Rattle.yschema_expand.specs.AugmentView as statements;
 ghost use Rattle.yschema_plan.specs.PlanView as plans;
@@ -19,7 +19,8 @@ use std::alloc::{AllocError, Global};
 use std::collections::BTreeMap;
 use ybase_preorder::{Node, Siblings};
 use ybase_words::Keyword;
-use ylink_grammar::{Name, Source, absolute_path, argument_of};
+use ylink_arguments::{Name, absolute_path};
+use ylink_grammar::{Source, argument_of};
 use yschema_model::{Augment, SchemaId};
 use yschema_plan::Plan;
 

@@ -4,7 +4,7 @@ ghost use Rattle.std.specs.Prelude.{◌≡◌, ◌<◌, ◌^◌, ◌++◌, ℕ, 
 ghost use Rattle.yspec.specs.Forest.{Forest};
 ghost use Rattle.yspec.specs.linking.Augments.{target_steps};
 ghost use Rattle.yspec.specs.linking.Source as sources;
-ghost use Rattle.ylink_grammar.specs.NameView.{names_view};
+ghost use Rattle.ylink_arguments.specs.NameView.{names_view};
 ghost use Rattle.ylink_names.specs.PrefixView.{IsOf};
 ghost use Rattle.yschema_augment.specs.Asking.{AreNames, identifiers, path_of, row_name, steps_from, texts_of_path, texts_seen};
 ghost use Rattle.yschema_expand.specs.AugmentView.{augment_view, augments_seen};
@@ -15,7 +15,8 @@ ghost use Rattle.yschema_expand.specs.TableView.{slots_of};
 use crate::search::Step;
 use std::alloc::{AllocError, Global};
 use ybase_preorder::Node;
-use ylink_grammar::{Name, Source, absolute_path, argument_of};
+use ylink_arguments::{Name, absolute_path};
+use ylink_grammar::{Source, argument_of};
 use ylink_names::Prefixes;
 use yschema_expand::{Named, NodeTable};
 

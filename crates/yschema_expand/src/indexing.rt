@@ -16,7 +16,7 @@ use crate::table::NodeTable;
 use std::alloc::{AllocError, Global};
 use ybase_index::{Among, IndexedNode, NodeIndex};
 use ybase_preorder::Slot;
-use ylink_grammar::Name;
+use ylink_arguments::Name;
 use ylink_names::{NodeName, Prefixes};
 
 /// The nodes of a table from that of a number on, by their names.
@@ -108,7 +108,7 @@ impl<'t> TargetIndex<'t> {
     ghost use Rattle.yspec.specs.Forest.{Forest};
     ghost use Rattle.yspec.specs.linking.Prefixes as spec;
     ghost use Rattle.yspec.specs.linking.Source as sources;
-    ghost use Rattle.ylink_grammar.specs.NameView.{names_view};
+    ghost use Rattle.ylink_arguments.specs.NameView.{names_view};
     ghost use Rattle.ylink_names.specs.PrefixView.{IsOf, node_name_view};
     ghost use Rattle.yschema_expand.specs.Indexing.{led, look_in, Indexes};
     ghost use Rattle.yschema_expand.specs.TableView.{parts_in};

@@ -23,7 +23,8 @@ use crate::target::{LastNodes, number_at};
 use std::alloc::{AllocError, Global};
 use ybase_preorder::{Node, Siblings};
 use ybase_words::Keyword;
-use ylink_grammar::{CompileCode, Source, argument_of, broken, least, may_bear, relative_path};
+use ylink_arguments::relative_path;
+use ylink_grammar::{CompileCode, Source, argument_of, broken, least, may_bear};
 use ylink_names::Prefixes;
 
 /// How many statements a `uses` has at least whose refines find their targets by an index.

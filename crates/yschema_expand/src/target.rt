@@ -8,7 +8,7 @@ ghost use Rattle.yspec.specs.linking.Prefixes as spec;
 ghost use Rattle.yspec.specs.linking.Expansion.{is_step};
 ghost use Rattle.ybase_preorder.specs.Layout.{Place, places};
 ghost use Rattle.ybase_preorder.specs.View.{row_by};
-ghost use Rattle.ylink_grammar.specs.NameView.{names_view};
+ghost use Rattle.ylink_arguments.specs.NameView.{names_view};
 ghost use Rattle.ylink_names.specs.PrefixView.{IsOf, node_name_view};
 ghost use Rattle.yschema_expand.specs.Indexing.{Indexes};
 ghost use Rattle.yschema_expand.specs.NodeView.{numbered_part, part_view};
@@ -19,7 +19,7 @@ use crate::indexing::TargetIndex;
 use crate::nodes::ExpandedNode;
 use crate::table::NodeTable;
 use ybase_preorder::{Node, Siblings};
-use ylink_grammar::Name;
+use ylink_arguments::Name;
 use ylink_names::{NodeName, Prefixes};
 
 /// Whether a node has a name.

@@ -11,7 +11,8 @@ use crate::plan::Plan;
 use crate::planned::Planned;
 use std::alloc::{AllocError, Global};
 use ybase_words::{Keyword, Status, status_of};
-use ylink_grammar::{Stated, count, max_elements};
+use ylink_arguments::{count, max_elements};
+use ylink_grammar::Stated;
 use yschema_model::Amount;
 
 impl<'a, 't> Planned<'a, 't> {

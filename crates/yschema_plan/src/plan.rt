@@ -21,7 +21,8 @@ use std::alloc::{AllocError, Global};
 use ybase_index::{Among, Names, NodeIndex};
 use ybase_preorder::{Slot, Table};
 use ybase_words::Keyword;
-use ylink_grammar::{Name, Sources};
+use ylink_arguments::Name;
+use ylink_grammar::Sources;
 use ylink_names::{NodeName, Prefixes};
 use yschema_expand::NodeTable;
 
@@ -62,7 +63,7 @@ impl<'a, 't> Plan<'a, 't> {
     ghost use Rattle.yschema_plan.specs.PlanView.{view};
     ghost use Rattle.yschema_plan.specs.NodesView.{left, node_view};
     ghost use Rattle.yspec.specs.linking.Prefixes as names;
-    ghost use Rattle.ylink_grammar.specs.NameView.{name_view};
+    ghost use Rattle.ylink_arguments.specs.NameView.{name_view};
     ghost use Rattle.ylink_names.specs.PrefixView.{node_name_view};
 
     /// The plan of a set of modules, given what their prefixes stand for and the nodes that they define.

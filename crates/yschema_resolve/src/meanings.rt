@@ -5,7 +5,7 @@ ghost use Rattle.yspec.specs.linking.Planned as spec;
 ghost use Rattle.yspec.specs.linking.Planned.{meant_in, nodes_of};
 ghost use Rattle.yspec.specs.linking.Prefixes.{node_name};
 ghost use Rattle.yspec.specs.linking.SchemaNodes.{number_in};
-ghost use Rattle.ylink_grammar.specs.NameView.{names_view};
+ghost use Rattle.ylink_arguments.specs.NameView.{names_view};
 ghost use Rattle.ylink.specs.TypeView.{meant_view};
 ghost use Rattle.ylink.specs.LinkedView.{IsOf};
 ghost use Rattle.yschema_plan.specs.NodesView.{node_view};
@@ -16,7 +16,7 @@ ghost use Rattle.yschema_resolve.specs.TypesView.{meants_view};
 use std::alloc::{AllocError, Global};
 use ybase_words::Keyword;
 use ylink::{Linked, Meant};
-use ylink_grammar::Name;
+use ylink_arguments::Name;
 use yschema_plan::{Plan, PlanNode, Planned};
 
 /// What the type of each node means, and the node to which it refers, by number.

@@ -13,7 +13,7 @@ ghost use Rattle.yspec.specs.linking.SchemaNodes as spec;
 ghost use Rattle.yspec.specs.linking.SchemaNodes.{number_in};
 ghost use Rattle.yspec.specs.linking.Source.{argument_in};
 ghost use Rattle.ybase_preorder.specs.View.{label_by};
-ghost use Rattle.ylink_grammar.specs.NameView.{names_view};
+ghost use Rattle.ylink_arguments.specs.NameView.{names_view};
 ghost use Rattle.ylink_grammar.specs.SourceView.{source_view};
 ghost use Rattle.yschema_plan.specs.NodesView.{node_view};
 ghost use Rattle.yschema_plan.specs.PlanView.{view};
@@ -24,7 +24,8 @@ use std::alloc::{AllocError, Global};
 use std::collections::BTreeSet;
 use ybase_preorder::Node;
 use ybase_words::Keyword;
-use ylink_grammar::{Name, Source, argument_of, key_names, unique_paths};
+use ylink_arguments::{Name, key_names, unique_paths};
+use ylink_grammar::{Source, argument_of};
 use yschema_model::{SchemaId, Tuples};
 use yschema_plan::{Plan, PlanNode};
 

@@ -1,6 +1,6 @@
 use Rattle.std.proofs.Common.{sym, ◌∙◌, arith}
 use Rattle.yspec.specs.linking.Prefixes.{is_unknown_prefix}
-use Rattle.ylink_grammar.specs.NameView.{name_view}
+use Rattle.ylink_arguments.specs.NameView.{name_view}
 use Rattle.ylink_names.proofs.PrefixLemmas.{any_here, any_later, any_ended}
 use Rattle.ylink_names.proofs.prefix.has_unknown.Goals as goal
 

@@ -2,7 +2,7 @@ use Rattle.std.proofs.Common.{ap, sym, ◌∙◌, option_map, map}
 use Rattle.std.specs.List.{list_any}
 use Rattle.yspec.specs.linking.Arguments.{unique_of}
 use Rattle.yspec.specs.linking.Prefixes.{is_unknown_prefix}
-use Rattle.ylink_grammar.specs.NameView.{names_view}
+use Rattle.ylink_arguments.specs.NameView.{names_view}
 use Rattle.ylink_names.proofs.PrefixLemmas.{of_unique}
 use Rattle.ylink_names.proofs.prefix.has_unknown_prefix.Goals as goal
 

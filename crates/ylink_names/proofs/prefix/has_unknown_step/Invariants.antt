@@ -1,7 +1,7 @@
 use Rattle.std.proofs.Common.{◌≡◌, drop, map}
 use Rattle.std.specs.List.{list_any}
 use Rattle.yspec.specs.linking.Prefixes.{is_unknown_prefix}
-use Rattle.ylink_grammar.specs.NameView.{names_view}
+use Rattle.ylink_arguments.specs.NameView.{names_view}
 use Rattle.ylink_names.specs.PrefixView.{IsOf}
 use Rattle.ylink_names.proofs.prefix.has_unknown_step.Given as goal
 

@@ -1,6 +1,6 @@
 use Rattle.std.proofs.Common.{◌≡◌, map, None, drop}
 use Rattle.yspec.specs.linking.Prefixes.{node_name}
-use Rattle.ylink_grammar.specs.NameView.{names_view}
+use Rattle.ylink_arguments.specs.NameView.{names_view}
 use Rattle.yschema_plan.specs.PlanView.{view}
 use Rattle.yschema.specs.Added.{leads}
 use Rattle.yschema.proofs.augmenting.target_along.Given as goal

@@ -4,7 +4,7 @@ use Rattle.yspec.specs.linking.Arguments.{absolute_path_of}
 use Rattle.yspec.specs.linking.Augments.{target_steps}
 use Rattle.yspec.specs.linking.Prefixes.{node_name}
 use Rattle.yspec.specs.linking.Source.{argument_in}
-use Rattle.ylink_grammar.specs.NameView.{names_view}
+use Rattle.ylink_arguments.specs.NameView.{names_view}
 use Rattle.yschema_expand.specs.AugmentView as statements
 use Rattle.yschema_plan.specs.PlanView as plans
 use Rattle.yschema.specs.Added.{leads}

@@ -3,8 +3,8 @@ use Rattle.std.proofs.lemmas.List.{append_assoc, drop_more, length_push, map-app
 use Rattle.std.specs.Borrow.{Bor}
 use Rattle.yspec.specs.text.Text.{Text}
 use Rattle.yspec.specs.linking.Prefixes.{NodeName}
-use Rattle.ylink_grammar.specs.NameView.{names_view}
-use Rattle.ylink_grammar.specs.declared.name.Name.{Name}
+use Rattle.ylink_arguments.specs.NameView.{names_view}
+use Rattle.ylink_arguments.specs.declared.name.Name.{Name}
 use Rattle.yschema_augment.specs.Asking.{identifiers, steps_from, texts_seen}
 use Rattle.yschema_augment.specs.declared.search.Step.{Step}
 use Rattle.yschema_augment.proofs.paths.steps_of.Goals as goal

@@ -1,7 +1,7 @@
 use Rattle.std.proofs.Common.{◌≡◌, ◌++◌, ◌<◌, ◌^◌, drop, length}
 use Rattle.yspec.specs.Forest.{Forest}
 use Rattle.yspec.specs.linking.Source as sources
-use Rattle.ylink_grammar.specs.NameView.{names_view}
+use Rattle.ylink_arguments.specs.NameView.{names_view}
 use Rattle.ylink_names.specs.PrefixView.{IsOf}
 use Rattle.yschema_augment.specs.Asking.{identifiers, steps_from, texts_seen}
 use Rattle.yschema_augment.proofs.paths.steps_of.Given as goal

@@ -4,7 +4,7 @@ use Rattle.std.specs.Option.{option_map_or}
 use Rattle.yspec.specs.linking.Expansion.{may_bear, refine_steps}
 use Rattle.yspec.specs.linking.Prefixes as prefixes
 use Rattle.ybase_preorder.specs.View.{row_by, label_by}
-use Rattle.ylink_grammar.specs.NameView.{names_view}
+use Rattle.ylink_arguments.specs.NameView.{names_view}
 use Rattle.ylink_grammar.specs.SourceView.{source_view}
 use Rattle.yschema_expand.specs.Indexing.{part_in}
 use Rattle.yschema_expand.specs.TableView.{slots_of}

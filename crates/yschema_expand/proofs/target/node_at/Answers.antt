@@ -3,7 +3,7 @@ use Rattle.std.specs.Prelude.{option_map}
 use Rattle.yspec.specs.linking.Expansion.{is_step}
 use Rattle.yspec.specs.linking.Prefixes as spec
 use Rattle.ybase_preorder.specs.View.{row_by}
-use Rattle.ylink_grammar.specs.NameView.{name_view, names_view}
+use Rattle.ylink_arguments.specs.NameView.{name_view, names_view}
 use Rattle.yschema_expand.specs.NodeView.{numbered_part}
 use Rattle.yschema_expand.specs.Targets.{node_seen, found_in, found_at}
 use Rattle.yschema_expand.proofs.TargetLemmas.{found_from, found_step, found_nowhere}

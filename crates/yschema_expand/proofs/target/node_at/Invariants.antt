@@ -3,7 +3,7 @@ use Rattle.yspec.specs.Forest.{Forest}
 use Rattle.yspec.specs.linking.Source as sources
 use Rattle.yspec.specs.linking.Prefixes as spec
 use Rattle.ybase_preorder.specs.View.{row_by}
-use Rattle.ylink_grammar.specs.NameView.{names_view}
+use Rattle.ylink_arguments.specs.NameView.{names_view}
 use Rattle.ylink_names.specs.PrefixView.{IsOf}
 use Rattle.yschema_expand.specs.NodeView.{numbered_part}
 use Rattle.yschema_expand.specs.Targets.{node_seen, found_at}

@@ -1,7 +1,7 @@
 use Rattle.std.proofs.Common.{rules, ◌∙◌, Some, map, sym, ap, arith}
 use Rattle.std.specs.Prelude.{option_map}
 use Rattle.yspec.specs.linking.Prefixes as spec
-use Rattle.ylink_grammar.specs.NameView.{names_view}
+use Rattle.ylink_arguments.specs.NameView.{names_view}
 use Rattle.yschema_expand.specs.TableView.{parts_in, slots_of}
 use Rattle.yschema_expand.specs.Targets.{node_seen}
 use Rattle.yschema_expand.proofs.IndexedLemmas.{count_parts, led_there, number_there}

@@ -3,8 +3,8 @@ use Rattle.std.specs.Prelude.{option_map}
 use Rattle.std.proofs.lemmas.List.{at_drop_more}
 use Rattle.yspec.specs.linking.Prefixes.{node_name}
 use Rattle.yspec.specs.linking.Planned as spec
-use Rattle.ylink_grammar.specs.NameView.{names_view}
-use Rattle.ylink_grammar.specs.declared.name.Name.{Name}
+use Rattle.ylink_arguments.specs.NameView.{names_view}
+use Rattle.ylink_arguments.specs.declared.name.Name.{Name}
 use Rattle.yschema_plan.specs.NodesView.{node_view}
 use Rattle.yschema_plan.specs.PlanView.{view}
 use Rattle.yschema_resolve.proofs.MeaningLemmas.{onwards, one_step, no_step}

@@ -1,7 +1,7 @@
 use Rattle.std.proofs.Common.{◌≡◌, map, option_map, None, drop}
 use Rattle.yspec.specs.linking.Prefixes.{node_name}
 use Rattle.yspec.specs.linking.Planned as spec
-use Rattle.ylink_grammar.specs.NameView.{names_view}
+use Rattle.ylink_arguments.specs.NameView.{names_view}
 use Rattle.yschema_plan.specs.NodesView.{node_view}
 use Rattle.yschema_plan.specs.PlanView.{view}
 use Rattle.yschema_resolve.proofs.MeaningLemmas.{onwards}

@@ -1,7 +1,7 @@
 use Rattle.std.proofs.Common.{◌≡◌, ◌++◌, Some, drop, map, option_map}
 use Rattle.yspec.specs.linking.Planned.{child_called}
 use Rattle.yspec.specs.linking.Prefixes.{node_name}
-use Rattle.ylink_grammar.specs.NameView.{names_view}
+use Rattle.ylink_arguments.specs.NameView.{names_view}
 use Rattle.yschema_plan.specs.NodesView.{node_view}
 use Rattle.yschema_plan.specs.PlanView.{view}
 use Rattle.yschema_resolve.proofs.tuples.children_called.Given as goal

@@ -2,7 +2,7 @@ use Rattle.std.proofs.Common.{◌≡◌, ◌++◌, Some, drop, map}
 use Rattle.yspec.specs.linking.Planned as planned
 use Rattle.yspec.specs.linking.SchemaNodes.{nodes_named}
 use Rattle.ybase_preorder.specs.View.{label_by}
-use Rattle.ylink_grammar.specs.NameView.{names_view}
+use Rattle.ylink_arguments.specs.NameView.{names_view}
 use Rattle.ylink_grammar.specs.SourceView.{source_view}
 use Rattle.yschema_plan.specs.NodesView.{node_view}
 use Rattle.yschema_plan.specs.PlanView.{view}

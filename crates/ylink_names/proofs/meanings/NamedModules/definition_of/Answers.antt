@@ -3,7 +3,7 @@ use Rattle.std.specs.Prelude.{option_and_then}
 use Rattle.yspec.specs.linking.Arguments.{name_of}
 use Rattle.yspec.specs.linking.Source.{argument_in}
 use Rattle.yspec.specs.linking.Scopes.{definition_named}
-use Rattle.ylink_grammar.specs.NameView.{name_view}
+use Rattle.ylink_arguments.specs.NameView.{name_view}
 use Rattle.ylink_grammar.specs.SourceView.{source_view}
 use Rattle.ylink_names.specs.DefinitionView.{kind_word}
 use Rattle.ylink_names.specs.MeaningView.{numbered}

@@ -1,7 +1,7 @@
 use Rattle.std.proofs.Common.{rules, ◌≡◌, ◌∷◌, None, Some, map, sym, ap, ◌∙◌}
 use Rattle.std.specs.Prelude.{option_and_then}
 use Rattle.yspec.specs.linking.Prefixes as spec
-use Rattle.ylink_grammar.specs.NameView.{name_view, names_view}
+use Rattle.ylink_arguments.specs.NameView.{name_view, names_view}
 use Rattle.yschema_expand.specs.Indexing.{led, led_on, look_in}
 use Rattle.yschema_expand.proofs.IndexLemmas.{led_next, led_nowhere}
 use Rattle.yschema_expand.proofs.indexing.TargetIndex.number_at.Goals as goal

@@ -2,7 +2,7 @@ use Rattle.std.proofs.Common.{◌≡◌, map, length}
 use Rattle.yspec.specs.Forest.{Forest}
 use Rattle.yspec.specs.linking.Source as sources
 use Rattle.yspec.specs.linking.Prefixes as spec
-use Rattle.ylink_grammar.specs.NameView.{names_view}
+use Rattle.ylink_arguments.specs.NameView.{names_view}
 use Rattle.ylink_names.specs.PrefixView.{IsOf}
 use Rattle.yschema_expand.specs.Indexing.{led, led_on, look_in}
 use Rattle.yschema_expand.proofs.indexing.TargetIndex.number_at.Given as goal

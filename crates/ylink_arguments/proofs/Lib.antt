@@ -1,0 +1,4 @@
+pub mod CutLemmas
+pub mod ListLemmas
+pub mod NumberLemmas
+pub mod SpanLemmas

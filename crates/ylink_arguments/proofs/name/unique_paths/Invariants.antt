@@ -1,0 +1,13 @@
+use Rattle.std.proofs.Common.{◌≡◌, length, map, IsUtf8}
+use Rattle.yspec.specs.edit.EditText.{all_or_none}
+use Rattle.yspec.specs.linking.Arguments.{relative_path_of, words_between}
+use Rattle.ylink_arguments.specs.NameView.{names_view}
+use Rattle.ylink_arguments.proofs.ListLemmas.{with_more}
+use Rattle.ylink_arguments.proofs.name.unique_paths.Given as goal
+
+abbrev pub invariant-loop-word : goal.invariant-loop-word
+invariant-loop-word l = (with_more (map (λ p. names_view p.items) l.unique.items) (all_or_none relative_path_of (words_between l.rest))
+    ≡ all_or_none relative_path_of (words_between l.fn.text)) × IsUtf8 l.rest
+
+abbrev pub decreases-loop-word : goal.decreases-loop-word
+decreases-loop-word l = length l.rest
