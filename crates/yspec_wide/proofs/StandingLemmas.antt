@@ -1,5 +1,5 @@
 -- Where all parts stand, nothing is cut.
-use Rattle.std.proofs.Common.{◌≡◌, Bool, true, false, not, ◌&&◌, cond, Option, Some, None, refl, sym, ap, ap₂, ◌∙◌}
+use Rattle.std.proofs.Common.{◌≡◌, Bool, true, false, not, ◌&&◌, cond, Option, Some, None, refl, ap, ap₂, ◌∙◌}
 use Rattle.std.proofs.lemmas.Bool.{and_parts}
 use Rattle.std.specs.Option.{option_map_or}
 use Rattle.yspec.specs.Forest.{Forest, end, node}
@@ -28,22 +28,16 @@ default_on p cases = and_false (is_source_of word.choice_word p.source) _ (none_
 kept_on : (p : Part) (cases : Forest Part) → with_default_on p cases cases ≡ p
 kept_on p cases = ap (λ b. cond b (record p { own = without_default p.own }) p) (default_on p cases)
 
--- of a condition that is negated
-not_true : (b : Bool) → not b ≡ true → b ≡ false
-not_true false e = refl
-not_true true e = sym e
-
-left_alike : (p : Part) (below after : Forest Part) → not (is_implied_case p && is_none below) ≡ true
-    → left_with p below below after ≡ node p below after
-left_alike p below after e =
-    ap (λ b. cond b after (node (with_default_on p below below) below after)) (not_true _ e)
+left_alike : (p : Part) (below after : Forest Part) → left_with p below below after ≡ node p below after
+left_alike p below after =
+    ap (λ b. cond b after (node (with_default_on p below below) below after)) (and_false (is_implied_case p) _ (not_both (is_none below)))
     ∙ ap (λ q. node q below after) (kept_on p below)
 
 pub all_stand_alike : (holds : Forest Source → Bool) (parts : Forest Part) → all_stand holds parts ≡ true → standing_by holds parts ≡ parts
 unfolding all_stand standing_by
 all_stand_alike holds end e = refl
 all_stand_alike holds (node p below after) e =
-    let here = and_parts _ _ (and_parts _ _ e).0 in let inside = and_parts _ _ (and_parts _ _ e).1 in
+    let here = and_parts _ _ e in let inside = and_parts _ _ here.1 in
     ap (λ b. cond b (left_with p below (standing_by holds below) (standing_by holds after)) (standing_by holds after)) here.0
     ∙ (ap₂ (λ f g. left_with p below f g) (all_stand_alike holds below inside.0) (all_stand_alike holds after inside.1)
-    ∙ left_alike p below after here.1)
+    ∙ left_alike p below after)

@@ -28,12 +28,12 @@ use Rattle.yspec_wide.specs.Types.{default_breaks_in, schema_nodes_in}
 use Rattle.yspec_wide.specs.Additions.{addition_breaks_in}
 
 -- all nodes, and those that stand
-abbrev pub whole_plan : Forest Source → Plan
-whole_plan modules = record { modules = modules; nodes = planned 0 at_top (augmented_in modules).0 }
+abbrev pub whole_plan : Language → Forest Source → Plan
+whole_plan language modules = record { modules = modules; nodes = planned 0 at_top (augmented_in language modules).0 }
 
 abbrev pub plan_in : Language → Forest Source → Plan
 plan_in language modules =
-    record { modules = modules; nodes = planned 0 at_top (standing language modules (augmented_in modules).0) }
+    record { modules = modules; nodes = planned 0 at_top (standing language modules (augmented_in language modules).0) }
 
 abbrev pub schema_of_plan_in : Language → Plan → Schema
 schema_of_plan_in language plan = record { modules = schema_modules plan plan.modules; nodes = schema_nodes_in language plan }
@@ -43,24 +43,24 @@ schema_in language modules = schema_of_plan_in language (plan_in language (sourc
 
 -- ---- the phases
 
-abbrev pub names_phase_in : Forest Statement → Forest Source → List Break
-names_phase_in modules sources = prefix_breaks sources ++ (condition_prefix_breaks sources ++ (repeated_prefixes sources
-    ++ (module_breaks 0 [] modules ++ (taken_breaks sources ++ taken_feature_breaks sources))))
+abbrev pub names_phase_in : Language → Forest Statement → Forest Source → List Break
+names_phase_in language modules sources = prefix_breaks sources ++ (condition_prefix_breaks language sources
+    ++ (repeated_prefixes sources ++ (module_breaks 0 [] modules ++ (taken_breaks sources ++ taken_feature_breaks language sources))))
 
-abbrev pub meanings_phase_in : Forest Source → List Break
-meanings_phase_in sources = import_breaks sources ++ (version_import_breaks sources ++ (lost_breaks sources
-    ++ (import_circles sources ++ (definition_circles sources ++ condition_breaks sources))))
+abbrev pub meanings_phase_in : Language → Forest Source → List Break
+meanings_phase_in language sources = import_breaks sources ++ (version_import_breaks language sources ++ (lost_breaks sources
+    ++ (import_circles sources ++ (definition_circles sources ++ condition_breaks language sources))))
 
 abbrev pub linking_phases_in : Language → Forest Statement → List (List Break)
 linking_phases_in language modules = let sources = sources_in language modules in
     statement_phase_in language modules
-    ∷ names_phase_in modules sources
-    ∷ meanings_phase_in sources
-    ∷ (type_breaks sources ++ version_type_breaks sources) ∷ []
+    ∷ names_phase_in language modules sources
+    ∷ meanings_phase_in language sources
+    ∷ (type_breaks sources ++ version_type_breaks language sources) ∷ []
 
 -- C11, C12, C16 and C17
 abbrev pub own_breaks_in : Language → Plan → Planned → List Break
-own_breaks_in language plan p = config_breaks plan p ++ (tuple_breaks plan p ++ (key_break plan p ++ (reference_breaks plan p
+own_breaks_in language plan p = config_breaks plan p ++ (tuple_breaks plan p ++ (key_break language plan p ++ (reference_breaks plan p
     ++ default_breaks_in language plan p)))
 
 -- those of the nodes that stand, and C15 of all augments
@@ -70,14 +70,14 @@ node_breaks_in language whole plan =
 
 abbrev pub phases_of_plan_in : Language → Forest Statement → Plan → Plan → List (List Break)
 phases_of_plan_in language modules whole plan = limit_breaks (nat_lt node_limit (node_count plan.modules)) modules
-    ∷ (unfit_breaks_in plan.modules ++ augment_breaks_in plan.modules)
+    ∷ (unfit_breaks_in language plan.modules ++ augment_breaks_in language plan.modules)
     ∷ name_breaks whole
     ∷ node_breaks_in language whole plan
     ∷ limit_breaks (is_too_deep plan.nodes) modules ∷ []
 
 abbrev pub phases_in : Language → Forest Statement → List (List Break)
 phases_in language modules = let sources = sources_in language modules in
-    linking_phases_in language modules ++ phases_of_plan_in language modules (whole_plan sources) (plan_in language sources)
+    linking_phases_in language modules ++ phases_of_plan_in language modules (whole_plan language sources) (plan_in language sources)
 
 -- the schema of a set of modules in a language, or what is told
 unfoldable pub compiled_in : Language → Forest Statement → Result Schema Break

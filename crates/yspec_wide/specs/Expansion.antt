@@ -11,121 +11,122 @@ use Rattle.yspec.specs.linking.Source.{Source, is_source_of, first_with}
 use Rattle.yspec.specs.linking.Parts.{Part, within}
 use Rattle.yspec.specs.linking.Expansion.{Grouping, groupings_of, laid, row_used, is_refine, refine_steps, is_borne, part_at, changed_at, others, replaced, unfit_in}
 use Rattle.yspec.specs.linking.Augments.{Augment, augments_of, target_steps, may_be_augmented, kept_out, marked, in_turn}
-use Rattle.yspec_wide.specs.Language.{version_of, is_yang_1}
+use Rattle.yspec_wide.specs.Language.{Language, version_of, is_yang_1}
 use Rattle.yspec_wide.specs.Sources.{is_condition, condition_row, without_conditions}
 
--- ---- conditions that nodes get
+module _ (language : Language) where
+  -- ---- conditions that nodes get
 
--- the nodes of a row, each asked the conditions of a row of statements besides its own
-abbrev pub conditioned : Forest Source → Forest Part → Forest Part
-conditioned given end = end
-conditioned given (node p below after) =
-    node (record p { own = join p.own (condition_row given) }) below (conditioned given after)
+  -- the nodes of a row, each asked the conditions of a row of statements besides its own
+  abbrev pub conditioned : Forest Source → Forest Part → Forest Part
+  conditioned given end = end
+  conditioned given (node p below after) =
+      node (record p { own = join p.own (condition_row language given) }) below (conditioned given after)
 
--- ---- refine
+  -- ---- refine
 
--- every node may bear a condition
-abbrev pub is_borne_in : Keyword → Forest Source → Source → Bool
-is_borne_in k given s = is_condition s || is_borne k given s
+  -- every node may bear a condition
+  abbrev pub is_borne_in : Keyword → Forest Source → Source → Bool
+  is_borne_in k given s = is_condition language s || is_borne k given s
 
-abbrev pub may_bear_in : Part → Forest Source → Bool
-may_bear_in p given = list_all (is_borne_in p.source.keyword given) (row given)
+  abbrev pub may_bear_in : Part → Forest Source → Bool
+  may_bear_in p given = list_all (is_borne_in p.source.keyword given) (row given)
 
-abbrev pub is_fit_in : Forest Source → ℕ → Source → Forest Source → Forest Part → Bool
-is_fit_in modules owner s given nodes =
-    option_map_or (λ p. may_bear_in p given) (part_at (refine_steps modules owner s) nodes) false
+  abbrev pub is_fit_in : Forest Source → ℕ → Source → Forest Source → Forest Part → Bool
+  is_fit_in modules owner s given nodes =
+      option_map_or (λ p. may_bear_in p given) (part_at (refine_steps modules owner s) nodes) false
 
--- The conditions of a refine come to those of its target; what else it gives takes the place of all of those kinds.
-abbrev pub overridden_in : Forest Source → Part → Forest Part → Forest Part → Forest Part
-overridden_in given p below after = node (record p { own = join (others (without_conditions given) p.own) given }) below after
+  -- The conditions of a refine come to those of its target; what else it gives takes the place of all of those kinds.
+  abbrev pub overridden_in : Forest Source → Part → Forest Part → Forest Part → Forest Part
+  overridden_in given p below after = node (record p { own = join (others (without_conditions language given) p.own) given }) below after
 
-abbrev pub after_refine_in : Forest Source → ℕ → Source → Forest Source → Forest Part → Forest Part
-after_refine_in modules owner s given nodes = if is_refine s && is_fit_in modules owner s given nodes
-    then changed_at (refine_steps modules owner s) (overridden_in given) nodes else nodes
+  abbrev pub after_refine_in : Forest Source → ℕ → Source → Forest Source → Forest Part → Forest Part
+  after_refine_in modules owner s given nodes = if is_refine s && is_fit_in modules owner s given nodes
+      then changed_at (refine_steps modules owner s) (overridden_in given) nodes else nodes
 
-unfoldable pub refined_in : Forest Source → ℕ → Forest Source → Forest Part → Forest Part
-refined_in modules owner end nodes = nodes
-refined_in modules owner (node s given after) nodes =
-    refined_in modules owner after (after_refine_in modules owner s given nodes)
+  unfoldable pub refined_in : Forest Source → ℕ → Forest Source → Forest Part → Forest Part
+  refined_in modules owner end nodes = nodes
+  refined_in modules owner (node s given after) nodes =
+      refined_in modules owner after (after_refine_in modules owner s given nodes)
 
--- ---- `uses`
+  -- ---- `uses`
 
--- what a `uses` stands for, by way of so many groupings at most
-unfoldable pub stands_for_in : Forest Source → List Grouping → ℕ → ℕ → Part → Forest Part
-stands_for_in modules groupings owner zero u = end
-stands_for_in modules groupings owner (suc depth) u = conditioned u.own (refined_in modules owner u.own
-    (replaced (stands_for_in modules groupings owner depth) owner (row_used modules groupings u)))
+  -- what a `uses` stands for, by way of so many groupings at most
+  unfoldable pub stands_for_in : Forest Source → List Grouping → ℕ → ℕ → Part → Forest Part
+  stands_for_in modules groupings owner zero u = end
+  stands_for_in modules groupings owner (suc depth) u = conditioned u.own (refined_in modules owner u.own
+      (replaced (stands_for_in modules groupings owner depth) owner (row_used modules groupings u)))
 
-abbrev pub expanded_in : Forest Source → List Grouping → ℕ → Forest Part → Forest Part
-expanded_in modules groupings owner nodes =
-    replaced (stands_for_in modules groupings owner (suc (size modules))) owner nodes
+  abbrev pub expanded_in : Forest Source → List Grouping → ℕ → Forest Part → Forest Part
+  expanded_in modules groupings owner nodes =
+      replaced (stands_for_in modules groupings owner (suc (size modules))) owner nodes
 
-abbrev pub expanded_in_from : Forest Source → List Grouping → Forest Source → Forest Part
-expanded_in_from modules groupings end = end
-expanded_in_from modules groupings (node s below after) =
-    join (expanded_in modules groupings s.home (laid below)) (expanded_in_from modules groupings after)
+  abbrev pub expanded_in_from : Forest Source → List Grouping → Forest Source → Forest Part
+  expanded_in_from modules groupings end = end
+  expanded_in_from modules groupings (node s below after) =
+      join (expanded_in modules groupings s.home (laid below)) (expanded_in_from modules groupings after)
 
-abbrev pub expanded_parts_in : Forest Source → Forest Part
-expanded_parts_in modules = expanded_in_from modules (groupings_of modules) modules
+  abbrev pub expanded_parts_in : Forest Source → Forest Part
+  expanded_parts_in modules = expanded_in_from modules (groupings_of modules) modules
 
--- ---- C14: refines that aren't fit
+  -- ---- C14: refines that aren't fit
 
-abbrev pub refine_breaks_in : Forest Source → ℕ → Forest Source → Forest Part → List Break
-refine_breaks_in modules owner end nodes = []
-refine_breaks_in modules owner (node s given after) nodes =
-    when (is_refine s && not (is_fit_in modules owner s given nodes)) (broken 14 s.home s.statement.line)
-    ++ refine_breaks_in modules owner after (after_refine_in modules owner s given nodes)
+  abbrev pub refine_breaks_in : Forest Source → ℕ → Forest Source → Forest Part → List Break
+  refine_breaks_in modules owner end nodes = []
+  refine_breaks_in modules owner (node s given after) nodes =
+      when (is_refine s && not (is_fit_in modules owner s given nodes)) (broken 14 s.home s.statement.line)
+      ++ refine_breaks_in modules owner after (after_refine_in modules owner s given nodes)
 
-unfoldable pub unfit_for_in : Forest Source → List Grouping → ℕ → ℕ → Part → List Break
-unfit_for_in modules groupings owner zero u = []
-unfit_for_in modules groupings owner (suc depth) u =
-    unfit_in (unfit_for_in modules groupings owner depth) (row_used modules groupings u)
-    ++ refine_breaks_in modules owner u.own
-    (replaced (stands_for_in modules groupings owner depth) owner (row_used modules groupings u))
+  unfoldable pub unfit_for_in : Forest Source → List Grouping → ℕ → ℕ → Part → List Break
+  unfit_for_in modules groupings owner zero u = []
+  unfit_for_in modules groupings owner (suc depth) u =
+      unfit_in (unfit_for_in modules groupings owner depth) (row_used modules groupings u)
+      ++ refine_breaks_in modules owner u.own
+      (replaced (stands_for_in modules groupings owner depth) owner (row_used modules groupings u))
 
-abbrev pub unfit_in_from : Forest Source → List Grouping → Forest Source → List Break
-unfit_in_from modules groupings end = []
-unfit_in_from modules groupings (node s below after) =
-    unfit_in (unfit_for_in modules groupings s.home (suc (size modules))) (laid below)
-    ++ unfit_in_from modules groupings after
+  abbrev pub unfit_in_from : Forest Source → List Grouping → Forest Source → List Break
+  unfit_in_from modules groupings end = []
+  unfit_in_from modules groupings (node s below after) =
+      unfit_in (unfit_for_in modules groupings s.home (suc (size modules))) (laid below)
+      ++ unfit_in_from modules groupings after
 
-abbrev pub unfit_breaks_in : Forest Source → List Break
-unfit_breaks_in modules = unfit_in_from modules (groupings_of modules) modules
+  abbrev pub unfit_breaks_in : Forest Source → List Break
+  unfit_breaks_in modules = unfit_in_from modules (groupings_of modules) modules
 
--- ---- augments
+  -- ---- augments
 
-abbrev pub added_nodes_in : Forest Source → Augment → Forest Part
-added_nodes_in modules a = conditioned a.given (expanded_in modules (groupings_of modules) a.source.home (laid a.given))
+  abbrev pub added_nodes_in : Forest Source → Augment → Forest Part
+  added_nodes_in modules a = conditioned a.given (expanded_in modules (groupings_of modules) a.source.home (laid a.given))
 
--- In YANG 1 a choice has no choice for a case (RFC 6020, 7.9.2).
-abbrev pub is_choice_in_choice : Forest Source → Augment → Part → Bool
-is_choice_in_choice modules a p = is_yang_1 (version_of modules a.source.home)
-    && (is_source_of word.choice_word p.source && is_some (first_with word.choice_word a.given))
+  -- In YANG 1 a choice has no choice for a case (RFC 6020, 7.9.2).
+  abbrev pub is_choice_in_choice : Forest Source → Augment → Part → Bool
+  is_choice_in_choice modules a p = is_yang_1 (version_of language modules a.source.home)
+      && (is_source_of word.choice_word p.source && is_some (first_with word.choice_word a.given))
 
-abbrev pub may_take_in : Forest Source → Augment → Part → Bool
-may_take_in modules a p = may_be_augmented p.source.keyword
-    && (not (is_some (first_with (kept_out p) a.given)) && not (is_choice_in_choice modules a p))
+  abbrev pub may_take_in : Forest Source → Augment → Part → Bool
+  may_take_in modules a p = may_be_augmented p.source.keyword
+      && (not (is_some (first_with (kept_out p) a.given)) && not (is_choice_in_choice modules a p))
 
-abbrev pub is_ready_in : Forest Source → Forest Part → Augment → Bool
-is_ready_in modules nodes a = option_map_or (may_take_in modules a) (part_at (target_steps modules a) nodes) false
+  abbrev pub is_ready_in : Forest Source → Forest Part → Augment → Bool
+  is_ready_in modules nodes a = option_map_or (may_take_in modules a) (part_at (target_steps modules a) nodes) false
 
--- It comes last below the target; in a choice single nodes stand for cases.
-abbrev pub added_below_in : Augment → Forest Part → Part → Forest Part → Forest Part → Forest Part
-added_below_in a added p below after = node p (join below (marked a.source.number (within p.source added))) after
+  -- It comes last below the target; in a choice single nodes stand for cases.
+  abbrev pub added_below_in : Augment → Forest Part → Part → Forest Part → Forest Part → Forest Part
+  added_below_in a added p below after = node p (join below (marked a.source.number (within p.source added))) after
 
-abbrev pub applied_in : Forest Source → Augment → Forest Part → Forest Part
-applied_in modules a nodes = changed_at (target_steps modules a) (added_below_in a (added_nodes_in modules a)) nodes
+  abbrev pub applied_in : Forest Source → Augment → Forest Part → Forest Part
+  applied_in modules a nodes = changed_at (target_steps modules a) (added_below_in a (added_nodes_in modules a)) nodes
 
-abbrev pub augmented_in : Forest Source → Forest Part × List Augment
-augmented_in modules = let augments = augments_of modules in
-    in_turn (is_ready_in modules) (applied_in modules) (length augments) (expanded_parts_in modules) augments
+  abbrev pub augmented_in : Forest Source → Forest Part × List Augment
+  augmented_in modules = let augments = augments_of modules in
+      in_turn (is_ready_in modules) (applied_in modules) (length augments) (expanded_parts_in modules) augments
 
-abbrev pub left_breaks_in : Forest Source → List Break
-left_breaks_in modules = flat_map (λ a. broken 14 a.source.home a.source.statement.line) (augmented_in modules).1
+  abbrev pub left_breaks_in : Forest Source → List Break
+  left_breaks_in modules = flat_map (λ a. broken 14 a.source.home a.source.statement.line) (augmented_in modules).1
 
-abbrev pub body_breaks_in : Forest Source → Augment → List Break
-body_breaks_in modules a =
-    unfit_in (unfit_for_in modules (groupings_of modules) a.source.home (suc (size modules))) (laid a.given)
+  abbrev pub body_breaks_in : Forest Source → Augment → List Break
+  body_breaks_in modules a =
+      unfit_in (unfit_for_in modules (groupings_of modules) a.source.home (suc (size modules))) (laid a.given)
 
-abbrev pub augment_breaks_in : Forest Source → List Break
-augment_breaks_in modules = flat_map (body_breaks_in modules) (augments_of modules) ++ left_breaks_in modules
+  abbrev pub augment_breaks_in : Forest Source → List Break
+  augment_breaks_in modules = flat_map (body_breaks_in modules) (augments_of modules) ++ left_breaks_in modules

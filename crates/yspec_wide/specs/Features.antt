@@ -22,109 +22,110 @@ pub record Feature : Type 0 where
   pub source : Source
   pub below : Forest Source
 
--- ---- what a name means
-
-abbrev pub features_in : Forest Source → List Feature
-features_in end = []
-features_in (node s below after) =
-    if is_feature s then record { source = s; below = below } ∷ features_in after else features_in after
-
 abbrev pub is_named : Text → Feature → Bool
 is_named name f = is_text (argument_in f.source) name
 
--- A name without a prefix is of its own module.
-abbrev pub feature_named : Forest Source → ℕ → Name → Option Feature
-feature_named modules home n = option_and_then (λ m. find (is_named n.identifier) (features_in (body_at modules m)))
-    (option_map_or (module_meant modules home) n.prefix (Some home))
+module _ (language : Language) where
+  -- ---- what a name means
 
--- ---- conditions
+  abbrev pub features_in : Forest Source → List Feature
+  features_in end = []
+  features_in (node s below after) =
+      if is_feature language s then record { source = s; below = below } ∷ features_in after else features_in after
 
--- what an `if-feature` asks, by the version of its own module
-abbrev pub condition_of : Forest Source → Source → Option Expression
-condition_of modules s = expression_of (version_of modules s.home) (argument_in s)
+  -- A name without a prefix is of its own module.
+  abbrev pub feature_named : Forest Source → ℕ → Name → Option Feature
+  feature_named modules home n = option_and_then (λ m. find (is_named n.identifier) (features_in (body_at modules m)))
+      (option_map_or (module_meant modules home) n.prefix (Some home))
 
-abbrev pub condition_holds : Forest Source → (Feature → Bool) → Source → Bool
-condition_holds modules on s =
-    option_map_or (holds (λ n. option_map_or on (feature_named modules s.home n) false)) (condition_of modules s) false
+  -- ---- conditions
 
--- every `if-feature` of a row holds
-abbrev pub all_hold : Forest Source → (Feature → Bool) → Forest Source → Bool
-all_hold modules on below = list_all (condition_holds modules on) (conditions_in below)
+  -- what an `if-feature` asks, by the version of its own module
+  abbrev pub condition_of : Forest Source → Source → Option Expression
+  condition_of modules s = expression_of (version_of language modules s.home) (argument_in s)
 
--- ---- features that are on: those that are chosen and whose own conditions hold
+  abbrev pub condition_holds : Forest Source → (Feature → Bool) → Source → Bool
+  condition_holds modules on s =
+      option_map_or (holds (λ n. option_map_or on (feature_named modules s.home n) false)) (condition_of modules s) false
 
-abbrev pub is_chosen_feature : Language → Forest Source → Feature → Bool
-is_chosen_feature language modules f = is_chosen language (module_name modules f.source.home) (argument_in f.source)
+  -- every `if-feature` of a row holds
+  abbrev pub all_hold : Forest Source → (Feature → Bool) → Forest Source → Bool
+  all_hold modules on below = list_all (condition_holds modules on) (conditions_in language below)
 
--- by way of so many others at most
-unfoldable pub is_on_within : Language → Forest Source → ℕ → Feature → Bool
-is_on_within language modules zero f = false
-is_on_within language modules (suc steps) f =
-    is_chosen_feature language modules f && all_hold modules (is_on_within language modules steps) f.below
+  -- ---- features that are on: those that are chosen and whose own conditions hold
 
--- No feature leads to itself, so there are no more on a way than there are statements.
-abbrev pub is_on : Language → Forest Source → Feature → Bool
-is_on language modules f = is_on_within language modules (suc (size modules)) f
+  abbrev pub is_chosen_feature : Forest Source → Feature → Bool
+  is_chosen_feature modules f = is_chosen language (module_name modules f.source.home) (argument_in f.source)
 
--- whether a statement with such substatements stands
-abbrev pub stands : Language → Forest Source → Forest Source → Bool
-stands language modules below = all_hold modules (is_on language modules) below
+  -- by way of so many others at most
+  unfoldable pub is_on_within : Forest Source → ℕ → Feature → Bool
+  is_on_within modules zero f = false
+  is_on_within modules (suc steps) f =
+      is_chosen_feature modules f && all_hold modules (is_on_within modules steps) f.below
 
--- ---- C6: prefixes that are declared nowhere in the module
+  -- No feature leads to itself, so there are no more on a way than there are statements.
+  abbrev pub is_on : Forest Source → Feature → Bool
+  is_on modules f = is_on_within modules (suc (size modules)) f
 
-abbrev pub names_asked : Forest Source → Source → List Name
-names_asked modules s = option_map_or names_in (condition_of modules s) []
+  -- whether a statement with such substatements stands
+  abbrev pub stands : Forest Source → Forest Source → Bool
+  stands modules below = all_hold modules (is_on modules) below
 
-abbrev pub condition_prefix_break : Forest Source → Placed → List Break
-condition_prefix_break modules p =
-    when (is_condition p.source && list_any (is_unknown_prefix modules p.source.home) (names_asked modules p.source))
-    (broken 6 p.source.home p.source.statement.line)
+  -- ---- C6: prefixes that are declared nowhere in the module
 
-abbrev pub condition_prefix_breaks : Forest Source → List Break
-condition_prefix_breaks modules = flat_map (condition_prefix_break modules) (statements_of modules)
+  abbrev pub names_asked : Forest Source → Source → List Name
+  names_asked modules s = option_map_or names_in (condition_of modules s) []
 
--- ---- C7: two features of one name
+  abbrev pub condition_prefix_break : Forest Source → Placed → List Break
+  condition_prefix_break modules p =
+      when (is_condition language p.source && list_any (is_unknown_prefix modules p.source.home) (names_asked modules p.source))
+      (broken 6 p.source.home p.source.statement.line)
 
-abbrev pub doubled_features : List Text → List Feature → List Break
-doubled_features before [] = []
-doubled_features before (f ∷ others) =
-    when (list_any (is_text (argument_in f.source)) before) (broken 7 f.source.home f.source.statement.line)
-    ++ doubled_features (argument_in f.source ∷ before) others
+  abbrev pub condition_prefix_breaks : Forest Source → List Break
+  condition_prefix_breaks modules = flat_map (condition_prefix_break modules) (statements_of modules)
 
-abbrev pub taken_feature_breaks : Forest Source → List Break
-taken_feature_breaks end = []
-taken_feature_breaks (node s below after) = doubled_features [] (features_in below) ++ taken_feature_breaks after
+  -- ---- C7: two features of one name
 
--- ---- C22: an `if-feature` that names no feature, or that leads from a feature back to it
+  abbrev pub doubled_features : List Text → List Feature → List Break
+  doubled_features before [] = []
+  doubled_features before (f ∷ others) =
+      when (list_any (is_text (argument_in f.source)) before) (broken 7 f.source.home f.source.statement.line)
+      ++ doubled_features (argument_in f.source ∷ before) others
 
-abbrev pub is_lost : Forest Source → Source → Bool
-is_lost modules s = list_any (λ n. not (is_some (feature_named modules s.home n))) (names_asked modules s)
+  abbrev pub taken_feature_breaks : Forest Source → List Break
+  taken_feature_breaks end = []
+  taken_feature_breaks (node s below after) = doubled_features [] (features_in below) ++ taken_feature_breaks after
 
--- the feature right above a statement
-abbrev pub feature_above : Placed → Option Source
-feature_above p = option_and_then (λ a. if is_feature a then Some a else None) (first_above p.ancestors)
-  where
-    first_above : List (Source × Forest Source) → Option Source
-    first_above [] = None
-    first_above (a ∷ ancestors) = Some a.0
+  -- ---- C22: an `if-feature` that names no feature, or that leads from a feature back to it
 
-abbrev pub edge_to : ℕ → Feature → Edge
-edge_to number f = record { source = number; target = f.source.number }
+  abbrev pub is_lost : Forest Source → Source → Bool
+  is_lost modules s = list_any (λ n. not (is_some (feature_named modules s.home n))) (names_asked modules s)
 
--- a feature refers to those that its conditions name, by their numbers, where each of them is found
-abbrev pub feature_edges_at : Forest Source → Placed → List Edge
-feature_edges_at modules p = if is_condition p.source && not (is_lost modules p.source)
-    then option_map_or (λ above. map (edge_to above.number) (filter_map (feature_named modules p.source.home) (names_asked modules p.source)))
-    (feature_above p) []
-    else []
+  -- the feature right above a statement
+  abbrev pub feature_above : Placed → Option Source
+  feature_above p = option_and_then (λ a. if is_feature language a then Some a else None) (first_above p.ancestors)
+    where
+      first_above : List (Source × Forest Source) → Option Source
+      first_above [] = None
+      first_above (a ∷ ancestors) = Some a.0
 
-abbrev pub feature_edges : Forest Source → List Edge
-feature_edges modules = flat_map (feature_edges_at modules) (statements_of modules)
+  abbrev pub edge_to : ℕ → Feature → Edge
+  edge_to number f = record { source = number; target = f.source.number }
 
-abbrev pub condition_break : Forest Source → List Edge → Placed → List Break
-condition_break modules edges p =
-    when (is_condition p.source && (is_lost modules p.source || list_any (is_on_circle edges) (feature_edges_at modules p)))
-    (broken 22 p.source.home p.source.statement.line)
+  -- a feature refers to those that its conditions name, by their numbers, where each of them is found
+  abbrev pub feature_edges_at : Forest Source → Placed → List Edge
+  feature_edges_at modules p = if is_condition language p.source && not (is_lost modules p.source)
+      then option_map_or (λ above. map (edge_to above.number) (filter_map (feature_named modules p.source.home) (names_asked modules p.source)))
+      (feature_above p) []
+      else []
 
-abbrev pub condition_breaks : Forest Source → List Break
-condition_breaks modules = flat_map (condition_break modules (feature_edges modules)) (statements_of modules)
+  abbrev pub feature_edges : Forest Source → List Edge
+  feature_edges modules = flat_map (feature_edges_at modules) (statements_of modules)
+
+  abbrev pub condition_break : Forest Source → List Edge → Placed → List Break
+  condition_break modules edges p =
+      when (is_condition language p.source && (is_lost modules p.source || list_any (is_on_circle edges) (feature_edges_at modules p)))
+      (broken 22 p.source.home p.source.statement.line)
+
+  abbrev pub condition_breaks : Forest Source → List Break
+  condition_breaks modules = flat_map (condition_break modules (feature_edges modules)) (statements_of modules)

@@ -58,6 +58,7 @@ argument_of_version (Some s) = s.argument
 abbrev pub version_below : Forest Statement → YangVersion
 version_below below = version_stated (argument_of_version (find (has_keyword yang_version_word) (row below)))
 
--- that of the module of a number in the set
-abbrev pub version_of : Forest Source → ℕ → YangVersion
-version_of modules home = version_stated (argument_with yang_version_word (body_at modules home))
+-- that of the module of a number in the set; under the core every module is one of YANG 1.1
+abbrev pub version_of : Language → Forest Source → ℕ → YangVersion
+version_of core modules home = yang_1_1
+version_of (rfc choosings) modules home = version_stated (argument_with yang_version_word (body_at modules home))

@@ -1,11 +1,11 @@
 -- The statements that linking stands on, with features and conditions among them (RFC 7950, 7.20.1 and 7.20.2).
-use Rattle.std.specs.Prelude.{ℕ, ◌+◌, Bool, List, Option, Some, filter, option_and_then, if◌then◌else◌}
+use Rattle.std.specs.Prelude.{ℕ, ◌+◌, Bool, false, List, Option, Some, filter, option_and_then, if◌then◌else◌}
 use Rattle.yspec.specs.Forest.{Forest, end, node, row, join, size}
 use Rattle.yspec.specs.text.Text.{is_text}
 use Rattle.yspec.specs.text.Statement.{Statement}
 use Rattle.yspec.specs.linking.Keyword.{Keyword, extension_word}
 use Rattle.yspec.specs.linking.Source.{Source, unless_extension, kept_at, numbered}
-use Rattle.yspec_wide.specs.Language.{Language}
+use Rattle.yspec_wide.specs.Language.{Language, core, rfc}
 use Rattle.yspec_wide.specs.Words.{Word, known, feature_word, if_feature_word, word_text, word_named}
 
 -- A `feature` and an `if-feature` are kept as `extension` is named, which no rule behind the table asks for; they are told
@@ -32,25 +32,28 @@ sources_in language modules = sources_in_from language 0 0 modules
 
 -- ---- questions
 
-abbrev pub is_word_of : Word → Source → Bool
-is_word_of w s = is_text s.statement.keyword (word_text w)
+-- whether a statement is one of those that a language has besides the core's
+abbrev pub is_added : Language → Word → Source → Bool
+is_added core w s = false
+is_added (rfc choosings) w s = is_text s.statement.keyword (word_text w)
 
-abbrev pub is_feature : Source → Bool
-is_feature = is_word_of feature_word
+module _ (language : Language) where
+  abbrev pub is_feature : Source → Bool
+  is_feature s = is_added language feature_word s
 
-abbrev pub is_condition : Source → Bool
-is_condition = is_word_of if_feature_word
+  abbrev pub is_condition : Source → Bool
+  is_condition s = is_added language if_feature_word s
 
--- the `if-feature` statements of a row
-abbrev pub conditions_in : Forest Source → List Source
-conditions_in below = filter is_condition (row below)
+  -- the `if-feature` statements of a row
+  abbrev pub conditions_in : Forest Source → List Source
+  conditions_in below = filter is_condition (row below)
 
--- a row of them alone, and the row without them
-abbrev pub condition_row : Forest Source → Forest Source
-condition_row end = end
-condition_row (node s below after) = if is_condition s then node s below (condition_row after) else condition_row after
+  -- a row of them alone, and the row without them
+  abbrev pub condition_row : Forest Source → Forest Source
+  condition_row end = end
+  condition_row (node s below after) = if is_condition s then node s below (condition_row after) else condition_row after
 
-abbrev pub without_conditions : Forest Source → Forest Source
-without_conditions end = end
-without_conditions (node s below after) =
-    if is_condition s then without_conditions after else node s below (without_conditions after)
+  abbrev pub without_conditions : Forest Source → Forest Source
+  without_conditions end = end
+  without_conditions (node s below after) =
+      if is_condition s then without_conditions after else node s below (without_conditions after)

@@ -44,9 +44,13 @@ with_default_on p cases standing =
 
 -- ---- the cut
 
+-- whether nothing of a row is left
+abbrev pub is_all_cut : Forest Part → Forest Part → Bool
+is_all_cut below standing = is_none standing && not (is_none below)
+
 -- An implied case goes with its node.
 abbrev pub left_with : Part → Forest Part → Forest Part → Forest Part → Forest Part
-left_with p below standing after = if is_implied_case p && is_none standing then after
+left_with p below standing after = if is_implied_case p && is_all_cut below standing then after
     else node (with_default_on p below standing) standing after
 
 module _ (holds : Forest Source → Bool) where
@@ -62,8 +66,7 @@ standing language modules parts = standing_by (stands language modules) parts
 
 -- ---- where all stand
 
--- whether all conditions of all parts of a row hold, and no implied case is without its node
+-- whether all conditions of all parts of a row hold
 unfoldable pub all_stand : (Forest Source → Bool) → Forest Part → Bool
 all_stand holds end = true
-all_stand holds (node p below after) = (holds p.own && not (is_implied_case p && is_none below))
-    && (all_stand holds below && all_stand holds after)
+all_stand holds (node p below after) = holds p.own && (all_stand holds below && all_stand holds after)

@@ -118,14 +118,14 @@ module _ (kept : Forest Source → Bool) where
 -- ---- defaults
 
 -- A leaf-list of YANG 1 has none, its type's neither (RFC 6020, 7.7).
-abbrev pub has_defaults : Plan → Planned → Bool
-has_defaults plan p = not (is_a word.leaf_list_word p && is_of_yang_1 plan.modules p.part.source)
+abbrev pub has_defaults : Language → Plan → Planned → Bool
+has_defaults language plan p = not (is_a word.leaf_list_word p && is_of_yang_1 language plan.modules p.part.source)
 
-abbrev pub default_texts_in : Plan → Planned → List Stated
-default_texts_in plan p = if has_defaults plan p then schema_nodes.default_texts plan p else []
+abbrev pub default_texts_in : Language → Plan → Planned → List Stated
+default_texts_in language plan p = if has_defaults language plan p then schema_nodes.default_texts plan p else []
 
-abbrev pub bears_none : Forest Source → Bool
-bears_none below = is_none (conditions_in below)
+abbrev pub bears_none : Language → Forest Source → Bool
+bears_none language below = is_none (conditions_in language below)
   where
     is_none : List Source → Bool
     is_none [] = true
@@ -135,28 +135,29 @@ abbrev pub same_if_any : Option Val → Option Val → Bool
 same_if_any v w = option_map_or (λ a. option_map_or (same_value a) w false) v false
 
 -- whether a type takes a default, and takes it alike without the names that bear conditions
-abbrev pub is_right_default : Plan → Planned → YangType → Stated → Bool
-is_right_default plan p type t = same_if_any (schema_nodes.value_stated plan type t)
-    (option_and_then (λ unmarked. schema_nodes.value_stated plan unmarked t) (type_of_kept bears_none plan p))
+abbrev pub is_right_default : Language → Plan → Planned → YangType → Stated → Bool
+is_right_default language plan p type t = same_if_any (schema_nodes.value_stated plan type t)
+    (option_and_then (λ unmarked. schema_nodes.value_stated plan unmarked t) (type_of_kept (bears_none language) plan p))
 
-abbrev pub is_refused_in : Plan → Planned → YangType → Stated → Bool
-is_refused_in plan p type t = not (is_right_default plan p type t)
+abbrev pub is_refused_in : Language → Plan → Planned → YangType → Stated → Bool
+is_refused_in language plan p type t = not (is_right_default language plan p type t)
 
-abbrev pub is_wrong_default_in : Plan → Planned → YangType → Bool
-is_wrong_default_in plan p type = if is_mandatory p then not (is_empty (own_defaults p))
-    else list_any (is_refused_in plan p type) (default_texts_in plan p)
+abbrev pub is_wrong_default_in : Language → Plan → Planned → YangType → Bool
+is_wrong_default_in language plan p type = if is_mandatory p then not (is_empty (own_defaults p))
+    else list_any (is_refused_in language plan p type) (default_texts_in language plan p)
 
-abbrev pub are_wrong_defaults_in : Plan → Planned → YangType → Bool
-are_wrong_defaults_in plan p type = if nat_lt 0 (min_elements_of p) then not (is_empty (own_defaults p))
-    else list_any (is_refused_in plan p type) (default_texts_in plan p) || (p.config && has_equal plan type (default_texts_in plan p))
+abbrev pub are_wrong_defaults_in : Language → Plan → Planned → YangType → Bool
+are_wrong_defaults_in language plan p type = if nat_lt 0 (min_elements_of p) then not (is_empty (own_defaults p))
+    else list_any (is_refused_in language plan p type) (default_texts_in language plan p)
+    || (p.config && has_equal plan type (default_texts_in language plan p))
 
 abbrev pub standing_type : Language → Plan → Planned → Option YangType
 standing_type language plan p = type_of_kept (stands language plan.modules) plan p
 
 abbrev pub is_default_wrong_in : Language → Plan → Planned → Bool
 is_default_wrong_in language plan p = if is_a word.leaf_word p
-    then not (is_key plan p) && option_map_or (is_wrong_default_in plan p) (standing_type language plan p) false
-    else (if is_a word.leaf_list_word p then option_map_or (are_wrong_defaults_in plan p) (standing_type language plan p) false
+    then not (is_key plan p) && option_map_or (is_wrong_default_in language plan p) (standing_type language plan p) false
+    else (if is_a word.leaf_list_word p then option_map_or (are_wrong_defaults_in language plan p) (standing_type language plan p) false
     else (is_a word.choice_word p && (is_some (stated_default p) && is_wrong_case plan p (schema_nodes.default_case plan p))))
   where
     stated_default : Planned → Option Source
@@ -169,7 +170,7 @@ default_breaks_in language plan p = when (is_default_wrong_in language plan p) (
 
 abbrev pub default_values_in : Language → Plan → Planned → List Val
 default_values_in language plan p = filter_map
-    (λ t. option_and_then (λ type. schema_nodes.value_stated plan type t) (standing_type language plan p)) (default_texts_in plan p)
+    (λ t. option_and_then (λ type. schema_nodes.value_stated plan type t) (standing_type language plan p)) (default_texts_in language plan p)
 
 abbrev pub leaf_type_in : Language → Plan → Planned → LeafType
 leaf_type_in language plan p = record {

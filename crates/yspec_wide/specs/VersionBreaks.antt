@@ -15,27 +15,10 @@ use Rattle.yspec.specs.linking.Planned.{Planned, Plan, node_of, is_a, meant_in}
 use Rattle.yspec.specs.linking.SchemaNodes.{is_key}
 use Rattle.yspec.specs.linking.NodeBreaks.{broken_at}
 use Rattle.yspec.specs.schema.Breaks.{Break, broken, when}
-use Rattle.yspec_wide.specs.Language.{is_yang_1, version_of}
+use Rattle.yspec_wide.specs.Language.{Language, is_yang_1, version_of}
 use Rattle.yspec_wide.specs.Sources.{conditions_in}
 
-abbrev pub is_of_yang_1 : Forest Source → Source → Bool
-is_of_yang_1 modules s = is_yang_1 (version_of modules s.home)
-
--- ---- C5: no import by revision from YANG 1 to YANG 1.1
-
-abbrev pub is_import_of_later : Forest Source → Source → Forest Source → Bool
-is_import_of_later modules s below = is_source_of word.import_word s && (is_of_yang_1 modules s
-    && (is_some (argument_with word.revision_date_word below)
-    && option_map_or (λ m. not (is_yang_1 (version_of modules m))) (module_called modules (argument_in s)) false))
-
-abbrev pub version_import_break : Forest Source → Placed → List Break
-version_import_break modules p =
-    when (is_import_of_later modules p.source p.below) (broken 5 p.source.home p.source.statement.line)
-
-abbrev pub version_import_breaks : Forest Source → List Break
-version_import_breaks modules = flat_map (version_import_break modules) (statements_of modules)
-
--- ---- C10: in YANG 1 a leafref always requires its instance, and no member of a union is `empty`
+-- ---- the type `empty`
 
 abbrev pub is_empty_type : YangType → Bool
 is_empty_type type = is_none type.requires_instance && is_empty_shape type.shape
@@ -56,39 +39,59 @@ abbrev pub is_empty_meant : Meant → Bool
 is_empty_meant (own type) = is_empty_type type
 is_empty_meant (of_target home steps required) = false
 
-abbrev pub is_wrong_in_1 : Forest Source → Placed → Bool
-is_wrong_in_1 modules p = is_some (first_with word.require_instance_word p.below)
-    || (is_member p.ancestors && option_map_or is_empty_meant (meant_by modules p) false)
+module _ (language : Language) where
+  abbrev pub is_of_yang_1 : Forest Source → Source → Bool
+  is_of_yang_1 modules s = is_yang_1 (version_of language modules s.home)
 
-abbrev pub version_type_break : Forest Source → Placed → List Break
-version_type_break modules p =
-    when (is_source_of word.type_word p.source && (is_of_yang_1 modules p.source && is_wrong_in_1 modules p))
-    (broken 10 p.source.home p.source.statement.line)
+  -- ---- C5: no import by revision from YANG 1 to YANG 1.1
 
-abbrev pub version_type_breaks : Forest Source → List Break
-version_type_breaks modules = flat_map (version_type_break modules) (statements_of modules)
+  abbrev pub is_import_of_later : Forest Source → Source → Forest Source → Bool
+  is_import_of_later modules s below = is_source_of word.import_word s && (is_of_yang_1 modules s
+      && (is_some (argument_with word.revision_date_word below)
+      && option_map_or (λ m. not (is_yang_1 (version_of language modules m))) (module_called modules (argument_in s)) false))
 
--- ---- C12: a key leaf bears no condition; in YANG 1 it isn't `empty`
+  abbrev pub version_import_break : Forest Source → Placed → List Break
+  version_import_break modules p =
+      when (is_import_of_later modules p.source p.below) (broken 5 p.source.home p.source.statement.line)
 
--- whether the statement itself bears one, those of a `uses` or an `augment` aside
-abbrev pub bears_condition : Plan → Planned → Bool
-bears_condition plan p =
-    option_map_or (λ s. has_any (conditions_in s.below)) (statement_at plan.modules p.part.source.number) false
-  where
-    has_any : List Source → Bool
-    has_any [] = false
-    has_any (s ∷ ss) = true
+  abbrev pub version_import_breaks : Forest Source → List Break
+  version_import_breaks modules = flat_map (version_import_break modules) (statements_of modules)
 
-abbrev pub is_unfit_key : Plan → Planned → Bool
-is_unfit_key plan p = is_key plan p && (if is_of_yang_1 plan.modules p.part.source
-    then option_map_or is_empty_meant (meant_in plan p) false else bears_condition plan p)
+  -- ---- C10: in YANG 1 a leafref always requires its instance, and no member of a union is `empty`
 
--- told at its list
-abbrev pub key_break : Plan → Planned → List Break
-key_break plan p = when (is_a word.leaf_word p && is_unfit_key plan p)
-    (option_map_or (broken_at 12) (option_and_then (node_of plan) p.parent) [])
+  abbrev pub is_wrong_in_1 : Forest Source → Placed → Bool
+  is_wrong_in_1 modules p = is_some (first_with word.require_instance_word p.below)
+      || (is_member p.ancestors && option_map_or is_empty_meant (meant_by modules p) false)
 
--- ---- items of a leaf-list of YANG 1 differ, those of state too
+  abbrev pub version_type_break : Forest Source → Placed → List Break
+  version_type_break modules p =
+      when (is_source_of word.type_word p.source && (is_of_yang_1 modules p.source && is_wrong_in_1 modules p))
+      (broken 10 p.source.home p.source.statement.line)
 
-abbrev pub has_distinct_items : Plan → Planned → Bool
-has_distinct_items plan p = p.config || is_of_yang_1 plan.modules p.part.source
+  abbrev pub version_type_breaks : Forest Source → List Break
+  version_type_breaks modules = flat_map (version_type_break modules) (statements_of modules)
+
+  -- ---- C12: a key leaf bears no condition; in YANG 1 it isn't `empty`
+
+  -- whether the statement itself bears one, those of a `uses` or an `augment` aside
+  abbrev pub bears_condition : Plan → Planned → Bool
+  bears_condition plan p =
+      option_map_or (λ s. has_any (conditions_in language s.below)) (statement_at plan.modules p.part.source.number) false
+    where
+      has_any : List Source → Bool
+      has_any [] = false
+      has_any (s ∷ ss) = true
+
+  abbrev pub is_unfit_key : Plan → Planned → Bool
+  is_unfit_key plan p = is_key plan p && (if is_of_yang_1 plan.modules p.part.source
+      then option_map_or is_empty_meant (meant_in plan p) false else bears_condition plan p)
+
+  -- told at its list
+  abbrev pub key_break : Plan → Planned → List Break
+  key_break plan p = when (is_a word.leaf_word p && is_unfit_key plan p)
+      (option_map_or (broken_at 12) (option_and_then (node_of plan) p.parent) [])
+
+  -- ---- items of a leaf-list of YANG 1 differ, those of state too
+
+  abbrev pub has_distinct_items : Plan → Planned → Bool
+  has_distinct_items plan p = p.config || is_of_yang_1 plan.modules p.part.source
