@@ -183,15 +183,15 @@ abbrev pub absence_in : Language → Plan → Planned → Absence
 absence_in language plan p = if is_key plan p then key
     else (if is_mandatory p then mandatory else schema_nodes.absent_by (schema_nodes.first_value (default_values_in language plan p)))
 
-abbrev pub kind_in : Language → Plan → Planned → Keyword → Kind
-kind_in language plan p word.leaf_word = leaf (leaf_type_in language plan p) (absence_in language plan p)
-kind_in language plan p word.leaf_list_word =
-    leaf_list (leaf_type_in language plan p) (default_values_in language plan p) (schema_nodes.amount_of p)
-kind_in language plan p k = schema_nodes.kind_by plan p k
+abbrev pub kind_in : Language → Plan → Planned → Kind
+kind_in language plan p = if is_a word.leaf_word p then leaf (leaf_type_in language plan p) (absence_in language plan p)
+    else (if is_a word.leaf_list_word p
+    then leaf_list (leaf_type_in language plan p) (default_values_in language plan p) (schema_nodes.amount_of p)
+    else schema_nodes.kind_by plan p p.part.source.keyword)
 
 abbrev pub schema_node_in : Language → Plan → Planned → SchemaNode
 schema_node_in language plan p =
-    record (schema_nodes.schema_node plan p) { kind = kind_in language plan p p.part.source.keyword }
+    record (schema_nodes.schema_node plan p) { kind = kind_in language plan p }
 
 abbrev pub schema_nodes_in : Language → Plan → Forest SchemaNode
 schema_nodes_in language plan = relabelled (schema_node_in language plan) plan.nodes

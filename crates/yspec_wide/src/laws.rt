@@ -4,11 +4,13 @@ ghost use Rattle.std.specs.Prelude.{◌≡◌, true};
 ghost use Rattle.yspec.specs.linking.Table.{rule_of};
 ghost use Rattle.yspec.specs.linking.StatementBreaks.{statement_phase};
 ghost use Rattle.yspec.specs.linking.Source.{sources_of};
+ghost use Rattle.yspec.specs.linking.Compiling.{linking_phases};
 ghost use Rattle.yspec_wide.specs.Language.{core};
 ghost use Rattle.yspec_wide.specs.Words.{known};
 ghost use Rattle.yspec_wide.specs.Table.{rule_in, rule_before};
 ghost use Rattle.yspec_wide.specs.StatementBreaks.{statement_phase_in};
 ghost use Rattle.yspec_wide.specs.Sources.{sources_in};
+ghost use Rattle.yspec_wide.specs.Compiling.{linking_phases_in};
 ghost use Rattle.yspec_wide.specs.Standing.{standing_by, all_stand};
 
 /// The table row by row; and of every set of modules the rules of the table that it breaks, and the statements that linking
@@ -17,6 +19,11 @@ pub fn core_table()
     ensures rows { (version k : _) → rule_in core version (known k) ≡ rule_before (rule_of k) }
     ensures told { (modules : _) → statement_phase_in core modules ≡ statement_phase modules }
     ensures kept { (modules : _) → sources_in core modules ≡ sources_of modules }
+{}
+
+/// Linking breaks the same rules phase by phase.
+pub fn core_links()
+    ensures { (modules : _) → linking_phases_in core modules ≡ linking_phases modules }
 {}
 
 /// Where all conditions of all parts hold, all of them stand as they are.
