@@ -4,6 +4,8 @@ ghost use Rattle.std.specs.Prelude.{◌≡◌, true};
 ghost use Rattle.yspec.specs.linking.Table.{rule_of};
 ghost use Rattle.yspec.specs.linking.StatementBreaks.{statement_phase};
 ghost use Rattle.yspec.specs.linking.Source.{sources_of};
+ghost use Rattle.yspec.specs.linking.Expansion.{unfit_breaks};
+ghost use Rattle.yspec.specs.linking.Augments.{augmented, augment_breaks};
 ghost use Rattle.yspec.specs.linking.Compiling.{linking_phases};
 ghost use Rattle.yspec_wide.specs.Language.{core};
 ghost use Rattle.yspec_wide.specs.Words.{known};
@@ -11,7 +13,8 @@ ghost use Rattle.yspec_wide.specs.Table.{rule_in, rule_before};
 ghost use Rattle.yspec_wide.specs.StatementBreaks.{statement_phase_in};
 ghost use Rattle.yspec_wide.specs.Sources.{sources_in};
 ghost use Rattle.yspec_wide.specs.Compiling.{linking_phases_in};
-ghost use Rattle.yspec_wide.specs.Standing.{standing_by, all_stand};
+ghost use Rattle.yspec_wide.specs.Expansion.{augmented_in, unfit_breaks_in, augment_breaks_in};
+ghost use Rattle.yspec_wide.specs.Standing.{standing, standing_by, all_stand};
 
 /// The table row by row; and of every set of modules the rules of the table that it breaks, and the statements that linking
 /// stands on.
@@ -24,6 +27,14 @@ pub fn core_table()
 /// Linking breaks the same rules phase by phase.
 pub fn core_links()
     ensures { (modules : _) → linking_phases_in core modules ≡ linking_phases modules }
+{}
+
+/// Groupings and augments are expanded to the same nodes, the same augments are left, and all of the nodes stand.
+pub fn core_expands()
+    ensures expanded { (modules : _) → augmented_in core modules ≡ augmented modules }
+    ensures unfit { (modules : _) → unfit_breaks_in core modules ≡ unfit_breaks modules }
+    ensures left { (modules : _) → augment_breaks_in core modules ≡ augment_breaks modules }
+    ensures uncut { (modules parts : _) → standing core modules parts ≡ parts }
 {}
 
 /// Where all conditions of all parts hold, all of them stand as they are.
