@@ -6,6 +6,7 @@ ghost use Rattle.yspec.specs.linking.StatementBreaks.{statement_phase};
 ghost use Rattle.yspec.specs.linking.Source.{sources_of};
 ghost use Rattle.yspec.specs.linking.Expansion.{unfit_breaks};
 ghost use Rattle.yspec.specs.linking.Augments.{augmented, augment_breaks};
+ghost use Rattle.yspec.specs.linking.Planned.{type_of};
 ghost use Rattle.yspec.specs.linking.Compiling.{linking_phases};
 ghost use Rattle.yspec_wide.specs.Language.{core};
 ghost use Rattle.yspec_wide.specs.Words.{known};
@@ -14,6 +15,7 @@ ghost use Rattle.yspec_wide.specs.StatementBreaks.{statement_phase_in};
 ghost use Rattle.yspec_wide.specs.Sources.{sources_in};
 ghost use Rattle.yspec_wide.specs.Compiling.{linking_phases_in};
 ghost use Rattle.yspec_wide.specs.Expansion.{augmented_in, unfit_breaks_in, augment_breaks_in};
+ghost use Rattle.yspec_wide.specs.Types.{type_of_kept};
 ghost use Rattle.yspec_wide.specs.Standing.{standing, standing_by, all_stand};
 
 /// The table row by row; and of every set of modules the rules of the table that it breaks, and the statements that linking
@@ -35,6 +37,11 @@ pub fn core_expands()
     ensures unfit { (modules : _) → unfit_breaks_in core modules ≡ unfit_breaks modules }
     ensures left { (modules : _) → augment_breaks_in core modules ≡ augment_breaks modules }
     ensures uncut { (modules parts : _) → standing core modules parts ≡ parts }
+{}
+
+/// Where all names of values are kept, the type of each leaf and leaf-list is what it is without a language.
+pub fn kept_types()
+    ensures { (plan p : _) → type_of_kept (λ own. true) plan p ≡ type_of plan p }
 {}
 
 /// Where all conditions of all parts hold, all of them stand as they are.
