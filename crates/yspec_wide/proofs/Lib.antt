@@ -3,5 +3,7 @@ pub mod CoreLemmas
 pub mod CoreLinkingLemmas
 pub mod CoreExpansionLemmas
 pub mod CoreTypeLemmas
+pub mod CoreNodeLemmas
+pub mod CoreCompilingLemmas
 pub mod LeastLemmas
 pub mod StandingLemmas

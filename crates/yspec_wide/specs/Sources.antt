@@ -1,5 +1,6 @@
 -- The statements that linking stands on, with features and conditions among them (RFC 7950, 7.20.1 and 7.20.2).
 use Rattle.std.specs.Prelude.{ℕ, ◌+◌, Bool, false, List, Option, Some, filter, option_and_then, if◌then◌else◌}
+use Rattle.std.specs.List.{list_any}
 use Rattle.yspec.specs.Forest.{Forest, end, node, row, join, size}
 use Rattle.yspec.specs.text.Text.{is_text}
 use Rattle.yspec.specs.text.Statement.{Statement}
@@ -47,6 +48,9 @@ module _ (language : Language) where
   -- the `if-feature` statements of a row
   abbrev pub conditions_in : Forest Source → List Source
   conditions_in below = filter is_condition (row below)
+
+  abbrev pub bears_condition : Forest Source → Bool
+  bears_condition below = list_any is_condition (row below)
 
   -- a row of them alone, and the row without them
   abbrev pub condition_row : Forest Source → Forest Source

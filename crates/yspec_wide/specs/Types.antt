@@ -15,14 +15,14 @@ use Rattle.yspec.specs.linking.Scopes.{Placed, statement_at}
 use Rattle.yspec.specs.linking.Identities.{module_name, assigned_identity, identities_of, derives, bases_in}
 use Rattle.yspec.specs.linking.TypeStatements.{BuiltIn, enumeration, bits, union, leafref, identityref, Meant, own, Verdict, means, wrong, built_in_meant, are_in_place, of_names, namings, value_stated, position_stated, single_type, union_verdict, leafref_verdict, derived, meaning_of}
 use Rattle.yspec.specs.linking.DerivedTypes.{Known, unknown, named, verdict_by, typedef_row, is_member}
-use Rattle.yspec.specs.linking.Planned.{Planned, Plan, is_a, type_by, target_of}
+use Rattle.yspec.specs.linking.Planned.{Planned, Plan, is_a, stated_in, type_by, target_of}
 use Rattle.yspec.specs.linking.SchemaNodes as schema_nodes
 use Rattle.yspec.specs.linking.SchemaNodes.{is_mandatory, min_elements_of, own_defaults, is_key}
 use Rattle.yspec.specs.linking.NodeBreaks.{is_empty, has_equal, is_wrong_case, broken_at}
 use Rattle.yspec.specs.schema.Breaks.{Break, when}
 use Rattle.yspec.specs.schema.Schema.{SchemaNode, Kind, leaf, leaf_list, LeafType, Absence, mandatory, key}
 use Rattle.yspec_wide.specs.Language.{Language}
-use Rattle.yspec_wide.specs.Sources.{conditions_in}
+use Rattle.yspec_wide.specs.Sources.{bears_condition}
 use Rattle.yspec_wide.specs.Features.{stands}
 use Rattle.yspec_wide.specs.VersionBreaks.{is_of_yang_1}
 
@@ -125,11 +125,7 @@ abbrev pub default_texts_in : Language → Plan → Planned → List Stated
 default_texts_in language plan p = if has_defaults language plan p then schema_nodes.default_texts plan p else []
 
 abbrev pub bears_none : Language → Forest Source → Bool
-bears_none language below = is_none (conditions_in language below)
-  where
-    is_none : List Source → Bool
-    is_none [] = true
-    is_none (s ∷ ss) = false
+bears_none language below = not (bears_condition language below)
 
 abbrev pub same_if_any : Option Val → Option Val → Bool
 same_if_any v w = option_map_or (λ a. option_map_or (same_value a) w false) v false
@@ -158,10 +154,7 @@ abbrev pub is_default_wrong_in : Language → Plan → Planned → Bool
 is_default_wrong_in language plan p = if is_a word.leaf_word p
     then not (is_key plan p) && option_map_or (is_wrong_default_in language plan p) (standing_type language plan p) false
     else (if is_a word.leaf_list_word p then option_map_or (are_wrong_defaults_in language plan p) (standing_type language plan p) false
-    else (is_a word.choice_word p && (is_some (stated_default p) && is_wrong_case plan p (schema_nodes.default_case plan p))))
-  where
-    stated_default : Planned → Option Source
-    stated_default p = first_with word.default_word p.part.own
+    else (is_a word.choice_word p && (is_some (stated_in word.default_word p) && is_wrong_case plan p (schema_nodes.default_case plan p))))
 
 abbrev pub default_breaks_in : Language → Plan → Planned → List Break
 default_breaks_in language plan p = when (is_default_wrong_in language plan p) (broken_at 11 p)

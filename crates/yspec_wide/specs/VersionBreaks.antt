@@ -16,7 +16,7 @@ use Rattle.yspec.specs.linking.SchemaNodes.{is_key}
 use Rattle.yspec.specs.linking.NodeBreaks.{broken_at}
 use Rattle.yspec.specs.schema.Breaks.{Break, broken, when}
 use Rattle.yspec_wide.specs.Language.{Language, is_yang_1, version_of}
-use Rattle.yspec_wide.specs.Sources.{conditions_in}
+use Rattle.yspec_wide.specs.Sources.{bears_condition}
 
 -- ---- the type `empty`
 
@@ -74,17 +74,13 @@ module _ (language : Language) where
   -- ---- C12: a key leaf bears no condition; in YANG 1 it isn't `empty`
 
   -- whether the statement itself bears one, those of a `uses` or an `augment` aside
-  abbrev pub bears_condition : Plan → Planned → Bool
-  bears_condition plan p =
-      option_map_or (λ s. has_any (conditions_in language s.below)) (statement_at plan.modules p.part.source.number) false
-    where
-      has_any : List Source → Bool
-      has_any [] = false
-      has_any (s ∷ ss) = true
+  abbrev pub bears_itself : Plan → Planned → Bool
+  bears_itself plan p =
+      option_map_or (λ s. bears_condition language s.below) (statement_at plan.modules p.part.source.number) false
 
   abbrev pub is_unfit_key : Plan → Planned → Bool
   is_unfit_key plan p = is_key plan p && (if is_of_yang_1 plan.modules p.part.source
-      then option_map_or is_empty_meant (meant_in plan p) false else bears_condition plan p)
+      then option_map_or is_empty_meant (meant_in plan p) false else bears_itself plan p)
 
   -- told at its list
   abbrev pub key_break : Plan → Planned → List Break

@@ -7,16 +7,21 @@ ghost use Rattle.yspec.specs.linking.Source.{sources_of};
 ghost use Rattle.yspec.specs.linking.Expansion.{unfit_breaks};
 ghost use Rattle.yspec.specs.linking.Augments.{augmented, augment_breaks};
 ghost use Rattle.yspec.specs.linking.Planned.{type_of};
-ghost use Rattle.yspec.specs.linking.Compiling.{linking_phases};
+ghost use Rattle.yspec.specs.linking.Compiling.{linking_phases, compiled};
 ghost use Rattle.yspec_wide.specs.Language.{core};
 ghost use Rattle.yspec_wide.specs.Words.{known};
 ghost use Rattle.yspec_wide.specs.Table.{rule_in, rule_before};
 ghost use Rattle.yspec_wide.specs.StatementBreaks.{statement_phase_in};
 ghost use Rattle.yspec_wide.specs.Sources.{sources_in};
-ghost use Rattle.yspec_wide.specs.Compiling.{linking_phases_in};
+ghost use Rattle.yspec_wide.specs.Compiling.{linking_phases_in, compiled_in};
 ghost use Rattle.yspec_wide.specs.Expansion.{augmented_in, unfit_breaks_in, augment_breaks_in};
 ghost use Rattle.yspec_wide.specs.Types.{type_of_kept};
 ghost use Rattle.yspec_wide.specs.Standing.{standing, standing_by, all_stand};
+
+/// Under the core a set of modules compiles to the schema that it has without a language, or the same rule is told of it.
+pub fn core_compiles()
+    ensures { (modules : _) → compiled_in core modules ≡ compiled modules }
+{}
 
 /// The table row by row; and of every set of modules the rules of the table that it breaks, and the statements that linking
 /// stands on.
