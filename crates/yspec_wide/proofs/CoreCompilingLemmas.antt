@@ -1,21 +1,20 @@
 -- Under the core a set of modules compiles to the same schema, or the same rule is told of it.
-use Rattle.std.proofs.Common.{◌≡◌, ◌++◌, List, [], ◌∷◌, Option, Result, Ok, Err, refl, ap, ap₂, ◌∙◌, nat_lt}
+use Rattle.std.proofs.Common.{◌≡◌, ◌++◌, List, [], ◌∷◌, Ok, Err, ap, ap₂, ◌∙◌, nat_lt}
 use Rattle.std.specs.Option.{option_map_or}
 use Rattle.yspec.specs.Forest.{Forest}
 use Rattle.yspec.specs.text.Statement.{Statement}
 use Rattle.yspec.specs.linking.Source.{Source, sources_of}
 use Rattle.yspec.specs.linking.Expansion.{unfit_breaks}
-use Rattle.yspec.specs.linking.Augments.{augmented, augment_breaks}
+use Rattle.yspec.specs.linking.Augments.{augment_breaks}
 use Rattle.yspec.specs.linking.NodeCounts.{node_count}
 use Rattle.yspec.specs.linking.Parts.{Part}
 use Rattle.yspec.specs.linking.Planned.{Plan, at_top, planned}
-use Rattle.yspec.specs.linking.NodeBreaks.{name_breaks, node_breaks}
+use Rattle.yspec.specs.linking.NodeBreaks.{name_breaks}
 use Rattle.yspec.specs.linking.Compiling.{plan_of, schema_modules, schema_of_plan, schema_of, is_too_deep, phases_of_plan, linking_phases, phases, compiled}
 use Rattle.yspec.specs.schema.Breaks.{Break, limit_breaks, node_limit, or_told, first_broken}
 use Rattle.yspec_wide.specs.Language.{core}
-use Rattle.yspec_wide.specs.Sources.{sources_in}
 use Rattle.yspec_wide.specs.Expansion.{augmented_in}
-use Rattle.yspec_wide.specs.Compiling.{whole_plan, plan_in, schema_of_plan_in, schema_in, linking_phases_in, node_breaks_in, phases_of_plan_in, phases_in, compiled_in}
+use Rattle.yspec_wide.specs.Compiling.{whole_plan, plan_in, schema_of_plan_in, schema_in, node_breaks_in, phases_of_plan_in, phases_in, compiled_in}
 use Rattle.yspec_wide.proofs.CoreLemmas.{kept_of_all_alike}
 use Rattle.yspec_wide.proofs.CoreLinkingLemmas.{linking_alike}
 use Rattle.yspec_wide.proofs.CoreExpansionLemmas.{augmented_alike, unfit_alike, augment_breaks_alike, standing_alike}

@@ -1,21 +1,21 @@
 -- Under the core groupings and augments are expanded as without a language, and nothing is cut.
-use Rattle.std.proofs.Common.{◌≡◌, ℕ, zero, suc, Bool, true, false, not, ◌&&◌, ◌++◌, List, [], ◌∷◌, length, is_some, refl, ap, ap₂, ◌∙◌}
+use Rattle.std.proofs.Common.{◌≡◌, ℕ, zero, suc, Bool, true, false, not, ◌&&◌, ◌++◌, List, length, is_some, refl, ap, ap₂, ◌∙◌}
 use Rattle.std.proofs.Math.Path.{fun_ext}
 use Rattle.std.specs.Prelude.{if◌then◌else◌}
 use Rattle.std.specs.List.{flat_map}
 use Rattle.std.specs.Option.{option_map_or}
 use Rattle.yspec.specs.Forest.{Forest, end, node, join, size}
-use Rattle.yspec.specs.schema.Breaks.{Break, broken, when}
+use Rattle.yspec.specs.schema.Breaks.{broken, when}
 use Rattle.yspec.specs.linking.Source.{Source, first_with}
 use Rattle.yspec.specs.linking.Parts.{Part}
 use Rattle.yspec.specs.linking.Expansion.{Grouping, groupings_of, laid, row_used, is_refine, refine_steps, part_at, changed_at, others, overridden, is_fit, after_refine, refined, replaced, stands_for, expanded, expanded_from, expanded_parts, refine_breaks, unfit_in, unfit_for, unfit_from, unfit_breaks}
-use Rattle.yspec.specs.linking.Augments.{Augment, augments_of, target_steps, may_be_augmented, kept_out, in_turn, may_take, is_ready, added_below, applied, augmented, left_breaks, body_breaks, augment_breaks}
+use Rattle.yspec.specs.linking.Augments.{Augment, augments_of, target_steps, may_be_augmented, kept_out, in_turn, may_take, is_ready, added_below, applied, augmented, body_breaks, augment_breaks}
 use Rattle.yspec.proofs.ForestLemmas.{join_end}
 use Rattle.yspec_wide.specs.Language.{core}
 use Rattle.yspec_wide.specs.Sources.{condition_row, without_conditions}
 use Rattle.yspec_wide.specs.Features.{stands}
 use Rattle.yspec_wide.specs.Expansion.{conditioned, overridden_in, after_refine_in, refined_in, stands_for_in, expanded_in, expanded_in_from, expanded_parts_in, refine_breaks_in, unfit_for_in, unfit_in_from, unfit_breaks_in, added_nodes_in, may_take_in, is_ready_in, applied_in, augmented_in, body_breaks_in, augment_breaks_in}
-use Rattle.yspec_wide.specs.Standing.{standing, standing_by, all_stand}
+use Rattle.yspec_wide.specs.Standing.{standing, all_stand}
 use Rattle.yspec_wide.proofs.CoreLinkingLemmas.{all_stand_in_core}
 use Rattle.yspec_wide.proofs.StandingLemmas.{all_stand_alike}
 

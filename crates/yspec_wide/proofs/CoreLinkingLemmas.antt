@@ -10,7 +10,7 @@ use Rattle.yspec.specs.linking.Keyword as word
 use Rattle.yspec.specs.linking.Source.{Source, is_source_of, sources_of}
 use Rattle.yspec.specs.linking.Imports.{repeated_prefixes, import_breaks}
 use Rattle.yspec.specs.linking.Prefixes.{prefix_breaks}
-use Rattle.yspec.specs.linking.Scopes.{Placed, taken_breaks, lost_breaks, statements_of}
+use Rattle.yspec.specs.linking.Scopes.{taken_breaks, lost_breaks, statements_of}
 use Rattle.yspec.specs.linking.Circles.{import_circles, definition_circles}
 use Rattle.yspec.specs.linking.DerivedTypes.{type_breaks}
 use Rattle.yspec.specs.linking.StatementBreaks.{statement_phase}

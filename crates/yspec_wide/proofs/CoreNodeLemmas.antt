@@ -1,13 +1,12 @@
 -- Under the core nodes break the same rules and stand for the same schema nodes.
-use Rattle.std.proofs.Common.{◌≡◌, ℕ, Bool, true, false, not, ◌&&◌, ◌||◌, ◌++◌, cond, List, [], ◌∷◌, Option, Some, None, is_some, option_and_then, filter_map, refl, sym, ap, ap₂, subst, ◌∙◌, append_assoc, nat_lt}
+use Rattle.std.proofs.Common.{◌≡◌, Bool, true, false, not, ◌&&◌, ◌||◌, ◌++◌, List, [], Option, Some, None, is_some, option_and_then, filter_map, refl, ap, ap₂, subst, ◌∙◌, append_assoc, nat_lt}
 use Rattle.std.proofs.Math.Path.{fun_ext}
 use Rattle.std.proofs.lemmas.Bool.{and_right}
 use Rattle.std.specs.Prelude.{unwrap_or, option_map, if◌then◌else◌}
 use Rattle.std.specs.List.{list_any, flat_map}
 use Rattle.std.specs.Option.{option_map_or}
-use Rattle.yspec.specs.Forest.{Forest, end, node, row, relabelled}
+use Rattle.yspec.specs.Forest.{Forest, end, node, relabelled}
 use Rattle.yspec.specs.types.Types.{YangType, Val, string_type}
-use Rattle.yspec.specs.types.Order.{same_value}
 use Rattle.yspec.proofs.TypeProofs.OrderLemmas.{tells_values}
 use Rattle.yspec.specs.linking.Keyword.{Keyword, same_keyword, leaf_word, leaf_list_word, choice_word, default_word}
 use Rattle.yspec.proofs.LinkingProofs.KeywordLemmas.{same_is}
@@ -15,13 +14,13 @@ use Rattle.yspec.specs.linking.Source.{Source}
 use Rattle.yspec.specs.linking.Scopes.{Placed, statement_at}
 use Rattle.yspec.specs.linking.Planned.{Planned, Plan, node_of, nodes_of, is_a, stated_in, target_of, type_of}
 use Rattle.yspec.specs.linking.SchemaNodes.{is_mandatory, min_elements_of, own_defaults, default_texts, value_stated, default_values, default_case, absent_by, first_value, absence_of, leaf_type, amount_of, type_name, number_in, is_key, kind_by, schema_node, schema_nodes}
-use Rattle.yspec.specs.linking.NodeBreaks.{config_breaks, tuple_breaks, reference_breaks, default_breaks, addition_breaks, is_empty, is_refused, is_wrong_default, are_wrong_defaults, has_equal, is_default_wrong, is_wrong_case, must_be, has_mandatory, row_below, is_needed, is_foreign, broken_in, broken_at, own_breaks, node_breaks}
+use Rattle.yspec.specs.linking.NodeBreaks.{config_breaks, tuple_breaks, reference_breaks, default_breaks, addition_breaks, is_empty, is_refused, is_wrong_default, are_wrong_defaults, has_equal, is_wrong_case, must_be, has_mandatory, row_below, is_needed, is_foreign, broken_in, broken_at, own_breaks, node_breaks}
 use Rattle.yspec.specs.schema.Breaks.{Break, when, or_told}
 use Rattle.yspec.specs.schema.Schema.{Kind, leaf, leaf_list, LeafType, Absence, mandatory, key}
 use Rattle.yspec_wide.specs.Language.{core}
 use Rattle.yspec_wide.specs.Sources.{bears_condition}
-use Rattle.yspec_wide.specs.VersionBreaks.{bears_itself, key_break}
-use Rattle.yspec_wide.specs.Types.{type_of_kept, default_texts_in, bears_none, same_if_any, is_refused_in, is_wrong_default_in, are_wrong_defaults_in, standing_type, is_default_wrong_in, default_breaks_in, default_values_in, leaf_type_in, absence_in, kind_in, schema_node_in, schema_nodes_in}
+use Rattle.yspec_wide.specs.VersionBreaks.{key_break}
+use Rattle.yspec_wide.specs.Types.{type_of_kept, default_texts_in, bears_none, same_if_any, is_refused_in, is_wrong_default_in, are_wrong_defaults_in, standing_type, default_breaks_in, default_values_in, leaf_type_in, absence_in, kind_in, schema_node_in, schema_nodes_in}
 use Rattle.yspec_wide.specs.Additions.{stands_itself, has_mandatory_standing, is_needed_standing, addition_breaks_in}
 use Rattle.yspec_wide.specs.Compiling.{own_breaks_in, node_breaks_in}
 use Rattle.yspec_wide.proofs.CoreLinkingLemmas.{all_stand_in_core}

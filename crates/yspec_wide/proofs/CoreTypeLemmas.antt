@@ -1,5 +1,5 @@
 -- Where the names of all values are kept, types are what they are without a language.
-use Rattle.std.proofs.Common.{◌≡◌, ℕ, zero, suc, ℤ, Bool, true, false, ◌&&◌, ◌||◌, ◌++◌, cond, List, [], ◌∷◌, filter, Option, Some, None, option_map, option_and_then, refl, sym, ap, ap₂, subst, ◌∙◌, append_assoc}
+use Rattle.std.proofs.Common.{◌≡◌, ℕ, zero, suc, ℤ, Bool, true, false, ◌&&◌, ◌++◌, cond, List, [], ◌∷◌, filter, Option, Some, None, option_map, option_and_then, refl, ap, ap₂, subst, ◌∙◌, append_assoc}
 use Rattle.std.proofs.Math.Path.{fun_ext}
 use Rattle.std.proofs.lemmas.Bool.{and_from, and_parts, or_left, or_right}
 use Rattle.std.specs.Prelude.{int_lt, if◌then◌else◌}
@@ -10,14 +10,14 @@ use Rattle.yspec.specs.text.Text.{Text, is_text}
 use Rattle.yspec.proofs.BasicLemmas.{same_text}
 use Rattle.yspec.specs.types.Names.{Naming, Assigned, number_of, placed, is_new, assigned_from, are_enum_names, enum_numbers, bit_positions, enum_names, bit_names}
 use Rattle.yspec.specs.types.Ranges.{Part, lies_in}
-use Rattle.yspec.specs.types.Types.{Base, enumeration_base, bits_base, plain, type_in, YangType}
+use Rattle.yspec.specs.types.Types.{enumeration_base, bits_base, plain, type_in, YangType}
 use Rattle.yspec.specs.linking.Keyword.{Keyword}
 use Rattle.yspec.specs.linking.Keyword as word
 use Rattle.yspec.specs.linking.Source.{Source, is_source_of, argument_in, first_with, found_with, stated_with}
-use Rattle.yspec.specs.linking.Scopes.{Placed, statement_at}
+use Rattle.yspec.specs.linking.Scopes.{statement_at}
 use Rattle.yspec.specs.linking.Identities.{module_name, bases_in}
 use Rattle.yspec.specs.linking.TypeStatements.{BuiltIn, integer, decimal64, string, boolean, empty, enumeration, bits, union, leafref, identityref, Meant, own, Verdict, means, wrong, built_in_meant, are_in_place, of_names, namings, value_stated, position_stated, single_type, identity_verdict, verdict_in_place, derived, verdict, verdicts, verdict_on, meaning_of}
-use Rattle.yspec.specs.linking.DerivedTypes.{Known, unknown, named, verdict_by, typedef_row, is_member, known_by, known_in_row, known_within, known_named, verdict_of, meant_by}
+use Rattle.yspec.specs.linking.DerivedTypes.{Known, unknown, named, verdict_by, typedef_row, is_member, known_by, known_in_row, known_within, known_named, meant_by}
 use Rattle.yspec.specs.linking.Planned.{Planned, Plan, type_by, meant_in, type_within, type_of}
 use Rattle.yspec_wide.specs.Types as wide
 

@@ -1,5 +1,6 @@
 pub mod WideLiterals
 pub mod CoreLemmas
+pub mod CoreWordLemmas
 pub mod CoreLinkingLemmas
 pub mod CoreExpansionLemmas
 pub mod CoreTypeLemmas

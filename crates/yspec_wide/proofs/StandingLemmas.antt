@@ -1,6 +1,6 @@
 -- Where all parts stand, nothing is cut.
 use Rattle.std.proofs.Common.{◌≡◌, Bool, true, false, not, ◌&&◌, cond, Option, Some, None, refl, ap, ap₂, ◌∙◌}
-use Rattle.std.proofs.lemmas.Bool.{and_parts}
+use Rattle.std.proofs.lemmas.Bool.{and_parts, and_right}
 use Rattle.std.specs.Option.{option_map_or}
 use Rattle.yspec.specs.Forest.{Forest, end, node}
 use Rattle.yspec.specs.text.Text.{Text}
@@ -18,19 +18,15 @@ none_lost : (p : Part) (cases : Forest Part) (name : Option Text)
 none_lost p cases None = refl
 none_lost p cases (Some name) = not_both (has_case p name cases)
 
-and_false : (b c : Bool) → c ≡ false → (b && c) ≡ false
-and_false true c e = e
-and_false false c e = refl
-
 default_on : (p : Part) (cases : Forest Part) → is_default_off p cases cases ≡ false
-default_on p cases = and_false (is_source_of word.choice_word p.source) _ (none_lost p cases (argument_with word.default_word p.own))
+default_on p cases = and_right (is_source_of word.choice_word p.source) _ (none_lost p cases (argument_with word.default_word p.own))
 
 kept_on : (p : Part) (cases : Forest Part) → with_default_on p cases cases ≡ p
 kept_on p cases = ap (λ b. cond b (record p { own = without_default p.own }) p) (default_on p cases)
 
 left_alike : (p : Part) (below after : Forest Part) → left_with p below below after ≡ node p below after
 left_alike p below after =
-    ap (λ b. cond b after (node (with_default_on p below below) below after)) (and_false (is_implied_case p) _ (not_both (is_none below)))
+    ap (λ b. cond b after (node (with_default_on p below below) below after)) (and_right (is_implied_case p) _ (not_both (is_none below)))
     ∙ ap (λ q. node q below after) (kept_on p below)
 
 pub all_stand_alike : (holds : Forest Source → Bool) (parts : Forest Part) → all_stand holds parts ≡ true → standing_by holds parts ≡ parts

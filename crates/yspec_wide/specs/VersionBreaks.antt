@@ -1,6 +1,6 @@
 -- Rules behind the table that depend on the version of a statement's own module: C5, C10 to C12, and items that differ
 -- (RFC 7950, 7.8.2 and 12; RFC 6020, 7.7, 7.8.2, 9.9 and 9.12).
-use Rattle.std.specs.Prelude.{◌&&◌, ◌||◌, Bool, true, false, not, List, [], ◌∷◌, Option, Some, None, is_some, option_and_then, if◌then◌else◌}
+use Rattle.std.specs.Prelude.{◌&&◌, ◌||◌, Bool, true, false, not, List, [], Option, Some, None, is_some, option_and_then, if◌then◌else◌}
 use Rattle.std.specs.List.{flat_map}
 use Rattle.std.specs.Option.{option_map_or}
 use Rattle.yspec.specs.Forest.{Forest}

@@ -1,6 +1,8 @@
 //! The core is what it is without a language, and nothing is cut where all conditions hold.
 
-ghost use Rattle.std.specs.Prelude.{◌≡◌, true};
+ghost use Rattle.std.specs.Prelude.{◌≡◌, true, false};
+ghost use Rattle.std.specs.List.{list_any};
+ghost use Rattle.yspec.specs.Forest.{preorder};
 ghost use Rattle.yspec.specs.linking.Table.{rule_of};
 ghost use Rattle.yspec.specs.linking.StatementBreaks.{statement_phase};
 ghost use Rattle.yspec.specs.linking.Source.{sources_of};
@@ -8,11 +10,11 @@ ghost use Rattle.yspec.specs.linking.Expansion.{unfit_breaks};
 ghost use Rattle.yspec.specs.linking.Augments.{augmented, augment_breaks};
 ghost use Rattle.yspec.specs.linking.Planned.{type_of};
 ghost use Rattle.yspec.specs.linking.Compiling.{linking_phases, compiled};
-ghost use Rattle.yspec_wide.specs.Language.{core};
+ghost use Rattle.yspec_wide.specs.Language.{core, rfc};
 ghost use Rattle.yspec_wide.specs.Words.{known};
 ghost use Rattle.yspec_wide.specs.Table.{rule_in, rule_before};
 ghost use Rattle.yspec_wide.specs.StatementBreaks.{statement_phase_in};
-ghost use Rattle.yspec_wide.specs.Sources.{sources_in};
+ghost use Rattle.yspec_wide.specs.Sources.{is_feature, is_condition, sources_in};
 ghost use Rattle.yspec_wide.specs.Compiling.{linking_phases_in, compiled_in};
 ghost use Rattle.yspec_wide.specs.Expansion.{augmented_in, unfit_breaks_in, augment_breaks_in};
 ghost use Rattle.yspec_wide.specs.Types.{type_of_kept};
@@ -29,6 +31,12 @@ pub fn core_table()
     ensures rows { (version k : _) → rule_in core version (known k) ≡ rule_before (rule_of k) }
     ensures told { (modules : _) → statement_phase_in core modules ≡ statement_phase modules }
     ensures kept { (modules : _) → sources_in core modules ≡ sources_of modules }
+{}
+
+/// Of what the core keeps no language would say that it is a feature or a condition.
+pub fn no_conditions_in_the_core()
+    ensures features { (choosings modules : _) → list_any (is_feature (rfc choosings)) (preorder (sources_in core modules)) ≡ false }
+    ensures conditions { (choosings modules : _) → list_any (is_condition (rfc choosings)) (preorder (sources_in core modules)) ≡ false }
 {}
 
 /// Linking breaks the same rules phase by phase.
