@@ -86,7 +86,7 @@ row_alike m rows (node s below after) = ap₂ (λ here others. here ++ others)
     ∙ at_alike m rows s below (row_breaks m (narrow.substatements_of s.keyword) below))
     (row_alike m rows after)
 
-top_alike : (m : ℕ) (s : Statement) (below : Forest Statement) → top_breaks core m s below ≡ narrow.top_breaks m s below
+pub top_alike : (m : ℕ) (s : Statement) (below : Forest Statement) → top_breaks core m s below ≡ narrow.top_breaks m s below
 top_alike m s below = ap₂ (λ b told. if b then told else broken 1 m s.line) (found_alike module_word (keyword_named s.keyword))
     (ap₂ (λ here others. here ++ others) (own_alike m module_word s below) (row_alike m (rule_of module_word).substatements below))
 

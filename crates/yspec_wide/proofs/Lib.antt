@@ -1,6 +1,7 @@
 pub mod WideLiterals
 pub mod CoreLemmas
 pub mod CoreWordLemmas
+pub mod CoreVersionLemmas
 pub mod CoreLinkingLemmas
 pub mod CoreExpansionLemmas
 pub mod CoreTypeLemmas

@@ -1,6 +1,6 @@
 //! The core is what it is without a language, and nothing is cut where all conditions hold.
 
-ghost use Rattle.std.specs.Prelude.{◌≡◌, true, false};
+ghost use Rattle.std.specs.Prelude.{◌≡◌, true, false, []};
 ghost use Rattle.std.specs.List.{list_any};
 ghost use Rattle.yspec.specs.Forest.{preorder};
 ghost use Rattle.yspec.specs.linking.Table.{rule_of};
@@ -10,10 +10,10 @@ ghost use Rattle.yspec.specs.linking.Expansion.{unfit_breaks};
 ghost use Rattle.yspec.specs.linking.Augments.{augmented, augment_breaks};
 ghost use Rattle.yspec.specs.linking.Planned.{type_of};
 ghost use Rattle.yspec.specs.linking.Compiling.{linking_phases, compiled};
-ghost use Rattle.yspec_wide.specs.Language.{core, rfc};
+ghost use Rattle.yspec_wide.specs.Language.{core, rfc, yang_1_1, version_below};
 ghost use Rattle.yspec_wide.specs.Words.{known};
 ghost use Rattle.yspec_wide.specs.Table.{rule_in, rule_before};
-ghost use Rattle.yspec_wide.specs.StatementBreaks.{statement_phase_in};
+ghost use Rattle.yspec_wide.specs.StatementBreaks.{top_breaks, statement_phase_in};
 ghost use Rattle.yspec_wide.specs.Sources.{is_feature, is_condition, sources_in};
 ghost use Rattle.yspec_wide.specs.Compiling.{linking_phases_in, compiled_in};
 ghost use Rattle.yspec_wide.specs.Expansion.{augmented_in, unfit_breaks_in, augment_breaks_in};
@@ -37,6 +37,11 @@ pub fn core_table()
 pub fn no_conditions_in_the_core()
     ensures features { (choosings modules : _) → list_any (is_feature (rfc choosings)) (preorder (sources_in core modules)) ≡ false }
     ensures conditions { (choosings modules : _) → list_any (is_condition (rfc choosings)) (preorder (sources_in core modules)) ≡ false }
+{}
+
+/// A module of which the core breaks no rule of the table says that it is one of YANG 1.1.
+pub fn versions_in_the_core()
+    ensures { (m s below : _) → top_breaks core m s below ≡ [] → version_below below ≡ yang_1_1 }
 {}
 
 /// Linking breaks the same rules phase by phase.
