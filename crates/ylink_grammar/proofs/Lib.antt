@@ -1,4 +1,7 @@
 pub mod BreakLemmas
+pub mod FormLemmas
 pub mod GrammarLemmas
+pub mod JudgeLemmas
 pub mod SourceLemmas
 pub mod WholeLemmas
+pub mod WordLemmas

@@ -6,7 +6,9 @@ use Rattle.yspec.specs.Forest.{Forest, node, end, size, join}
 use Rattle.yspec.specs.text.Statement.{Statement}
 use Rattle.yspec.specs.linking.Keyword.{Keyword}
 use Rattle.yspec.specs.linking.Source as spec
-use Rattle.yspec.specs.linking.Source.{first_with, found_with, is_source_of, kept, kept_at, kept_keyword, numbered, sources_from, sources_of}
+use Rattle.yspec.specs.linking.Source.{first_with, found_with, is_source_of, kept_at, numbered}
+use Rattle.yspec_wide.specs.Language.{Language}
+use Rattle.yspec_wide.specs.Sources.{kept_in, kept_keyword_in, sources_in_from}
 use Rattle.yspec.proofs.LinkingProofs.NumberedLemmas.{size-numbered}
 use Rattle.ytext.specs.View.{view, row_view, modules_view}
 use Rattle.ytext.specs.declared.statement.Stmt.{Stmt}
@@ -19,22 +21,22 @@ use Rattle.ybase_preorder.proofs.LayoutLemmas.{length-places, places-join, lengt
 use Rattle.ylink_grammar.specs.declared.source.Source.{Source}
 use Rattle.ylink_grammar.specs.SourceView.{source_view, seen_rows, listed}
 
-pub kept-first : (s : Statement) (below after : Forest Statement) → kept (node s below after) ≡ join (kept (node s below end)) (kept after)
-unfolding kept
-kept-first s below after = by (kept_keyword s)
+pub kept-first : (l : Language) (s : Statement) (below after : Forest Statement) → kept_in l (node s below after) ≡ join (kept_in l (node s below end)) (kept_in l after)
+unfolding kept_in
+kept-first l s below after = by (kept_keyword_in l s)
   where
-    by : (k : Option Keyword) → kept_at k s (kept below) (kept after) ≡ join (kept_at k s (kept below) end) (kept after)
+    by : (k : Option Keyword) → kept_at k s (kept_in l below) (kept_in l after) ≡ join (kept_at k s (kept_in l below) end) (kept_in l after)
     by None = refl
     by (Some k) = refl
 
-pub kept-none : (s : Statement) (below : Forest Statement) → kept_keyword s ≡ None → kept (node s below end) ≡ end
-unfolding kept
-kept-none s below none = ap (λ k. kept_at k s (kept below) end) none
+pub kept-none : (l : Language) (s : Statement) (below : Forest Statement) → kept_keyword_in l s ≡ None → kept_in l (node s below end) ≡ end
+unfolding kept_in
+kept-none l s below none = ap (λ k. kept_at k s (kept_in l below) end) none
 
-pub kept-some : (s : Statement) (below : Forest Statement) (k : Keyword) → kept_keyword s ≡ Some k
-    → kept (node s below end) ≡ node (k, s) (kept below) end
-unfolding kept
-kept-some s below k some = ap (λ k. kept_at k s (kept below) end) some
+pub kept-some : (l : Language) (s : Statement) (below : Forest Statement) (k : Keyword) → kept_keyword_in l s ≡ Some k
+    → kept_in l (node s below end) ≡ node (k, s) (kept_in l below) end
+unfolding kept_in
+kept-some l s below k some = ap (λ k. kept_at k s (kept_in l below) end) some
 
 pub numbered-join : (h k : ℕ) (f g : Forest (Keyword × Statement)) → numbered h k (join f g) ≡ join (numbered h k f) (numbered h (k + size f) g)
 unfolding numbered
@@ -76,20 +78,20 @@ then_others old new p h f g whole added so =
     ∙ (append_assoc (seen_rows old) (listed p h (length (slots_in old)) f) (listed p h (length (slots_in old) + size f) g)
     ∙ (ap (λ rest. seen_rows old ++ rest) (sym (listed-join p h (length (slots_in old)) f g)) ∙ so))
 
-pub next_statement : (ss : List Stmt) (i : ℕ) (s : Stmt) (old new : Table Source) (p : Option ℕ) (h : ℕ) (whole : List (Place _))
+pub next_statement : (l : Language) (ss : List Stmt) (i : ℕ) (s : Stmt) (old new : Table Source) (p : Option ℕ) (h : ℕ) (whole : List (Place _))
     → i < length ss → s ≡ get_or ss i s
-    → seen_rows new ≡ seen_rows old ++ listed p h (length (slots_in old)) (kept (node (view s).0 (view s).1 end))
-    → seen_rows old ++ listed p h (length (slots_in old)) (kept (row_view (drop i ss))) ≡ whole
-    → seen_rows new ++ listed p h (length (slots_in new)) (kept (row_view (drop (i + 1) ss))) ≡ whole
-next_statement ss i s old new p h whole within is added so =
-    then_others old new p h (kept (node (view s).0 (view s).1 end)) (kept (row_view (drop (i + 1) ss))) whole added
-    (ap (λ f. seen_rows old ++ listed p h (length (slots_in old)) f) (sym (ap kept (row_view_at ss i s within is) ∙ kept-first (view s).0 (view s).1 (row_view (drop (i + 1) ss)))) ∙ so)
+    → seen_rows new ≡ seen_rows old ++ listed p h (length (slots_in old)) (kept_in l (node (view s).0 (view s).1 end))
+    → seen_rows old ++ listed p h (length (slots_in old)) (kept_in l (row_view (drop i ss))) ≡ whole
+    → seen_rows new ++ listed p h (length (slots_in new)) (kept_in l (row_view (drop (i + 1) ss))) ≡ whole
+next_statement l ss i s old new p h whole within is added so =
+    then_others old new p h (kept_in l (node (view s).0 (view s).1 end)) (kept_in l (row_view (drop (i + 1) ss))) whole added
+    (ap (λ f. seen_rows old ++ listed p h (length (slots_in old)) f) (sym (ap (kept_in l) (row_view_at ss i s within is) ∙ kept-first l (view s).0 (view s).1 (row_view (drop (i + 1) ss)))) ∙ so)
 
-pub all_statements : (ss : List Stmt) (i : ℕ) (rows : Table Source) (p : Option ℕ) (h : ℕ) (whole : List (Place _)) → length ss ≤ i
-    → seen_rows rows ++ listed p h (length (slots_in rows)) (kept (row_view (drop i ss))) ≡ whole → seen_rows rows ≡ whole
-unfolding kept numbered
-all_statements ss i rows p h whole ended so =
-    sym (append-nil (seen_rows rows)) ∙ (ap (λ f. seen_rows rows ++ listed p h (length (slots_in rows)) (kept f)) (sym (at_drop_all row_view ss i ended)) ∙ so)
+pub all_statements : (l : Language) (ss : List Stmt) (i : ℕ) (rows : Table Source) (p : Option ℕ) (h : ℕ) (whole : List (Place _)) → length ss ≤ i
+    → seen_rows rows ++ listed p h (length (slots_in rows)) (kept_in l (row_view (drop i ss))) ≡ whole → seen_rows rows ≡ whole
+unfolding kept_in numbered
+all_statements l ss i rows p h whole ended so =
+    sym (append-nil (seen_rows rows)) ∙ (ap (λ f. seen_rows rows ++ listed p h (length (slots_in rows)) (kept_in l f)) (sym (at_drop_all row_view ss i ended)) ∙ so)
 
 -- ---- modules
 
@@ -98,31 +100,31 @@ pub modules_view_at : (ms : List Module) (i : ℕ) (m : Module) → i < length m
 modules_view_at ms i m within is =
     at_drop_more modules_view ms i m within ∙ ap (λ (x : Module). node (view x.top).0 (view x.top).1 (modules_view (drop (i + 1) ms))) (sym is)
 
-pub next_module : (ms : List Module) (i : ℕ) (m : Module) (old new : Table Source) (whole : List (Place _))
+pub next_module : (l : Language) (ms : List Module) (i : ℕ) (m : Module) (old new : Table Source) (whole : List (Place _))
     → i < length ms → m ≡ get_or ms i m
-    → seen_rows new ≡ seen_rows old ++ listed None i (length (slots_in old)) (kept (node (view m.top).0 (view m.top).1 end))
-    → seen_rows old ++ places None (length (slots_in old)) (sources_from i (length (slots_in old)) (modules_view (drop i ms))) ≡ whole
-    → seen_rows new ++ places None (length (slots_in new)) (sources_from (i + 1) (length (slots_in new)) (modules_view (drop (i + 1) ms))) ≡ whole
-unfolding sources_from
-next_module ms i m old new whole within is added so =
-    let row = kept (node (view m.top).0 (view m.top).1 end) in
+    → seen_rows new ≡ seen_rows old ++ listed None i (length (slots_in old)) (kept_in l (node (view m.top).0 (view m.top).1 end))
+    → seen_rows old ++ places None (length (slots_in old)) (sources_in_from l i (length (slots_in old)) (modules_view (drop i ms))) ≡ whole
+    → seen_rows new ++ places None (length (slots_in new)) (sources_in_from l (i + 1) (length (slots_in new)) (modules_view (drop (i + 1) ms))) ≡ whole
+unfolding sources_in_from
+next_module l ms i m old new whole within is added so =
+    let row = kept_in l (node (view m.top).0 (view m.top).1 end) in
     let n = length (slots_in old) in
     let rest = modules_view (drop (i + 1) ms) in
     let count : length (slots_in new) ≡ n + size row = length_added old new (listed None i n row) added
     ∙ ap (λ k. n + k) (length-places None n (numbered i n row) ∙ size-numbered i n row) in
-    let split : places None n (sources_from i n (modules_view (drop i ms))) ≡ listed None i n row ++ places None (n + size row) (sources_from (i + 1) (n + size row) rest) =
-    ap (λ f. places None n (sources_from i n f)) (modules_view_at ms i m within is)
-    ∙ (places-join None n (numbered i n row) (sources_from (i + 1) (n + size row) rest)
-    ∙ ap (λ k. listed None i n row ++ places None (n + k) (sources_from (i + 1) (n + size row) rest)) (size-numbered i n row)) in
-    ap₂ (λ a k. a ++ places None k (sources_from (i + 1) k rest)) added count
-    ∙ (append_assoc (seen_rows old) (listed None i n row) (places None (n + size row) (sources_from (i + 1) (n + size row) rest))
+    let split : places None n (sources_in_from l i n (modules_view (drop i ms))) ≡ listed None i n row ++ places None (n + size row) (sources_in_from l (i + 1) (n + size row) rest) =
+    ap (λ f. places None n (sources_in_from l i n f)) (modules_view_at ms i m within is)
+    ∙ (places-join None n (numbered i n row) (sources_in_from l (i + 1) (n + size row) rest)
+    ∙ ap (λ k. listed None i n row ++ places None (n + k) (sources_in_from l (i + 1) (n + size row) rest)) (size-numbered i n row)) in
+    ap₂ (λ a k. a ++ places None k (sources_in_from l (i + 1) k rest)) added count
+    ∙ (append_assoc (seen_rows old) (listed None i n row) (places None (n + size row) (sources_in_from l (i + 1) (n + size row) rest))
     ∙ (ap (λ ps. seen_rows old ++ ps) (sym split) ∙ so))
 
-pub all_modules : (ms : List Module) (i : ℕ) (rows : Table Source) (whole : List (Place _)) → length ms ≤ i
-    → seen_rows rows ++ places None (length (slots_in rows)) (sources_from i (length (slots_in rows)) (modules_view (drop i ms))) ≡ whole → seen_rows rows ≡ whole
-unfolding sources_from
-all_modules ms i rows whole ended so =
-    sym (append-nil (seen_rows rows)) ∙ (ap (λ f. seen_rows rows ++ places None (length (slots_in rows)) (sources_from i (length (slots_in rows)) f)) (sym (at_drop_all modules_view ms i ended)) ∙ so)
+pub all_modules : (l : Language) (ms : List Module) (i : ℕ) (rows : Table Source) (whole : List (Place _)) → length ms ≤ i
+    → seen_rows rows ++ places None (length (slots_in rows)) (sources_in_from l i (length (slots_in rows)) (modules_view (drop i ms))) ≡ whole → seen_rows rows ≡ whole
+unfolding sources_in_from
+all_modules l ms i rows whole ended so =
+    sym (append-nil (seen_rows rows)) ∙ (ap (λ f. seen_rows rows ++ places None (length (slots_in rows)) (sources_in_from l i (length (slots_in rows)) f)) (sym (at_drop_all modules_view ms i ended)) ∙ so)
 
 pub listed-none : (p : Option ℕ) (h k : ℕ) (f : Forest (Keyword × Statement)) → f ≡ end → listed p h k f ≡ []
 unfolding numbered

@@ -1,13 +1,20 @@
 -- How many statements of each keyword there are in a row, and which may stand there.
-use Rattle.std.specs.Prelude.{◌≡◌, ℕ, ◌&&◌, not, Bool, true, List, [], ◌∷◌, map, filter, Option, Some, None, if◌then◌else◌, slice_get, unwrap_or}
+use Rattle.std.specs.Prelude.{◌≡◌, ℕ, ◌&&◌, not, Bool, true, false, List, [], ◌∷◌, map, filter, Option, Some, None, if◌then◌else◌, slice_get, unwrap_or}
 use Rattle.std.specs.List.{list_any}
+use Rattle.std.specs.Option.{option_map_or}
 use Rattle.yspec.specs.Forest.{Forest, end, row}
 use Rattle.yspec.specs.text.Text.{Text, is_text}
 use Rattle.yspec.specs.text.Statement.{Statement}
 use Rattle.yspec.specs.schema.Breaks.{is_wrong_count}
 use Rattle.yspec.specs.linking.Keyword.{Keyword, keyword_number}
-use Rattle.yspec.specs.linking.Table.{Allowed}
-use Rattle.yspec.specs.linking.StatementBreaks.{has_keyword, is_miscounted, is_missing_version, is_allowed, occurrences}
+use Rattle.yspec.specs.linking.Keyword.{module_word, type_word}
+use Rattle.yspec.specs.linking.Table.{Allowed, rule_of}
+use Rattle.yspec.specs.linking.StatementBreaks.{has_keyword, is_current_version, is_miscounted, is_missing_version, occurrences}
+use Rattle.yspec.specs.linking.StatementBreaks as narrow
+use Rattle.yspec_wide.specs.Language.{Language, core, rfc}
+use Rattle.yspec_wide.specs.Words.{Word, known, same_word}
+use Rattle.yspec_wide.specs.Table as wide
+use Rattle.yspec_wide.specs.StatementBreaks.{is_allowed, is_wrong_version}
 
 -- the count of a keyword among counts by number
 abbrev pub count_at : List ℕ → Keyword → ℕ
@@ -37,9 +44,25 @@ lacks statements k = not (list_any (has_keyword k) (row statements))
 abbrev pub needs : List Allowed → List Keyword
 needs allowed = map (λ a. a.keyword) (filter (is_miscounted end) allowed)
 
+-- those of a statement, whatever the language
+abbrev pub needs_of_word : Word → List Keyword
+needs_of_word (known k) = needs (rule_of k).substatements
+needs_of_word _ = []
+
 -- ---- which may stand there
 
 -- the keyword, where it may stand there
-abbrev pub allowed_word : List Allowed → Option Keyword → Option Keyword
+abbrev pub allowed_word : List wide.Allowed → Option Word → Option Word
 allowed_word allowed None = None
-allowed_word allowed (Some k) = if is_allowed k allowed then Some k else None
+allowed_word allowed (Some w) = if is_allowed w allowed then Some w else None
+
+-- ---- what a statement breaks by itself
+
+-- the type of a built-in name that isn't compiled
+abbrev pub is_type_outside : Word → Statement → Bool
+is_type_outside w s = same_word w (known type_word) && option_map_or narrow.is_type_outside s.argument false
+
+-- Under the core a module without the version that is read, and else a `yang-version` that names none.
+abbrev pub is_wrongly_versioned : Language → Word → Statement → Forest Statement → Bool
+is_wrongly_versioned core w s below = same_word w (known module_word) && not (list_any is_current_version (row below))
+is_wrongly_versioned (rfc choosings) w s below = is_wrong_version w s

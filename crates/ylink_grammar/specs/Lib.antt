@@ -1,8 +1,10 @@
 pub mod BreakView
 pub mod Counts
 pub mod FormView
+pub mod LanguageView
 pub mod LinkView
 pub mod NamedType
 pub mod SourceView
 pub mod TableView
 pub mod Wholes
+pub mod WordView

@@ -1,13 +1,16 @@
 -- The table of statements as the specification's.
-use Rattle.std.specs.Prelude.{List, map}
+use Rattle.std.specs.Prelude.{List, ◌++◌, map}
 use Rattle.yspec.specs.linking.Table as spec
 use Rattle.yspec.specs.linking.Table.{exactly_one, at_most_one, any_number}
 use Rattle.ybase_words.specs.KeywordView.{keyword_view}
-use Rattle.ylink_grammar.specs.FormView.{form_view}
+use Rattle.yspec_wide.specs.Table as wide
+use Rattle.ylink_grammar.specs.FormView.{form_view, wide_form_view}
+use Rattle.ylink_grammar.specs.WordView.{word_view}
 use Rattle.ylink_grammar.specs.declared.table.Count.{Count}
 use Rattle.ylink_grammar.specs.declared.table.Count.TheVariants as counts
 use Rattle.ylink_grammar.specs.declared.table.Allowed.{Allowed}
 use Rattle.ylink_grammar.specs.declared.table.Rule.{Rule}
+use Rattle.ylink_grammar.specs.declared.rules.WideRule.{WideRule}
 
 abbrev pub count_view : Count → spec.Count
 count_view counts.One = exactly_one
@@ -22,3 +25,11 @@ allowed_views = map allowed_view
 
 abbrev pub rule_view : Rule → spec.Rule
 rule_view r = record { form = form_view r.form; substatements = allowed_views r.substatements.now }
+
+-- all substatements that there may be
+abbrev pub rows_view : WideRule → List wide.Allowed
+rows_view r = map wide.many (map word_view r.ahead.now)
+    ++ (wide.row_before (allowed_views r.substatements.now) ++ map wide.many (map word_view r.behind.now))
+
+abbrev pub wide_rule_view : WideRule → wide.Rule
+wide_rule_view r = record { form = wide_form_view r.form; substatements = rows_view r }

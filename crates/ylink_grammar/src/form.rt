@@ -1,8 +1,10 @@
 //! Whether an argument has the form that the table asks for.
 
-ghost use Rattle.std.specs.Prelude.{◌≡◌, IfOk};
+ghost use Rattle.std.specs.Prelude.{◌≡◌, ◌==◌, ◌||◌, IfOk};
 ghost use Rattle.yspec.specs.linking.Arguments as spec;
-ghost use Rattle.ylink_grammar.specs.FormView.{form_view};
+ghost use Rattle.yspec_wide.specs.Table as wide;
+ghost use Rattle.ylink_conditions.specs.View.{version_view};
+ghost use Rattle.ylink_grammar.specs.FormView.{bars_xml, form_view, wide_form_view};
 
 use std::alloc::{AllocError, Global};
 use ybase_words::{flag_of, is_date, ordered_by_of, status_of};
@@ -10,6 +12,7 @@ use ylink_arguments::{
     absolute_path, count, enum_value, fraction_digits, key_names, leafref_path, max_elements,
     relative_path, spans, unique_paths,
 };
+use ylink_conditions::{YangVersion, expression_of};
 use ytext::{is_identifier, is_name};
 
 /// The form of an argument.
@@ -34,8 +37,16 @@ pub(crate) enum Form {
     Any,
 }
 
-/// Whether a text is an argument of a form.
-pub(crate) fn fits(alloc: Global, form: Form, text: &str) -> Result<bool, AllocError>
+/// The form of an argument in a language.
+#[derive(Clone, Copy)]
+pub(crate) enum WideForm {
+    AsBefore(Form),
+    Prefix,
+    IfFeature,
+}
+
+/// Whether a text is an argument of a form of YANG 1.1.
+fn fits(alloc: Global, form: Form, text: &str) -> Result<bool, AllocError>
     ensures { IfOk result (λ b. b ≡ spec.fits (form_view form) text.now) }
 {
     Ok(match form {
@@ -57,4 +68,61 @@ pub(crate) fn fits(alloc: Global, form: Form, text: &str) -> Result<bool, AllocE
         Form::Spans => spans(alloc, text)?.is_some(),
         Form::Any => true,
     })
+}
+
+fn is_letter(byte: u8, small: u8, capital: u8) -> bool
+    ensures { result ≡ (byte == small || byte == capital) }
+{
+    byte == small || byte == capital
+}
+
+/// Whether a text begins with `xml`, in either case (RFC 6020, 12).
+fn begins_xml(text: &str) -> bool
+    ensures { result ≡ wide.begins_xml text.now }
+{
+    match text.as_bytes() {
+        [first, second, third, ..] => {
+            is_letter(*first, b'x', b'X')
+                && is_letter(*second, b'm', b'M')
+                && is_letter(*third, b'l', b'L')
+        }
+        _ => false,
+    }
+}
+
+/// Whether no text that begins with `xml` is of a form.
+fn bars_xml(version: YangVersion, form: Form) -> bool
+    ensures { result ≡ bars_xml (version_view version) (form_view form) }
+{
+    matches!(version, YangVersion::Yang1) && matches!(form, Form::Identifier)
+}
+
+/// Whether a text is an argument of a form of the core, by the version of its module.
+#[tactic(auto, using(crate::proofs::FormLemmas::fits_barring))]
+fn fits_before(
+    alloc: Global,
+    version: YangVersion,
+    form: Form,
+    text: &str,
+) -> Result<bool, AllocError>
+    ensures { IfOk result (λ b. b ≡ wide.fits_before (version_view version) (form_view form) text.now) }
+{
+    let fitting = fits(alloc, form, text)?;
+    Ok(fitting && !(bars_xml(version, form) && begins_xml(text)))
+}
+
+/// Whether a text is an argument of a form, by the version of its module.
+pub(crate) fn fits_in(
+    alloc: Global,
+    version: YangVersion,
+    form: WideForm,
+    text: &str,
+) -> Result<bool, AllocError>
+    ensures { IfOk result (λ b. b ≡ wide.fits_in (version_view version) (wide_form_view form) text.now) }
+{
+    match form {
+        WideForm::AsBefore(form) => fits_before(alloc, version, form, text),
+        WideForm::Prefix => Ok(is_identifier(text)),
+        WideForm::IfFeature => Ok(expression_of(alloc, version, text)?.is_some()),
+    }
 }

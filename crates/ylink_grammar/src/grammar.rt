@@ -1,30 +1,46 @@
 //! The rules of the table that statements break (RFC 7950, 7 and 14).
 
-ghost use Rattle.std.specs.Prelude.{◌≡◌, ◌&&◌, ◌∷◌, [], false, true, not, map, None, IfOk, is_some, option_map};
+ghost use Rattle.std.specs.Prelude.{◌≡◌, ◌&&◌, ◌||◌, ◌∷◌, [], false, true, not, map, None, IfOk, is_some, option_map};
 ghost use Rattle.std.specs.List.{list_any};
 ghost use Rattle.std.specs.Option.{option_map_or};
 ghost use Rattle.yspec.specs.Forest.{row};
-ghost use Rattle.yspec.specs.linking.Keyword.{keyword_named, same_keyword, type_word, module_word};
-ghost use Rattle.yspec.specs.linking.Arguments as arguments;
-ghost use Rattle.yspec.specs.linking.Table as table;
-ghost use Rattle.yspec.specs.linking.StatementBreaks as spec;
+ghost use Rattle.yspec.specs.linking.StatementBreaks as narrow;
 ghost use Rattle.yspec.specs.schema.Breaks.{least_from};
+ghost use Rattle.yspec_wide.specs.Language as languages;
+ghost use Rattle.yspec_wide.specs.Table as table;
+ghost use Rattle.yspec_wide.specs.Words.{known, same_word, word_named};
+ghost use Rattle.yspec_wide.specs.StatementBreaks as spec;
 ghost use Rattle.ytext.specs.View.{view, row_view, modules_view};
 ghost use Rattle.ybase_words.specs.KeywordView.{keyword_view};
-ghost use Rattle.ylink_grammar.specs.FormView.{form_view};
-ghost use Rattle.ylink_grammar.specs.TableView.{allowed_view, allowed_views};
-ghost use Rattle.ylink_grammar.specs.Counts.{AreOf, allowed_word, are_apart, count_at, has_word, is_miscounted_by, lacks};
+ghost use Rattle.ylink_conditions.specs.View.{version_view};
+ghost use Rattle.ylink_grammar.specs.FormView.{wide_form_view};
+ghost use Rattle.ylink_grammar.specs.LanguageView.{language_view};
+ghost use Rattle.ylink_grammar.specs.WordView.{word_view};
+ghost use Rattle.ylink_grammar.specs.TableView.{allowed_view, allowed_views, rows_view};
+ghost use Rattle.ylink_grammar.specs.Counts.{AreOf, allowed_word, are_apart, count_at, has_word, is_miscounted_by, is_type_outside, is_wrongly_versioned, lacks, needs, needs_of_word};
 ghost use Rattle.ylink_grammar.specs.BreakView.{break_view, seen};
 
 use crate::fault::{BrokenRule, CompileCode, least, least_when};
-use crate::form::{Form, fits};
-use crate::table::{Allowed, Count, needs_of, rule_of};
+use crate::form::{WideForm, fits_in};
+use crate::language::Language;
+use crate::rules::{WideRule, needs_in, rule_in};
+use crate::table::{Allowed, Count};
+use crate::word::{Word, word_named};
 use std::alloc::{AllocError, Global};
 use ybase_words::{KEYWORDS, Keyword};
+use ylink_conditions::YangVersion;
 use ytext::{Module, Stmt, offset_of};
 
 /// Up to how many substatements are compared with one another, and not counted.
 const FEW: usize = 8;
+
+/// In which language and version a module is read, and its number in the set.
+#[derive(Clone, Copy)]
+struct Reading<'l> {
+    language: &'l Language,
+    version: YangVersion,
+    module: usize,
+}
 
 pub fn broken(code: CompileCode, module: usize, statement: &Stmt) -> BrokenRule
     ensures { result ≡ record
@@ -39,16 +55,27 @@ pub fn broken(code: CompileCode, module: usize, statement: &Stmt) -> BrokenRule
 
 /// Whether a keyword has a prefix.
 fn is_prefixed(statement: &Stmt) -> bool
-    ensures { result ≡ spec.is_prefixed (view statement.now).0.keyword }
+    ensures { result ≡ narrow.is_prefixed (view statement.now).0.keyword }
 {
     offset_of(statement.keyword().as_bytes(), b':').is_some()
 }
 
 fn has_keyword(statement: &Stmt, keyword: Keyword) -> bool
-    ensures { result ≡ spec.has_keyword (keyword_view keyword) (view statement.now).0 }
+    ensures { result ≡ narrow.has_keyword (keyword_view keyword) (view statement.now).0 }
 {
     match Keyword::named(statement.keyword()) {
         Some(named) => keyword.is(named),
+        None => false,
+    }
+}
+
+/// Whether a statement has a keyword of a language.
+fn has_keyword_in(language: &Language, statement: &Stmt, word: Word) -> bool
+    ensures { result
+        ≡ spec.has_word (language_view language.now) (word_view word) (view statement.now).0 }
+{
+    match word_named(language, statement.keyword()) {
+        Some(named) => word.is(named),
         None => false,
     }
 }
@@ -149,39 +176,61 @@ fn lacks_any(keywords: &[Keyword], statements: &[Stmt]) -> bool
     false
 }
 
-/// Whether there are too many or too few of a substatement.
-fn is_miscounted(keyword: Keyword, statement: &Stmt) -> bool
-    ensures { result ≡ list_any (spec.is_miscounted (view statement.now).1)
-        (table.rule_of (keyword_view keyword)).substatements }
+/// Whether there are too many or too few of a substatement of the core.
+fn is_miscounted(rule: &WideRule, word: Word, statement: &Stmt) -> bool
+    requires { needs (allowed_views rule.now.substatements.now) ≡ needs_of_word (word_view word) }
+    ensures { result ≡ list_any (narrow.is_miscounted (view statement.now).1)
+        (allowed_views rule.now.substatements.now) }
 {
     let statements = statement.substatements();
     if statements.len() <= FEW && are_apart(statements) {
-        return lacks_any(needs_of(keyword), statements);
+        return lacks_any(needs_in(word), statements);
     }
-    let rule = rule_of(keyword);
     let counts = counts_of(statements);
     has_wrong_counts(rule.substatements, &counts)
 }
 
-fn is_allowed(keyword: Keyword, allowed: &[Allowed]) -> bool
-    ensures { result ≡ spec.is_allowed (keyword_view keyword) (allowed_views allowed.now) }
+fn is_among(word: Word, allowed: &[Allowed]) -> bool
+    ensures { result ≡ spec.is_allowed (word_view word) (table.row_before (allowed_views allowed.now)) }
 {
     for a in allowed {
-        if a.0.is(keyword) {
+        if Word::Known(a.0).is(word) {
             return true;
         }
     }
     false
 }
 
+fn is_one_of(word: Word, words: &[Word]) -> bool
+    ensures { result ≡ list_any (λ w. same_word w (word_view word)) (map word_view words.now) }
+{
+    for other in words {
+        if other.is(word) {
+            return true;
+        }
+    }
+    false
+}
+
+/// Whether a keyword is one of those that a row allows.
+#[tactic(auto, using(crate::proofs::WordLemmas::allowed_by))]
+fn is_allowed(word: Word, rule: &WideRule) -> bool
+    ensures { result ≡ spec.is_allowed (word_view word) (rows_view rule.now) }
+{
+    let ahead = is_one_of(word, rule.ahead);
+    let among = is_among(word, rule.substatements);
+    let behind = is_one_of(word, rule.behind);
+    ahead || (among || behind)
+}
+
 fn is_version(statement: &Stmt) -> bool
-    ensures { result ≡ spec.is_current_version (view statement.now).0 }
+    ensures { result ≡ narrow.is_current_version (view statement.now).0 }
 {
     has_keyword(statement, Keyword::YangVersion) && statement.argument() == Some("1.1")
 }
 
 fn has_version(statements: &[Stmt]) -> bool
-    ensures { result ≡ list_any spec.is_current_version (row (row_view statements.now)) }
+    ensures { result ≡ list_any narrow.is_current_version (row (row_view statements.now)) }
 {
     for statement in statements {
         if is_version(statement) {
@@ -191,32 +240,96 @@ fn has_version(statements: &[Stmt]) -> bool
     false
 }
 
-fn is_unversioned(keyword: Keyword, statement: &Stmt) -> bool
-    ensures { result ≡ (same_keyword (keyword_view keyword) module_word
-        && not (list_any spec.is_current_version (row (view statement.now).1))) }
+/// Whether the argument is that of a version of YANG.
+fn names_version(statement: &Stmt) -> bool
+    ensures { result ≡ option_map_or spec.is_version (view statement.now).0.argument false }
 {
-    keyword.is(Keyword::Module) && !has_version(statement.substatements())
+    matches!(statement.argument(), Some("1") | Some("1.1"))
+}
+
+/// Whether it is a module without the version that is read, under the core, or else a `yang-version` that names none
+/// (RFC 7950, 7.1.2).
+fn is_wrongly_versioned(language: &Language, word: Word, statement: &Stmt) -> bool
+    ensures { result ≡ is_wrongly_versioned (language_view language.now) (word_view word)
+        (view statement.now).0 (view statement.now).1 }
+{
+    match language {
+        Language::Core => {
+            word.is(Word::Known(Keyword::Module)) && !has_version(statement.substatements())
+        }
+        Language::Rfc(_) => {
+            word.is(Word::Known(Keyword::YangVersion)) && !names_version(statement)
+        }
+    }
 }
 
 /// Whether a statement is the type of a built-in name that isn't compiled.
-fn is_type_outside(keyword: Keyword, statement: &Stmt) -> bool
-    ensures { result ≡ (same_keyword (keyword_view keyword) type_word
-        && option_map_or spec.is_type_outside (view statement.now).0.argument false) }
+fn is_type_outside(word: Word, statement: &Stmt) -> bool
+    ensures { result ≡ is_type_outside (word_view word) (view statement.now).0 }
 {
-    keyword.is(Keyword::Type)
+    word.is(Word::Known(Keyword::Type))
         && matches!(
             statement.argument(),
             Some("binary") | Some("instance-identifier")
         )
 }
 
-fn has_fitting_argument(alloc: Global, form: Form, statement: &Stmt) -> Result<bool, AllocError>
-    ensures { IfOk result (λ b. b
-        ≡ option_map_or (arguments.fits (form_view form)) (view statement.now).0.argument false) }
+fn has_fitting_argument(
+    alloc: Global,
+    version: YangVersion,
+    form: WideForm,
+    statement: &Stmt,
+) -> Result<bool, AllocError>
+    ensures { IfOk result (λ b. b ≡ option_map_or
+        (table.fits_in (version_view version) (wide_form_view form))
+        (view statement.now).0.argument false) }
 {
     match statement.argument() {
-        Some(text) => fits(alloc, form, text),
+        Some(text) => fits_in(alloc, version, form, text),
         None => Ok(false),
+    }
+}
+
+/// The version that an argument of `yang-version` names.
+fn version_named(text: &str) -> YangVersion
+    ensures { version_view result ≡ languages.version_named text.now }
+{
+    if text == "1.1" {
+        YangVersion::Yang1_1
+    } else {
+        YangVersion::Yang1
+    }
+}
+
+/// The same; YANG 1 where there is no argument (RFC 7950, 7.1.2).
+fn version_stated(stated: Option<&str>) -> YangVersion
+    ensures { version_view result ≡ languages.version_stated (option_map (λ t. t.now) stated.entry) }
+{
+    match stated {
+        Some(text) => version_named(text),
+        None => YangVersion::Yang1,
+    }
+}
+
+/// The version of a module, by what stands below its statement.
+fn version_below(statements: &[Stmt]) -> YangVersion
+    ensures { version_view result ≡ languages.version_below (row_view statements.now) }
+{
+    for statement in statements {
+        if has_keyword(statement, Keyword::YangVersion) {
+            return version_stated(statement.argument());
+        }
+    }
+    YangVersion::Yang1
+}
+
+/// The version in which a module is read: under the core every one is read as YANG 1.1.
+fn version_in(language: &Language, statement: &Stmt) -> YangVersion
+    ensures { version_view result ≡ spec.version_in (language_view language.now) (view statement.now).1 }
+{
+    match language {
+        Language::Core => YangVersion::Yang1_1,
+        Language::Rfc(_) => version_below(statement.substatements()),
     }
 }
 
@@ -230,27 +343,28 @@ fn tell(told: &mut Option<BrokenRule>, found: BrokenRule)
 /// The rules that a statement breaks, apart from those that its substatements break.
 fn judge_alone(
     alloc: Global,
-    module: usize,
-    keyword: Keyword,
+    reading: Reading<'_>,
+    word: Word,
     statement: &Stmt,
     told: &mut Option<BrokenRule>,
 ) -> Result<(), AllocError>
     ensures { IfOk result (λ _. seen told.new ≡ least_from (seen told.old)
-        (spec.own_breaks «module» (keyword_view keyword) (view statement.now).0
-        (view statement.now).1)) }
+        (spec.own_breaks (language_view reading.entry.language.now) (version_view reading.entry.version)
+        reading.entry.«module» (word_view word) (view statement.now).0 (view statement.now).1)) }
 {
-    let rule = rule_of(keyword);
-    let unfitting = !has_fitting_argument(alloc, rule.form, statement)?;
-    let outside = is_type_outside(keyword, statement);
-    let unversioned = is_unversioned(keyword, statement);
-    let miscounted = is_miscounted(keyword, statement);
-    if !(unfitting || outside || unversioned || miscounted) {
+    let rule = rule_in(reading.language, reading.version, word);
+    let unfitting = !has_fitting_argument(alloc, reading.version, rule.form, statement)?;
+    let outside = is_type_outside(word, statement);
+    let misversioned = is_wrongly_versioned(reading.language, word, statement);
+    let miscounted = is_miscounted(&rule, word, statement);
+    let module = reading.module;
+    if !(unfitting || outside || misversioned || miscounted) {
         return Ok(());
     }
     let first = least_when(unfitting, *told, broken(CompileCode::C3, module, statement));
     let first = least_when(outside, first, broken(CompileCode::C1, module, statement));
     let first = least_when(
-        unversioned,
+        misversioned,
         first,
         broken(CompileCode::C4, module, statement),
     );
@@ -263,68 +377,72 @@ fn judge_alone(
 }
 
 /// The keyword of a statement, where it may stand there.
-fn allowed_keyword(allowed: &[Allowed], statement: &Stmt) -> Option<Keyword>
-    ensures { option_map keyword_view result
-        ≡ allowed_word (allowed_views allowed.now) (keyword_named (view statement.now).0.keyword) }
+fn allowed_word(language: &Language, rule: &WideRule, statement: &Stmt) -> Option<Word>
+    ensures { option_map word_view result ≡ allowed_word (rows_view rule.now)
+        (word_named (language_view language.now) (view statement.now).0.keyword) }
 {
-    let keyword = Keyword::named(statement.keyword())?;
-    if is_allowed(keyword, allowed) {
-        Some(keyword)
+    let word = word_named(language, statement.keyword())?;
+    if is_allowed(word, rule) {
+        Some(word)
     } else {
         None
     }
 }
 
-/// Tells the least rule broken by a statement that stands where these are allowed, and below it.
+/// Tells the least rule broken by a statement that stands below one of a rule, and below it.
 #[cycle(judge)]
 fn judge(
     alloc: Global,
-    module: usize,
-    allowed: &[Allowed],
+    reading: Reading<'_>,
+    rule: &WideRule,
     statement: &Stmt,
     told: &mut Option<BrokenRule>,
 ) -> Result<(), AllocError>
     ensures { let s = view statement.now in
+        let language = language_view reading.entry.language.now in
+        let version = version_view reading.entry.version in
         IfOk result (λ _. seen told.new ≡ least_from (seen told.old)
-        (spec.breaks_at «module» (allowed_views allowed.now) s.0 s.1
-        (spec.row_breaks «module» (spec.substatements_of s.0.keyword) s.1))) }
+        (spec.breaks_at language version reading.entry.«module» (rows_view rule.now) s.0 s.1
+        (spec.row_breaks_in language version reading.entry.«module»
+        (spec.substatements_of language version s.0.keyword) s.1))) }
 {
-    match allowed_keyword(allowed, statement) {
+    match allowed_word(reading.language, rule, statement) {
         None if is_prefixed(statement) => Ok(()),
         None => {
-            tell(told, broken(CompileCode::C1, module, statement));
+            tell(told, broken(CompileCode::C1, reading.module, statement));
             Ok(())
         }
-        Some(keyword) => {
-            if keyword.is(Keyword::Extension) {
+        Some(word) => {
+            if word.is(Word::Known(Keyword::Extension)) {
                 return Ok(());
             }
-            judge_alone(alloc, module, keyword, statement, told)?;
+            judge_alone(alloc, reading, word, statement, told)?;
             let below = statement.substatements();
             if below.is_empty() {
                 return Ok(());
             }
-            let rule = rule_of(keyword);
-            judge_row(alloc, module, rule.substatements, below, told)
+            let rule_below = rule_in(reading.language, reading.version, word);
+            judge_row(alloc, reading, &rule_below, below, told)
         }
     }
 }
 
 /// Tells the least rule broken by statements that stand in one block, and below them.
 #[cycle(judge)]
-#[tactic(auto, unfolding(yspec::specs::linking::StatementBreaks::row_breaks))]
+#[tactic(auto, unfolding(yspec_wide::specs::StatementBreaks::row_breaks_in))]
 fn judge_row(
     alloc: Global,
-    module: usize,
-    allowed: &[Allowed],
+    reading: Reading<'_>,
+    rule: &WideRule,
     statements: &[Stmt],
     told: &mut Option<BrokenRule>,
 ) -> Result<(), AllocError>
     ensures { IfOk result (λ _. seen told.new ≡ least_from (seen told.old)
-        (spec.row_breaks «module» (allowed_views allowed.now) (row_view statements.now))) }
+        (spec.row_breaks_in (language_view reading.entry.language.now) (version_view reading.entry.version)
+        reading.entry.«module» (rows_view rule.now) (row_view statements.now))) }
 {
     for statement in statements {
-        judge(alloc, module, allowed, statement, told)?;
+        judge(alloc, reading, rule, statement, told)?;
     }
     Ok(())
 }
@@ -332,40 +450,58 @@ fn judge_row(
 /// Tells the least rule broken by the top statement of a module, and below it.
 fn judge_top(
     alloc: Global,
+    language: &Language,
     module: usize,
     statement: &Stmt,
     told: &mut Option<BrokenRule>,
 ) -> Result<(), AllocError>
     ensures { let s = view statement.now in IfOk result (λ _. seen told.new
-        ≡ least_from (seen told.old) (spec.top_breaks «module» s.0 s.1)) }
+        ≡ least_from (seen told.old) (spec.top_breaks (language_view language.now) «module» s.0 s.1)) }
 {
-    if !has_keyword(statement, Keyword::Module) {
+    if !has_keyword_in(language, statement, Word::Known(Keyword::Module)) {
         tell(told, broken(CompileCode::C1, module, statement));
         return Ok(());
     }
-    judge_alone(alloc, module, Keyword::Module, statement, told)?;
-    let rule = rule_of(Keyword::Module);
-    judge_row(
-        alloc,
+    let reading = Reading {
+        language,
+        version: version_in(language, statement),
         module,
-        rule.substatements,
-        statement.substatements(),
+    };
+    judge_alone(
+        alloc,
+        reading,
+        Word::Known(Keyword::Module),
+        statement,
         told,
-    )
+    )?;
+    let rule = rule_in(language, reading.version, Word::Known(Keyword::Module));
+    judge_row(alloc, reading, &rule, statement.substatements(), told)
 }
 
-/// The least rule of the table that modules break, by module, line and number.
-#[tactic(auto, unfolding(yspec::specs::linking::StatementBreaks::breaks_from))]
+/// The least rule of the table that modules break in a language, by module, line and number.
+#[tactic(auto, unfolding(yspec_wide::specs::StatementBreaks::breaks_in_from))]
+pub fn broken_statement_rule_in(
+    alloc: Global,
+    language: &Language,
+    modules: &[Module],
+) -> Result<Option<BrokenRule>, AllocError>
+    ensures { IfOk result (λ told. seen told ≡ least_from None
+        (spec.statement_phase_in (language_view language.now) (modules_view modules.now))) }
+{
+    let mut told = None;
+    for (module, text) in modules.iter().enumerate() {
+        judge_top(alloc, language, module, &text.top, &mut told)?;
+    }
+    Ok(told)
+}
+
+/// The least rule of the core's table that modules break, by module, line and number.
 pub fn broken_statement_rule(
     alloc: Global,
     modules: &[Module],
 ) -> Result<Option<BrokenRule>, AllocError>
     ensures { IfOk result (λ told. seen told
-        ≡ least_from None (spec.statement_phase (modules_view modules.now))) }
+        ≡ least_from None (narrow.statement_phase (modules_view modules.now))) }
 {
-    let mut told = None;
-    for (module, text) in modules.iter().enumerate() {
-        judge_top(alloc, module, &text.top, &mut told)?;
-    }
-    Ok(told)
+    broken_statement_rule_in(alloc, &Language::Core, modules)
 }

@@ -86,7 +86,7 @@ const IN_GROUPING: &[Allowed] = &[
     Allowed(Keyword::Reference, Count::AtMostOne),
 ];
 
-const IN_CASE: &[Allowed] = &[
+pub(crate) const IN_CASE: &[Allowed] = &[
     Allowed(Keyword::Uses, Count::Any),
     Allowed(Keyword::Container, Count::Any),
     Allowed(Keyword::Leaf, Count::Any),
@@ -98,7 +98,7 @@ const IN_CASE: &[Allowed] = &[
     Allowed(Keyword::Reference, Count::AtMostOne),
 ];
 
-const IN_AUGMENT: &[Allowed] = &[
+pub(crate) const IN_AUGMENT: &[Allowed] = &[
     Allowed(Keyword::Case, Count::Any),
     Allowed(Keyword::Uses, Count::Any),
     Allowed(Keyword::Container, Count::Any),
@@ -111,7 +111,7 @@ const IN_AUGMENT: &[Allowed] = &[
     Allowed(Keyword::Reference, Count::AtMostOne),
 ];
 
-const IN_CONTAINER: &[Allowed] = &[
+pub(crate) const IN_CONTAINER: &[Allowed] = &[
     Allowed(Keyword::Presence, Count::AtMostOne),
     Allowed(Keyword::Config, Count::AtMostOne),
     Allowed(Keyword::Typedef, Count::Any),
@@ -127,7 +127,7 @@ const IN_CONTAINER: &[Allowed] = &[
     Allowed(Keyword::Reference, Count::AtMostOne),
 ];
 
-const IN_LEAF: &[Allowed] = &[
+pub(crate) const IN_LEAF: &[Allowed] = &[
     Allowed(Keyword::Type, Count::One),
     Allowed(Keyword::Units, Count::AtMostOne),
     Allowed(Keyword::Default, Count::AtMostOne),
@@ -138,7 +138,7 @@ const IN_LEAF: &[Allowed] = &[
     Allowed(Keyword::Reference, Count::AtMostOne),
 ];
 
-const IN_LEAF_LIST: &[Allowed] = &[
+pub(crate) const IN_LEAF_LIST: &[Allowed] = &[
     Allowed(Keyword::Type, Count::One),
     Allowed(Keyword::Units, Count::AtMostOne),
     Allowed(Keyword::Default, Count::Any),
@@ -151,7 +151,7 @@ const IN_LEAF_LIST: &[Allowed] = &[
     Allowed(Keyword::Reference, Count::AtMostOne),
 ];
 
-const IN_LIST: &[Allowed] = &[
+pub(crate) const IN_LIST: &[Allowed] = &[
     Allowed(Keyword::Key, Count::AtMostOne),
     Allowed(Keyword::Unique, Count::Any),
     Allowed(Keyword::Config, Count::AtMostOne),
@@ -171,7 +171,7 @@ const IN_LIST: &[Allowed] = &[
     Allowed(Keyword::Reference, Count::AtMostOne),
 ];
 
-const IN_CHOICE: &[Allowed] = &[
+pub(crate) const IN_CHOICE: &[Allowed] = &[
     Allowed(Keyword::Default, Count::AtMostOne),
     Allowed(Keyword::Config, Count::AtMostOne),
     Allowed(Keyword::Mandatory, Count::AtMostOne),
@@ -186,14 +186,14 @@ const IN_CHOICE: &[Allowed] = &[
     Allowed(Keyword::Reference, Count::AtMostOne),
 ];
 
-const IN_USES: &[Allowed] = &[
+pub(crate) const IN_USES: &[Allowed] = &[
     Allowed(Keyword::Refine, Count::Any),
     Allowed(Keyword::Status, Count::AtMostOne),
     Allowed(Keyword::Description, Count::AtMostOne),
     Allowed(Keyword::Reference, Count::AtMostOne),
 ];
 
-const IN_REFINE: &[Allowed] = &[
+pub(crate) const IN_REFINE: &[Allowed] = &[
     Allowed(Keyword::Default, Count::Any),
     Allowed(Keyword::Mandatory, Count::AtMostOne),
     Allowed(Keyword::Presence, Count::AtMostOne),
@@ -223,21 +223,21 @@ const IN_RANGE: &[Allowed] = &[
     Allowed(Keyword::Reference, Count::AtMostOne),
 ];
 
-const IN_ENUM: &[Allowed] = &[
+pub(crate) const IN_ENUM: &[Allowed] = &[
     Allowed(Keyword::Value, Count::AtMostOne),
     Allowed(Keyword::Status, Count::AtMostOne),
     Allowed(Keyword::Description, Count::AtMostOne),
     Allowed(Keyword::Reference, Count::AtMostOne),
 ];
 
-const IN_BIT: &[Allowed] = &[
+pub(crate) const IN_BIT: &[Allowed] = &[
     Allowed(Keyword::Position, Count::AtMostOne),
     Allowed(Keyword::Status, Count::AtMostOne),
     Allowed(Keyword::Description, Count::AtMostOne),
     Allowed(Keyword::Reference, Count::AtMostOne),
 ];
 
-const IN_IDENTITY: &[Allowed] = &[
+pub(crate) const IN_IDENTITY: &[Allowed] = &[
     Allowed(Keyword::Base, Count::Any),
     Allowed(Keyword::Status, Count::AtMostOne),
     Allowed(Keyword::Description, Count::AtMostOne),

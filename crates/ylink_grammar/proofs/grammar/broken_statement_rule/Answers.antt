@@ -1,9 +1,11 @@
-use Rattle.std.proofs.Common.{arith}
-use Rattle.ylink_grammar.specs.BreakView.{seen}
-use Rattle.ylink_grammar.proofs.GrammarLemmas.{judged_module}
+use Rattle.std.proofs.Common.{None, ap, ◌∙◌}
+use Rattle.std.proofs.lemmas.Result.{IfOk-weaker}
+use Rattle.yspec.specs.schema.Breaks.{least_from}
+use Rattle.yspec_wide.proofs.CoreLemmas.{phase_alike}
+use Rattle.ytext.specs.View.{modules_view}
 use Rattle.ylink_grammar.proofs.grammar.broken_statement_rule.Goals as goal
 
-pub loop-module-preserved : goal.loop-module-preserved
-loop-module-preserved c =
-    judged_module c.args.modules.now c.loop-module.module c.index-modules-module.result (seen c.loop-module.told) (seen c.judge_top.new.told) _
-    (omega arith) c.index-modules-module.is c.in_ok-judge_top.ensures c.loop-module.invariant
+pub returns : goal.returns
+returns c =
+    IfOk-weaker c.broken_statement_rule_in.result _ _
+    (λ told is. is ∙ ap (least_from None) (phase_alike (modules_view c.args.modules.now))) c.broken_statement_rule_in.ensures

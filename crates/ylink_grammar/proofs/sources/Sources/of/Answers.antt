@@ -1,39 +1,14 @@
-use Rattle.std.proofs.Common.{◌+◌, drop, arith}
-use Rattle.std.proofs.lemmas.List.{at_drop_all}
-use Rattle.yspec.specs.linking.Source.{sources_of}
-use Rattle.ytext.specs.View.{view, modules_view}
-use Rattle.ybase_preorder.specs.View.{slots_in}
-use Rattle.ybase_preorder.proofs.LayoutLemmas.{shown}
-use Rattle.ylink_grammar.specs.SourceView.{source_view, whole_rows}
-use Rattle.ylink_grammar.proofs.SourceLemmas.{next_module, all_modules, modules_view_at}
-use Rattle.ylink_grammar.proofs.WholeLemmas.{then_more, no_more}
+use Rattle.std.proofs.Common.{◌∙◌}
+use Rattle.std.proofs.lemmas.Result.{IfOk-weaker}
+use Rattle.yspec_wide.proofs.CoreLemmas.{kept_of_all_alike}
+use Rattle.ytext.specs.View.{modules_view}
+use Rattle.ylink_grammar.proofs.WholeLemmas.{wholes_alike}
 use Rattle.ylink_grammar.proofs.sources.Sources.of.Goals as goal
-
-pub loop-home-preserved : goal.loop-home-preserved
-loop-home-preserved c =
-    let ms = c.args.modules.now in
-    let i = c.loop-home.home in
-    let m = c.index-modules-home.result in (
-      next_module ms i m c.loop-home.table c.add_statement.new.table _
-          (omega arith) c.index-modules-home.is c.in_ok-add_statement.ensures.listed c.loop-home.invariant.0,
-      then_more (whole_rows c.loop-home.table) (whole_rows c.add_statement.new.table) _ (view m.top) (modules_view (drop i ms)) (modules_view (drop (i + 1) ms))
-          (modules_view_at ms i m (omega arith) c.index-modules-home.is) c.in_ok-add_statement.ensures.whole c.loop-home.invariant.1,
-    )
-
-pub invariant_of-result : goal.invariant_of-result
-invariant_of-result c = record {
-  laid_out =
-      (shown source_view (sources_of (modules_view c.args.modules.now)) (slots_in c.loop-home.table)
-      (all_modules c.args.modules.now c.loop-home.home c.loop-home.table _ (omega arith) c.loop-home.invariant.0)).1;
-}
 
 pub returns-clause-numbered : goal.returns-clause-numbered
 returns-clause-numbered c =
-    (shown source_view (sources_of (modules_view c.args.modules.now)) (slots_in c.loop-home.table)
-    (all_modules c.args.modules.now c.loop-home.home c.loop-home.table _ (omega arith) c.loop-home.invariant.0)).0
+    IfOk-weaker c.of_in.result _ _ (λ sources is. is ∙ kept_of_all_alike (modules_view c.args.modules.now)) c.of_in.ensures.numbered
 
 pub returns-clause-whole : goal.returns-clause-whole
 returns-clause-whole c =
-    let ms = c.args.modules.now in
-    let i = c.loop-home.home in
-    no_more (whole_rows c.loop-home.table) _ (modules_view (drop i ms)) (at_drop_all modules_view ms i (omega arith)) c.loop-home.invariant.1
+    IfOk-weaker c.of_in.result _ _ (λ sources is. is ∙ wholes_alike (modules_view c.args.modules.now)) c.of_in.ensures.whole

@@ -1,0 +1,10 @@
+-- Keywords of a language as the specification's.
+use Rattle.yspec_wide.specs.Words as spec
+use Rattle.ybase_words.specs.KeywordView.{keyword_view}
+use Rattle.ylink_grammar.specs.declared.word.Word.{Word}
+use Rattle.ylink_grammar.specs.declared.word.Word.TheVariants as words
+
+abbrev pub word_view : Word → spec.Word
+word_view (words.Known k) = spec.known (keyword_view k)
+word_view words.Feature = spec.feature_word
+word_view words.IfFeature = spec.if_feature_word

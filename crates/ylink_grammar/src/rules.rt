@@ -1,0 +1,329 @@
+//! The table of statements by language and version (RFC 7950, 1.1 and 7.20; RFC 6020, 7 and 12).
+
+ghost use Rattle.std.specs.Prelude.{◌≡◌, IfNone, IfSome, map};
+ghost use Rattle.yspec.specs.linking.Table as spec;
+ghost use Rattle.yspec_wide.specs.Language.{yang_1, yang_1_1};
+ghost use Rattle.yspec_wide.specs.Words.{known};
+ghost use Rattle.yspec_wide.specs.Table as wide;
+ghost use Rattle.yspec_wide.specs.Table.{rule_before};
+ghost use Rattle.ybase_words.specs.KeywordView.{keyword_view};
+ghost use Rattle.ylink_conditions.specs.View.{version_view};
+ghost use Rattle.ylink_grammar.specs.Counts.{needs, needs_of_word};
+ghost use Rattle.ylink_grammar.specs.LanguageView.{language_view};
+ghost use Rattle.ylink_grammar.specs.TableView.{allowed_views, rule_view, wide_rule_view};
+ghost use Rattle.ylink_grammar.specs.WordView.{word_view};
+
+use crate::form::{Form, WideForm};
+use crate::language::Language;
+use crate::table::{
+    Allowed, Count, IN_AUGMENT, IN_BIT, IN_CASE, IN_CHOICE, IN_CONTAINER, IN_ENUM, IN_IDENTITY,
+    IN_LEAF, IN_LEAF_LIST, IN_LIST, IN_REFINE, IN_USES, Rule, needs_of, rule_of,
+};
+use crate::word::Word;
+use ybase_words::Keyword;
+use ylink_conditions::YangVersion;
+
+/// What a statement may have in a language: an argument of a form, and substatements, of those ahead of the core's and behind
+/// them any number.
+#[derive(Clone, Copy)]
+pub(crate) struct WideRule {
+    pub form: WideForm,
+    pub ahead: &'static [Word],
+    pub substatements: &'static [Allowed],
+    pub behind: &'static [Word],
+}
+
+// `yang-version` may be missing.
+const IN_MODULE_OF_ANY_VERSION: &[Allowed] = &[
+    Allowed(Keyword::YangVersion, Count::AtMostOne),
+    Allowed(Keyword::Namespace, Count::One),
+    Allowed(Keyword::Prefix, Count::One),
+    Allowed(Keyword::Import, Count::Any),
+    Allowed(Keyword::Organization, Count::AtMostOne),
+    Allowed(Keyword::Contact, Count::AtMostOne),
+    Allowed(Keyword::Revision, Count::Any),
+    Allowed(Keyword::Extension, Count::Any),
+    Allowed(Keyword::Augment, Count::Any),
+    Allowed(Keyword::Identity, Count::Any),
+    Allowed(Keyword::Description, Count::AtMostOne),
+    Allowed(Keyword::Reference, Count::AtMostOne),
+    Allowed(Keyword::Typedef, Count::Any),
+    Allowed(Keyword::Grouping, Count::Any),
+    Allowed(Keyword::Uses, Count::Any),
+    Allowed(Keyword::Container, Count::Any),
+    Allowed(Keyword::Leaf, Count::Any),
+    Allowed(Keyword::LeafList, Count::Any),
+    Allowed(Keyword::List, Count::Any),
+    Allowed(Keyword::Choice, Count::Any),
+];
+
+const IN_FEATURE: &[Allowed] = &[
+    Allowed(Keyword::Status, Count::AtMostOne),
+    Allowed(Keyword::Description, Count::AtMostOne),
+    Allowed(Keyword::Reference, Count::AtMostOne),
+];
+
+const IN_IMPORT_OF_YANG_1: &[Allowed] = &[
+    Allowed(Keyword::Prefix, Count::One),
+    Allowed(Keyword::RevisionDate, Count::AtMostOne),
+];
+
+const IN_LEAF_LIST_OF_YANG_1: &[Allowed] = &[
+    Allowed(Keyword::Type, Count::One),
+    Allowed(Keyword::Units, Count::AtMostOne),
+    Allowed(Keyword::Config, Count::AtMostOne),
+    Allowed(Keyword::OrderedBy, Count::AtMostOne),
+    Allowed(Keyword::MinElements, Count::AtMostOne),
+    Allowed(Keyword::MaxElements, Count::AtMostOne),
+    Allowed(Keyword::Status, Count::AtMostOne),
+    Allowed(Keyword::Description, Count::AtMostOne),
+    Allowed(Keyword::Reference, Count::AtMostOne),
+];
+
+const IN_CHOICE_OF_YANG_1: &[Allowed] = &[
+    Allowed(Keyword::Default, Count::AtMostOne),
+    Allowed(Keyword::Config, Count::AtMostOne),
+    Allowed(Keyword::Mandatory, Count::AtMostOne),
+    Allowed(Keyword::Case, Count::Any),
+    Allowed(Keyword::Container, Count::Any),
+    Allowed(Keyword::Leaf, Count::Any),
+    Allowed(Keyword::LeafList, Count::Any),
+    Allowed(Keyword::List, Count::Any),
+    Allowed(Keyword::Status, Count::AtMostOne),
+    Allowed(Keyword::Description, Count::AtMostOne),
+    Allowed(Keyword::Reference, Count::AtMostOne),
+];
+
+const IN_REFINE_OF_YANG_1: &[Allowed] = &[
+    Allowed(Keyword::Default, Count::AtMostOne),
+    Allowed(Keyword::Mandatory, Count::AtMostOne),
+    Allowed(Keyword::Presence, Count::AtMostOne),
+    Allowed(Keyword::Config, Count::AtMostOne),
+    Allowed(Keyword::MinElements, Count::AtMostOne),
+    Allowed(Keyword::MaxElements, Count::AtMostOne),
+    Allowed(Keyword::Description, Count::AtMostOne),
+    Allowed(Keyword::Reference, Count::AtMostOne),
+];
+
+const IN_TYPE_OF_YANG_1: &[Allowed] = &[
+    Allowed(Keyword::FractionDigits, Count::AtMostOne),
+    Allowed(Keyword::Range, Count::AtMostOne),
+    Allowed(Keyword::Length, Count::AtMostOne),
+    Allowed(Keyword::Enum, Count::Any),
+    Allowed(Keyword::Bit, Count::Any),
+    Allowed(Keyword::Path, Count::AtMostOne),
+    Allowed(Keyword::RequireInstance, Count::AtMostOne),
+    Allowed(Keyword::Type, Count::Any),
+    Allowed(Keyword::Base, Count::AtMostOne),
+];
+
+const IN_IDENTITY_OF_YANG_1: &[Allowed] = &[
+    Allowed(Keyword::Base, Count::AtMostOne),
+    Allowed(Keyword::Status, Count::AtMostOne),
+    Allowed(Keyword::Description, Count::AtMostOne),
+    Allowed(Keyword::Reference, Count::AtMostOne),
+];
+
+/// A row of the core's table as one of a language.
+fn rule_as_before(rule: Rule) -> WideRule
+    ensures rule { wide_rule_view result ≡ rule_before (rule_view rule) }
+    ensures needs { needs (allowed_views result.substatements.now)
+        ≡ needs (rule_view rule).substatements }
+{
+    WideRule {
+        form: WideForm::AsBefore(rule.form),
+        ahead: &[],
+        substatements: rule.substatements,
+        behind: &[],
+    }
+}
+
+/// The row of a keyword of the core in YANG 1.1 with features, where it is another than the core's.
+fn row_of_yang_1_1(keyword: Keyword) -> Option<WideRule>
+    ensures some { IfSome result
+        (λ rule. wide_rule_view rule ≡ wide.wide_rule yang_1_1 (known (keyword_view keyword))) }
+    ensures needs { IfSome result (λ rule. needs (allowed_views rule.substatements.now)
+        ≡ needs (spec.rule_of (keyword_view keyword)).substatements) }
+    ensures none { IfNone result (wide.wide_rule yang_1_1 (known (keyword_view keyword))
+        ≡ rule_before (spec.rule_of (keyword_view keyword))) }
+{
+    let (form, substatements, behind): (WideForm, &'static [Allowed], &'static [Word]) =
+        match keyword {
+            Keyword::Module => (
+                WideForm::AsBefore(Form::Identifier),
+                IN_MODULE_OF_ANY_VERSION,
+                &[Word::Feature],
+            ),
+            Keyword::Prefix => (WideForm::Prefix, &[], &[]),
+            Keyword::Container => (
+                WideForm::AsBefore(Form::Identifier),
+                IN_CONTAINER,
+                &[Word::IfFeature],
+            ),
+            Keyword::Leaf => (
+                WideForm::AsBefore(Form::Identifier),
+                IN_LEAF,
+                &[Word::IfFeature],
+            ),
+            Keyword::LeafList => (
+                WideForm::AsBefore(Form::Identifier),
+                IN_LEAF_LIST,
+                &[Word::IfFeature],
+            ),
+            Keyword::List => (
+                WideForm::AsBefore(Form::Identifier),
+                IN_LIST,
+                &[Word::IfFeature],
+            ),
+            Keyword::Choice => (
+                WideForm::AsBefore(Form::Identifier),
+                IN_CHOICE,
+                &[Word::IfFeature],
+            ),
+            Keyword::Case => (
+                WideForm::AsBefore(Form::Identifier),
+                IN_CASE,
+                &[Word::IfFeature],
+            ),
+            Keyword::Uses => (WideForm::AsBefore(Form::Name), IN_USES, &[Word::IfFeature]),
+            Keyword::Refine => (
+                WideForm::AsBefore(Form::RelativePath),
+                IN_REFINE,
+                &[Word::IfFeature],
+            ),
+            Keyword::Augment => (
+                WideForm::AsBefore(Form::AbsolutePath),
+                IN_AUGMENT,
+                &[Word::IfFeature],
+            ),
+            Keyword::Identity => (
+                WideForm::AsBefore(Form::Identifier),
+                IN_IDENTITY,
+                &[Word::IfFeature],
+            ),
+            Keyword::Enum => (WideForm::AsBefore(Form::Any), IN_ENUM, &[Word::IfFeature]),
+            Keyword::Bit => (
+                WideForm::AsBefore(Form::Identifier),
+                IN_BIT,
+                &[Word::IfFeature],
+            ),
+            _ => return None,
+        };
+    Some(WideRule {
+        form,
+        ahead: &[],
+        substatements,
+        behind,
+    })
+}
+
+fn rule_of_yang_1_1(keyword: Keyword) -> WideRule
+    ensures rule { wide_rule_view result ≡ wide.wide_rule yang_1_1 (known (keyword_view keyword)) }
+    ensures needs { needs (allowed_views result.substatements.now)
+        ≡ needs (spec.rule_of (keyword_view keyword)).substatements }
+{
+    match row_of_yang_1_1(keyword) {
+        Some(rule) => rule,
+        None => rule_as_before(rule_of(keyword)),
+    }
+}
+
+/// The row of a keyword of the core in YANG 1 with features, where that lacks something of YANG 1.1 (RFC 7950, 1.1).
+fn row_of_yang_1(keyword: Keyword) -> Option<WideRule>
+    ensures some { IfSome result
+        (λ rule. wide_rule_view rule ≡ wide.wide_rule yang_1 (known (keyword_view keyword))) }
+    ensures needs { IfSome result (λ rule. needs (allowed_views rule.substatements.now)
+        ≡ needs (spec.rule_of (keyword_view keyword)).substatements) }
+    ensures none { IfNone result (wide.wide_rule yang_1 (known (keyword_view keyword))
+        ≡ wide.wide_rule yang_1_1 (known (keyword_view keyword))) }
+{
+    let (form, substatements, behind): (Form, &'static [Allowed], &'static [Word]) = match keyword {
+        Keyword::Import => (Form::Identifier, IN_IMPORT_OF_YANG_1, &[]),
+        Keyword::LeafList => (Form::Identifier, IN_LEAF_LIST_OF_YANG_1, &[Word::IfFeature]),
+        Keyword::Choice => (Form::Identifier, IN_CHOICE_OF_YANG_1, &[Word::IfFeature]),
+        Keyword::Refine => (Form::RelativePath, IN_REFINE_OF_YANG_1, &[]),
+        Keyword::Type => (Form::Name, IN_TYPE_OF_YANG_1, &[]),
+        Keyword::Identity => (Form::Identifier, IN_IDENTITY_OF_YANG_1, &[]),
+        Keyword::Enum => (Form::Any, IN_ENUM, &[]),
+        Keyword::Bit => (Form::Identifier, IN_BIT, &[]),
+        _ => return None,
+    };
+    Some(WideRule {
+        form: WideForm::AsBefore(form),
+        ahead: &[],
+        substatements,
+        behind,
+    })
+}
+
+fn rule_of_yang_1(keyword: Keyword) -> WideRule
+    ensures rule { wide_rule_view result ≡ wide.wide_rule yang_1 (known (keyword_view keyword)) }
+    ensures needs { needs (allowed_views result.substatements.now)
+        ≡ needs (spec.rule_of (keyword_view keyword)).substatements }
+{
+    match row_of_yang_1(keyword) {
+        Some(rule) => rule,
+        None => rule_of_yang_1_1(keyword),
+    }
+}
+
+fn core_rule(word: Word) -> WideRule
+    ensures rule { wide_rule_view result ≡ wide.core_rule (word_view word) }
+    ensures needs { needs (allowed_views result.substatements.now) ≡ needs_of_word (word_view word) }
+{
+    match word {
+        Word::Known(keyword) => rule_as_before(rule_of(keyword)),
+        Word::Feature | Word::IfFeature => WideRule {
+            form: WideForm::AsBefore(Form::Any),
+            ahead: &[],
+            substatements: &[],
+            behind: &[],
+        },
+    }
+}
+
+fn wide_rule(version: YangVersion, word: Word) -> WideRule
+    ensures rule { wide_rule_view result ≡ wide.wide_rule (version_view version) (word_view word) }
+    ensures needs { needs (allowed_views result.substatements.now) ≡ needs_of_word (word_view word) }
+{
+    match word {
+        Word::Known(keyword) => match version {
+            YangVersion::Yang1 => rule_of_yang_1(keyword),
+            YangVersion::Yang1_1 => rule_of_yang_1_1(keyword),
+        },
+        Word::Feature => WideRule {
+            form: WideForm::AsBefore(Form::Identifier),
+            ahead: &[Word::IfFeature],
+            substatements: IN_FEATURE,
+            behind: &[],
+        },
+        Word::IfFeature => WideRule {
+            form: WideForm::IfFeature,
+            ahead: &[],
+            substatements: &[],
+            behind: &[],
+        },
+    }
+}
+
+/// The row of the table of a keyword, by language and version.
+pub(crate) fn rule_in(language: &Language, version: YangVersion, word: Word) -> WideRule
+    ensures rule { wide_rule_view result
+        ≡ wide.rule_in (language_view language.now) (version_view version) (word_view word) }
+    ensures needs { needs (allowed_views result.substatements.now) ≡ needs_of_word (word_view word) }
+{
+    match language {
+        Language::Core => core_rule(word),
+        Language::Rfc(_) => wide_rule(version, word),
+    }
+}
+
+/// The keywords that a statement must have below it, once each, whatever the language.
+pub(crate) fn needs_in(word: Word) -> &'static [Keyword]
+    ensures { map keyword_view result.now ≡ needs_of_word (word_view word) }
+{
+    match word {
+        Word::Known(keyword) => needs_of(keyword),
+        Word::Feature | Word::IfFeature => &[],
+    }
+}

@@ -1,0 +1,72 @@
+//! The keywords of a language (RFC 7950, 7.20.1 and 7.20.2).
+
+ghost use Rattle.std.specs.Prelude.{◌≡◌, None, option_map};
+ghost use Rattle.yspec_wide.specs.Words as spec;
+ghost use Rattle.ylink_grammar.specs.LanguageView.{language_view};
+ghost use Rattle.ylink_grammar.specs.WordView.{word_view};
+
+use crate::language::Language;
+use ybase_words::Keyword;
+
+/// A keyword of a language: one of the core, or one that features bring.
+#[derive(Clone, Copy, Debug)]
+pub enum Word {
+    Known(Keyword),
+    Feature,
+    IfFeature,
+}
+
+/// How many there are.
+pub(crate) const WORDS: usize = 50;
+
+impl Word {
+    ghost use Rattle.std.specs.Prelude.{◌≡◌};
+    ghost use Rattle.yspec_wide.specs.Words as spec;
+    ghost use Rattle.ylink_grammar.specs.WordView.{word_view};
+
+    /// Its number, from 0.
+    pub fn number(self) -> u8
+        ensures { result ≡ spec.word_number (word_view self) }
+    {
+        match self {
+            Word::Known(keyword) => keyword.number(),
+            Word::Feature => 48,
+            Word::IfFeature => 49,
+        }
+    }
+
+    /// Whether two are the same.
+    pub fn is(self, other: Word) -> bool
+        ensures { result ≡ spec.same_word (word_view self) (word_view other) }
+    {
+        self.number() == other.number()
+    }
+}
+
+/// The keyword that a text is besides those of the core, if it is one.
+fn added_word(text: &str) -> Option<Word>
+    ensures { option_map word_view result ≡ spec.or_added None text.now }
+{
+    match text {
+        "feature" => Some(Word::Feature),
+        "if-feature" => Some(Word::IfFeature),
+        _ => None,
+    }
+}
+
+/// The keyword of a language that a text is, if it is one.
+pub fn word_named(language: &Language, text: &str) -> Option<Word>
+    ensures { option_map word_view result
+        ≡ spec.word_named (language_view language.now) text.now }
+{
+    match language {
+        Language::Core => match Keyword::named(text) {
+            Some(keyword) => Some(Word::Known(keyword)),
+            None => None,
+        },
+        Language::Rfc(_) => match Keyword::named(text) {
+            Some(keyword) => Some(Word::Known(keyword)),
+            None => added_word(text),
+        },
+    }
+}
