@@ -1,5 +1,5 @@
 -- Forms by version.
-use Rattle.std.proofs.Common.{◌≡◌, Bool, true, false, not, refl, sym, ap}
+use Rattle.std.proofs.Common.{◌≡◌, not, refl}
 use Rattle.std.specs.Prelude.{◌&&◌}
 use Rattle.std.proofs.Math.Bool.{and-true}
 use Rattle.yspec.specs.text.Text.{Text}

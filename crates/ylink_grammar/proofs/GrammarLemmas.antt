@@ -1,5 +1,5 @@
 -- How many statements of each keyword there are.
-use Rattle.std.proofs.Common.{◌≡◌, ℕ, ◌+◌, ◌<◌, ◌≤◌, Bool, true, false, cond, List, [], ◌∷◌, ◌++◌, length, get_or, drop, Option, Some, None, arith, refl, sym, ap, ap₂, subst, ◌∙◌}
+use Rattle.std.proofs.Common.{◌≡◌, ℕ, ◌+◌, ◌<◌, ◌≤◌, Bool, true, false, cond, List, [], ◌∷◌, length, get_or, drop, Option, arith, refl, sym, ap, ap₂, ◌∙◌}
 use Rattle.std.specs.Prelude.{◌||◌, ◌&&◌, not, count_by, slice_set}
 use Rattle.std.specs.Option.{option_map_or}
 use Rattle.std.proofs.Math.Bool.{and-false, and-true}
@@ -10,8 +10,8 @@ use Rattle.std.proofs.lemmas.Option.{slice_get_within, unwrap_or-slice_get}
 use Rattle.std.specs.List.{list_any}
 use Rattle.std.proofs.lemmas.List.Sums.{sum_by-cons}
 use Rattle.std.proofs.lemmas.List.{get_or-set_same, get_or-set_other}
-use Rattle.yspec.specs.Forest.{Forest, end, node, row}
-use Rattle.yspec.specs.text.Text.{Text, is_text}
+use Rattle.yspec.specs.Forest.{Forest, end, row}
+use Rattle.yspec.specs.text.Text.{is_text}
 use Rattle.yspec.specs.text.Statement.{Statement}
 use Rattle.yspec.specs.linking.StatementBreaks.{has_keyword, is_miscounted, is_missing_version, occurrences}
 use Rattle.yspec.specs.linking.Keyword.{Keyword, same_keyword, keyword_named, keyword_number, keywords}

@@ -3,7 +3,7 @@ use Rattle.std.proofs.Common.{◌≡◌, ℕ, ◌+◌, ◌<◌, Bool, true, fals
 use Rattle.std.specs.Prelude.{not, if◌then◌else◌}
 use Rattle.std.specs.Option.{option_map_or}
 use Rattle.std.proofs.lemmas.List.{at_drop_more}
-use Rattle.yspec.specs.Forest.{Forest, end, node}
+use Rattle.yspec.specs.Forest.{Forest, node}
 use Rattle.yspec.specs.text.Text.{Text}
 use Rattle.yspec.specs.text.Statement.{Statement}
 use Rattle.yspec.specs.linking.Keyword.{extension_word, module_word}
@@ -12,7 +12,7 @@ use Rattle.yspec.specs.schema.Breaks.{Break, broken, least_from, when}
 use Rattle.yspec.proofs.SchemaProofs.LeastLemmas.{least_of_both}
 use Rattle.yspec_wide.specs.Language.{Language, YangVersion}
 use Rattle.yspec_wide.specs.Words.{Word, known, same_word, word_named}
-use Rattle.yspec_wide.specs.Table.{Allowed, Rule, rule_in}
+use Rattle.yspec_wide.specs.Table.{Allowed, rule_in}
 use Rattle.yspec_wide.specs.StatementBreaks.{has_word, is_allowed, own_breaks, known_breaks, named_breaks, breaks_at, substatements_of, row_breaks_in, top_breaks, breaks_in_from, version_in}
 use Rattle.ytext.specs.View.{view, row_view, modules_view}
 use Rattle.ytext.specs.declared.statement.Stmt.{Stmt}

@@ -13,6 +13,7 @@ ghost use Rattle.ylink_grammar.specs.LanguageView.{language_view};
 ghost use Rattle.ylink_grammar.specs.TableView.{allowed_views, rule_view, wide_rule_view};
 ghost use Rattle.ylink_grammar.specs.WordView.{word_view};
 
+use crate::form::WideForm::AsBefore;
 use crate::form::{Form, WideForm};
 use crate::language::Language;
 use crate::table::{
@@ -56,6 +57,10 @@ const IN_MODULE_OF_ANY_VERSION: &[Allowed] = &[
     Allowed(Keyword::List, Count::Any),
     Allowed(Keyword::Choice, Count::Any),
 ];
+
+const FEATURES: &[Word] = &[Word::Feature];
+
+const CONDITIONS: &[Word] = &[Word::IfFeature];
 
 const IN_FEATURE: &[Allowed] = &[
     Allowed(Keyword::Status, Count::AtMostOne),
@@ -131,7 +136,7 @@ fn rule_as_before(rule: Rule) -> WideRule
         ≡ needs (rule_view rule).substatements }
 {
     WideRule {
-        form: WideForm::AsBefore(rule.form),
+        form: AsBefore(rule.form),
         ahead: &[],
         substatements: rule.substatements,
         behind: &[],
@@ -150,63 +155,23 @@ fn row_of_yang_1_1(keyword: Keyword) -> Option<WideRule>
     let (form, substatements, behind): (WideForm, &'static [Allowed], &'static [Word]) =
         match keyword {
             Keyword::Module => (
-                WideForm::AsBefore(Form::Identifier),
+                AsBefore(Form::Identifier),
                 IN_MODULE_OF_ANY_VERSION,
-                &[Word::Feature],
+                FEATURES,
             ),
             Keyword::Prefix => (WideForm::Prefix, &[], &[]),
-            Keyword::Container => (
-                WideForm::AsBefore(Form::Identifier),
-                IN_CONTAINER,
-                &[Word::IfFeature],
-            ),
-            Keyword::Leaf => (
-                WideForm::AsBefore(Form::Identifier),
-                IN_LEAF,
-                &[Word::IfFeature],
-            ),
-            Keyword::LeafList => (
-                WideForm::AsBefore(Form::Identifier),
-                IN_LEAF_LIST,
-                &[Word::IfFeature],
-            ),
-            Keyword::List => (
-                WideForm::AsBefore(Form::Identifier),
-                IN_LIST,
-                &[Word::IfFeature],
-            ),
-            Keyword::Choice => (
-                WideForm::AsBefore(Form::Identifier),
-                IN_CHOICE,
-                &[Word::IfFeature],
-            ),
-            Keyword::Case => (
-                WideForm::AsBefore(Form::Identifier),
-                IN_CASE,
-                &[Word::IfFeature],
-            ),
-            Keyword::Uses => (WideForm::AsBefore(Form::Name), IN_USES, &[Word::IfFeature]),
-            Keyword::Refine => (
-                WideForm::AsBefore(Form::RelativePath),
-                IN_REFINE,
-                &[Word::IfFeature],
-            ),
-            Keyword::Augment => (
-                WideForm::AsBefore(Form::AbsolutePath),
-                IN_AUGMENT,
-                &[Word::IfFeature],
-            ),
-            Keyword::Identity => (
-                WideForm::AsBefore(Form::Identifier),
-                IN_IDENTITY,
-                &[Word::IfFeature],
-            ),
-            Keyword::Enum => (WideForm::AsBefore(Form::Any), IN_ENUM, &[Word::IfFeature]),
-            Keyword::Bit => (
-                WideForm::AsBefore(Form::Identifier),
-                IN_BIT,
-                &[Word::IfFeature],
-            ),
+            Keyword::Container => (AsBefore(Form::Identifier), IN_CONTAINER, CONDITIONS),
+            Keyword::Leaf => (AsBefore(Form::Identifier), IN_LEAF, CONDITIONS),
+            Keyword::LeafList => (AsBefore(Form::Identifier), IN_LEAF_LIST, CONDITIONS),
+            Keyword::List => (AsBefore(Form::Identifier), IN_LIST, CONDITIONS),
+            Keyword::Choice => (AsBefore(Form::Identifier), IN_CHOICE, CONDITIONS),
+            Keyword::Case => (AsBefore(Form::Identifier), IN_CASE, CONDITIONS),
+            Keyword::Uses => (AsBefore(Form::Name), IN_USES, CONDITIONS),
+            Keyword::Refine => (AsBefore(Form::RelativePath), IN_REFINE, CONDITIONS),
+            Keyword::Augment => (AsBefore(Form::AbsolutePath), IN_AUGMENT, CONDITIONS),
+            Keyword::Identity => (AsBefore(Form::Identifier), IN_IDENTITY, CONDITIONS),
+            Keyword::Enum => (AsBefore(Form::Any), IN_ENUM, CONDITIONS),
+            Keyword::Bit => (AsBefore(Form::Identifier), IN_BIT, CONDITIONS),
             _ => return None,
         };
     Some(WideRule {
@@ -239,8 +204,8 @@ fn row_of_yang_1(keyword: Keyword) -> Option<WideRule>
 {
     let (form, substatements, behind): (Form, &'static [Allowed], &'static [Word]) = match keyword {
         Keyword::Import => (Form::Identifier, IN_IMPORT_OF_YANG_1, &[]),
-        Keyword::LeafList => (Form::Identifier, IN_LEAF_LIST_OF_YANG_1, &[Word::IfFeature]),
-        Keyword::Choice => (Form::Identifier, IN_CHOICE_OF_YANG_1, &[Word::IfFeature]),
+        Keyword::LeafList => (Form::Identifier, IN_LEAF_LIST_OF_YANG_1, CONDITIONS),
+        Keyword::Choice => (Form::Identifier, IN_CHOICE_OF_YANG_1, CONDITIONS),
         Keyword::Refine => (Form::RelativePath, IN_REFINE_OF_YANG_1, &[]),
         Keyword::Type => (Form::Name, IN_TYPE_OF_YANG_1, &[]),
         Keyword::Identity => (Form::Identifier, IN_IDENTITY_OF_YANG_1, &[]),
@@ -249,7 +214,7 @@ fn row_of_yang_1(keyword: Keyword) -> Option<WideRule>
         _ => return None,
     };
     Some(WideRule {
-        form: WideForm::AsBefore(form),
+        form: AsBefore(form),
         ahead: &[],
         substatements,
         behind,
@@ -274,7 +239,7 @@ fn core_rule(word: Word) -> WideRule
     match word {
         Word::Known(keyword) => rule_as_before(rule_of(keyword)),
         Word::Feature | Word::IfFeature => WideRule {
-            form: WideForm::AsBefore(Form::Any),
+            form: AsBefore(Form::Any),
             ahead: &[],
             substatements: &[],
             behind: &[],
@@ -292,8 +257,8 @@ fn wide_rule(version: YangVersion, word: Word) -> WideRule
             YangVersion::Yang1_1 => rule_of_yang_1_1(keyword),
         },
         Word::Feature => WideRule {
-            form: WideForm::AsBefore(Form::Identifier),
-            ahead: &[Word::IfFeature],
+            form: AsBefore(Form::Identifier),
+            ahead: CONDITIONS,
             substatements: IN_FEATURE,
             behind: &[],
         },
