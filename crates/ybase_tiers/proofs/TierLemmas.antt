@@ -1,0 +1,91 @@
+-- The same where each tier has 512 places.
+use Rattle.std.proofs.Common.{◌≡◌, ℕ, zero, suc, ◌+◌, ◌-◌, ◌*◌, ◌<◌, ◌≤◌, Some, List, [], ◌∷◌, ◌++◌, length, get_or, set, drop, take, refl, sym, ap, ap₂, ◌∙◌, arith, cond, ltb, insert, remove, slice_get, take-append-drop, length-drop, length-take-le}
+use Rattle.std.proofs.lemmas.Bool.{le-ltb, lt-ltb, ltb-true}
+use Rattle.std.proofs.lemmas.Option.{get_or_from_slice_get, slice_get-get_or}
+use Rattle.ybase_tiers.proofs.ListLemmas.{all_at}
+use Rattle.ybase_tiers.specs.Order.{from_start, in_order, in_ring, index}
+use Rattle.ybase_tiers.proofs.OrderLemmas.{Within, changed, get_in_order, index_past, index_up, inserted, length_in_order, opened, pushed_back, pushed_front, removed, set_in_order, up}
+
+pub up_is : (tier i : ℕ) → up 512 tier i ≡ tier * 512 + i
+up_is zero i = omega arith
+up_is (suc tier) i = omega (arith, up_is tier i)
+
+up_end : (tiers : ℕ) → up 512 tiers 0 ≡ tiers * 512
+up_end tiers = omega (arith, up_is tiers 0)
+
+-- where the one at a place of a tier stands
+pub stands_at : (starts : List ℕ) (tier o place : ℕ) → place ≡ tier * 512 + o → o < 512 → tier < length starts
+    → index 512 starts place ≡ tier * 512 + in_ring 512 (get_or starts tier 0) o
+stands_at starts tier o place is o_in t_in =
+    ap (index 512 starts) (is ∙ sym (up_is tier o)) ∙ (index_up 512 tier starts o o_in t_in ∙ up_is tier (in_ring 512 (get_or starts tier 0) o))
+
+module _ (starts : List ℕ) (tier o place start : ℕ) (is : place ≡ tier * 512 + o) (o_in : o < 512) (t_in : tier < length starts) (held : get_or starts tier 0 ≡ start) where
+  from : index 512 starts place ≡ tier * 512 + in_ring 512 start o
+  from = stands_at starts tier o place is o_in t_in ∙ ap (λ s. tier * 512 + in_ring 512 s o) held
+
+  pub stands_before : start + o < 512 → index 512 starts place ≡ tier * 512 + (start + o)
+  stands_before less = from ∙ ap (λ b. tier * 512 + cond b (start + o) (start + o - 512)) (lt-ltb (start + o) 512 less)
+
+  pub stands_behind : 512 ≤ start + o → index 512 starts place ≡ tier * 512 + (start + o) - 512
+  stands_behind past =
+      let to : tier * 512 + (start + o - 512) ≡ tier * 512 + (start + o) - 512 = omega (arith, past) in
+      from ∙ (ap (λ b. tier * 512 + cond b (start + o) (start + o - 512)) (le-ltb (start + o) 512 past) ∙ to)
+
+pub stands_past : (starts : List ℕ) (place : ℕ) → length starts * 512 ≤ place → index 512 starts place ≡ place
+stands_past starts place past = index_past 512 starts place (omega (arith, up_end (length starts), past))
+
+module _ {X : Type 0} (starts : List ℕ) (places : List X) (full : length starts * 512 ≤ length places) where
+  whole : up 512 (length starts) 0 ≤ length places
+  whole = omega (arith, up_end (length starts), full)
+
+  pub set_is : (p i : ℕ) (x : X) → Within 512 starts → i ≡ index 512 starts p → in_order 512 starts (set places i x) ≡ set (in_order 512 starts places) p x
+  set_is p i x within is = ap (λ k. in_order 512 starts (set places k x)) is ∙ sym (set_in_order 512 starts places p x within whole)
+
+  pub get_is : (p i : ℕ) (x : X) → Within 512 starts → i ≡ index 512 starts p → p < length places → i < length places → slice_get places i ≡ Some x
+      → slice_get (in_order 512 starts places) p ≡ Some x
+  get_is p i x within is p_in i_in held =
+      slice_get-get_or (in_order 512 starts places) p x (omega (arith, length_in_order 512 starts places, p_in))
+      ∙ ap Some (get_in_order 512 starts places p x within whole ∙ (ap (λ k. get_or places k x) (sym is) ∙ get_or_from_slice_get places i x x held))
+
+  pub read_is : (p i : ℕ) (x : X) → Within 512 starts → i ≡ index 512 starts p → x ≡ get_or places i x → x ≡ get_or (in_order 512 starts places) p x
+  read_is p i x within is held = held ∙ (ap (λ k. get_or places k x) is ∙ sym (get_in_order 512 starts places p x within whole))
+
+  pub front_is : (tier last start : ℕ) (x out : X) → tier < length starts → (last + 1 < 512 → start ≡ last + 1) → (last + 1 ≡ 512 → start ≡ 0) → last < 512
+      → get_or starts tier 0 ≡ start → slice_get places (tier * 512 + last) ≡ Some out
+      → insert (in_order 512 (set starts tier last) (set places (tier * 512 + last) x)) (tier * 512 + 512) out ≡ insert (in_order 512 starts places) (tier * 512) x
+  front_is tier last start x out t_in inner outer l_in is held =
+      let from : up 512 tier 0 ≡ tier * 512 = up_end tier in
+      ap₂ (λ j k. insert (in_order 512 (set starts tier last) (set places j x)) k out) (sym (up_is tier last)) (sym (up_is tier 512))
+      ∙ (changed 512 tier starts places last last x out 0 512 (omega arith) (omega arith) l_in t_in whole
+      (ap (λ k. get_or places k out) (up_is tier last) ∙ get_or_from_slice_get places (tier * 512 + last) out out held)
+      (λ ring long here. pushed_front 512 last start ring x out inner outer l_in long here ∙ ap (λ s. insert (from_start s ring) 0 x) (sym is))
+      ∙ ap (λ k. insert (in_order 512 starts places) k x) from)
+
+  pub back_is : (tier start next : ℕ) (x out : X) → tier < length starts → (start + 1 < 512 → next ≡ start + 1) → (start + 1 ≡ 512 → next ≡ 0) → start < 512
+      → get_or starts tier 0 ≡ start → slice_get places (tier * 512 + start) ≡ Some out
+      → insert (in_order 512 (set starts tier next) (set places (tier * 512 + start) x)) (tier * 512) out ≡ insert (in_order 512 starts places) (tier * 512 + 512) x
+  back_is tier start next x out t_in inner outer s_in is held =
+      ap₂ (λ j k. insert (in_order 512 (set starts tier next) (set places j x)) k out) (sym (up_is tier start)) (sym (up_end tier))
+      ∙ (changed 512 tier starts places next start x out 512 0 (omega arith) (omega arith) s_in t_in whole
+      (ap (λ k. get_or places k out) (up_is tier start) ∙ get_or_from_slice_get places (tier * 512 + start) out out held)
+      (λ ring long here. pushed_back 512 start next ring x out inner outer s_in long here ∙ ap (λ s. insert (from_start s ring) 512 x) (sym is))
+      ∙ ap (λ k. insert (in_order 512 starts places) k x) (up_is tier 512))
+
+  pub inserted_is : (p : ℕ) (y : X) → length starts * 512 ≤ p → p ≤ length places → in_order 512 starts (insert places p y) ≡ insert (in_order 512 starts places) p y
+  inserted_is p y from within = inserted 512 starts places p y (omega (arith, up_end (length starts), from)) within
+
+  pub removed_is : (p : ℕ) → length starts * 512 ≤ p → p ≤ length places → in_order 512 starts (remove places p) ≡ remove (in_order 512 starts places) p
+  removed_is p from within = removed 512 starts places p (omega (arith, up_end (length starts), from)) within
+
+-- the last tier as an open run
+pub opened_is : {X : Type 0} (starts : List ℕ) (start : ℕ) (places : List X) → length starts * 512 + 512 ≡ length places
+    → in_order 512 (starts ++ start ∷ []) places ≡ in_order 512 starts (take (length starts * 512) places ++ from_start start (drop (length starts * 512) places))
+opened_is starts start places all =
+    let end = length starts * 512 in
+    ap (in_order 512 (starts ++ start ∷ [])) (sym (take-append-drop end places))
+    ∙ opened 512 starts start (take end places) (drop end places) (length-take-le end places (omega (arith, all)) ∙ sym (up_end (length starts))) (omega (arith, length-drop end places, all))
+
+-- a start that is read
+pub start_within : (starts : List ℕ) (tier start : ℕ) → Within 512 starts → tier < length starts → start ≡ get_or starts tier start → start < 512
+start_within starts tier start within t_in held =
+    let less = ltb-true (get_or starts tier start) 512 (all_at (λ s. ltb s 512) starts tier start within t_in) in omega (arith, less, held)
