@@ -1,3 +1,4 @@
+pub mod HalfLemmas
 pub mod ListLemmas
 pub mod OrderLemmas
 pub mod TierLemmas

@@ -1,8 +1,7 @@
-use Rattle.std.proofs.Common.{arith, rules, of_calls, true, false, ◌≡◌, ◌∙◌, ◌+◌, ◌-◌, ◌/◌, length, refl, sym, subst}
-use Rattle.core.proofs.slice.Searches.{Halved, after_passing, at_failing, at_read, failed, passed, unhalved}
-use Rattle.core.proofs.iter.Next.{called}
-use Rattle.core.proofs.slice.Orders.{answers_next}
+use Rattle.std.proofs.Common.{arith, rules, of_calls, true, false, ◌≡◌, ◌∙◌, ◌+◌, ◌-◌, ◌/◌, length, refl, sym}
+use Rattle.std.proofs.lemmas.Fn.{called}
 use Rattle.ybase_tiers.specs.Tiers.{tiered}
+use Rattle.ybase_tiers.proofs.HalfLemmas.{after_passing, answers_next, at_failing, failed, held, passed, unhalved}
 use Rattle.ybase_tiers.proofs.OrderLemmas.{length_in_order}
 use Rattle.ybase_tiers.proofs.tiers.Tiers.partition_point.Goals as goal
 
@@ -16,7 +15,7 @@ pub loop-size-init : goal.loop-size-init
 loop-size-init g c =
     let row = tiered c.args.self.now in
     let long : length row ≡ c.len-size.result = length_in_order 512 c.args.self.now.starts.items c.args.self.now.places.items ∙ sym (c.len-size.ensures ∙ c.args.self.now.places.ok.0) in
-    (omega arith, omega (arith, long), search of_calls, λ p h. (h, subst (Halved p row 0) long (unhalved p row)))
+    (omega arith, omega (arith, long), search of_calls, λ p h. (h, unhalved p row c.len-size.result (omega (arith, long))))
 
 pub loop-size-preserved-then-pred : goal.loop-size-preserved-then-pred
 loop-size-preserved-then-pred g c =
@@ -31,7 +30,7 @@ loop-size-preserved-then-pred g c =
       omega arith,
       search of_calls,
       λ p h. let i = c.loop-size.invariant.3 p h in let n = answers_next g.P.FnMut _ _ _ _ _ k i.0 in
-        (n.1, passed p row base size mid (size - size / 2) (omega arith) i.1 (at_read row (λ y. p y ≡ true) mid c.at.result.now (omega (arith, long)) c.at.ensures (sym n.0))),
+        (n.1, passed p row base size mid (size - size / 2) (omega arith) i.1 (held p row (λ y. p y ≡ true) mid c.at.result.now (omega (arith, long)) c.at.ensures (sym n.0))),
     )
 
 pub loop-size-preserved : goal.loop-size-preserved
@@ -47,7 +46,7 @@ loop-size-preserved g c =
       omega arith,
       search of_calls,
       λ p h. let i = c.loop-size.invariant.3 p h in let n = answers_next g.P.FnMut _ _ _ _ _ k i.0 in
-        (n.1, failed p row base size mid (size - size / 2) (omega arith) i.1 (at_read row (λ y. p y ≡ false) mid c.at.result.now (omega (arith, long)) c.at.ensures (sym n.0))),
+        (n.1, failed p row base size mid (size - size / 2) (omega arith) i.1 (held p row (λ y. p y ≡ false) mid c.at.result.now (omega (arith, long)) c.at.ensures (sym n.0))),
     )
 
 pub returns-then-pred-2 : goal.returns-then-pred-2
@@ -60,7 +59,7 @@ returns-then-pred-2 g c =
     record {
       bound = omega (arith, long);
       partitioned = λ p h. let i = c.loop-size.invariant.3 p h in let n = answers_next g.P.FnMut _ _ _ _ _ k i.0 in
-        after_passing p row base size (omega arith) (omega (arith, long)) i.1 (at_read row (λ y. p y ≡ true) base c.at-2.result.now (omega (arith, long)) c.at-2.ensures (sym n.0));
+        after_passing p row base size (omega arith) (omega (arith, long)) i.1 (held p row (λ y. p y ≡ true) base c.at-2.result.now (omega (arith, long)) c.at-2.ensures (sym n.0));
     }
 
 pub returns : goal.returns
@@ -73,5 +72,5 @@ returns g c =
     record {
       bound = omega (arith, long);
       partitioned = λ p h. let i = c.loop-size.invariant.3 p h in let n = answers_next g.P.FnMut _ _ _ _ _ k i.0 in
-        at_failing p row base size i.1 (at_read row (λ y. p y ≡ false) base c.at-2.result.now (omega (arith, long)) c.at-2.ensures (sym n.0));
+        at_failing p row base size i.1 (held p row (λ y. p y ≡ false) base c.at-2.result.now (omega (arith, long)) c.at-2.ensures (sym n.0));
     }

@@ -1,8 +1,8 @@
 use Rattle.std.proofs.Common.{Bool, ◌+◌, ◌≤◌, ◌<◌}
-use Rattle.core.proofs.slice.Searches.{Halved}
 use Rattle.std.specs.Fn.{ComputesKey}
 use denote.Param.Always.{always_mut}
 use Rattle.ybase_tiers.specs.Tiers.{count_of, tiered}
+use Rattle.ybase_tiers.proofs.HalfLemmas.{Halved}
 use Rattle.ybase_tiers.proofs.tiers.Tiers.partition_point.Given as goal
 
 abbrev pub invariant-loop-size : goal.invariant-loop-size

@@ -27,12 +27,12 @@ returns-then-place-end g c =
       room = c.shift_back.ensures.room ∙ (c.pass_back-first.ensures.room ∙ (c.remove_open-first.ensures.room ∙ c.open_tier.ensures.room));
     }
 
-pub remove_open-requires-clause-within : goal.remove_open-requires-clause-within
-remove_open-requires-clause-within g c =
+pub remove_open-first-requires-clause-within : goal.remove_open-first-requires-clause-within
+remove_open-first-requires-clause-within g c =
     omega (arith, c.open_tier.ensures.run, c.len-end.ensures, c.open_tier.new.self.starts.ok.0)
 
-pub remove_open-requires-else-place-end-clause-within : goal.remove_open-requires-else-place-end-clause-within
-remove_open-requires-else-place-end-clause-within g c =
+pub remove_open-requires-clause-within : goal.remove_open-requires-clause-within
+remove_open-requires-clause-within g c =
     let old = c.args.self.now in omega (arith, c.requires, length_in_order 512 old.starts.items old.places.items, c.open_tier.ensures.len)
 
 pub open_tier-requires : goal.open_tier-requires

@@ -6,3 +6,8 @@ pub returns-then-len-capacity-clause-room : goal.returns-then-len-capacity-claus
 returns-then-len-capacity-clause-room g c =
     let old = c.args.self.now in
     omega (arith, c.if-len-capacity.true, c.len-len.ensures, c.capacity.ensures, old.places.ok.0, length_in_order 512 old.starts.items old.places.items)
+
+pub returns-clause-room : goal.returns-clause-room
+returns-clause-room g c =
+    let places = c.reserve_exact-2.new.self in
+    omega (arith, length_in_order 512 c.reserve_exact.new.self.items places.items, places.ok.0, c.reserve_exact-2.ensures.len, c.in_ok-reserve_exact-2.ensures.ok, c.len-len.ensures, c.max.ensures, c.in-Some.ensures)
