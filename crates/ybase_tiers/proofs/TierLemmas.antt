@@ -1,5 +1,5 @@
 -- The same where each tier has 512 places.
-use Rattle.std.proofs.Common.{◌≡◌, ℕ, zero, suc, ◌+◌, ◌-◌, ◌*◌, ◌<◌, ◌≤◌, Some, List, [], ◌∷◌, ◌++◌, length, get_or, set, drop, take, refl, sym, ap, ap₂, ◌∙◌, arith, cond, ltb, insert, remove, slice_get, take-append-drop, length-drop, length-take-le}
+use Rattle.std.proofs.Common.{◌≡◌, ℕ, zero, suc, ◌+◌, ◌-◌, ◌*◌, ◌<◌, ◌≤◌, Some, List, [], ◌∷◌, ◌++◌, length, get_or, set, drop, take, sym, ap, ap₂, ◌∙◌, arith, cond, ltb, insert, remove, slice_get, take-append-drop, length-drop, length-take-le}
 use Rattle.std.proofs.lemmas.Bool.{le-ltb, lt-ltb, ltb-true}
 use Rattle.std.proofs.lemmas.Option.{get_or_from_slice_get, slice_get-get_or}
 use Rattle.ybase_tiers.proofs.ListLemmas.{all_at}

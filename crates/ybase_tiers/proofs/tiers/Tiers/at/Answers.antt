@@ -1,4 +1,3 @@
-use Rattle.std.proofs.Common.{◌≡◌}
 use Rattle.ybase_tiers.proofs.TierLemmas.{read_is}
 use Rattle.ybase_tiers.proofs.tiers.Tiers.at.Goals as goal
 

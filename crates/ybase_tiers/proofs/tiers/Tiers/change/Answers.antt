@@ -1,4 +1,4 @@
-use Rattle.std.proofs.Common.{arith, ◌≡◌, ◌+◌, ◌*◌, ◌<◌, length, length-set, ltb, refl}
+use Rattle.std.proofs.Common.{arith, ◌+◌, ◌*◌, length, length-set, ltb, refl}
 use Rattle.std.proofs.lemmas.Bool.{lt-ltb}
 use Rattle.std.proofs.lemmas.Option.{slice_get_read}
 use Rattle.ybase_tiers.proofs.ListLemmas.{all_set}

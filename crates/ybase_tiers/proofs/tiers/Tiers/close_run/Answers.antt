@@ -1,4 +1,4 @@
-use Rattle.std.proofs.Common.{arith, ◌≡◌, ◌∙◌, ap, ltb, refl}
+use Rattle.std.proofs.Common.{◌∙◌, ap, ltb, refl}
 use Rattle.ybase_tiers.specs.Order.{in_order}
 use Rattle.ybase_tiers.proofs.ListLemmas.{all_push}
 use Rattle.ybase_tiers.proofs.OrderLemmas.{closed}

@@ -1,4 +1,4 @@
-use Rattle.std.proofs.Common.{arith, ◌≡◌, ◌<◌, length, refl, sym}
+use Rattle.std.proofs.Common.{arith, length, refl, sym}
 use Rattle.std.proofs.lemmas.Option.{slice_get_past, slice_get_read}
 use Rattle.ybase_tiers.specs.Tiers.{tiered}
 use Rattle.ybase_tiers.proofs.OrderLemmas.{length_in_order}

@@ -1,4 +1,4 @@
-use Rattle.std.proofs.Common.{arith, ◌≡◌, ◌+◌, ◌*◌, ◌/◌, ◌%◌, ◌<◌, get_or, length, sym}
+use Rattle.std.proofs.Common.{arith, ◌≡◌, ◌/◌, ◌%◌, ◌<◌, get_or, length, sym}
 use Rattle.std.proofs.lemmas.List.{get_or_read}
 use Rattle.ybase_tiers.proofs.TierLemmas.{stands_before, stands_behind, stands_past}
 use Rattle.ybase_tiers.proofs.tiers.Tiers.index_of.Goals as goal

@@ -1,4 +1,4 @@
-use Rattle.std.proofs.Common.{arith, ◌≡◌, ◌∙◌, ◌+◌, ◌*◌, ◌/◌, ap, insert, length, sym}
+use Rattle.std.proofs.Common.{arith, ◌≡◌, ◌∙◌, ◌*◌, ap, insert}
 use Rattle.ybase_tiers.specs.Tiers.{end_of, tiered}
 use Rattle.ybase_tiers.proofs.OrderLemmas.{length_in_order}
 use Rattle.ybase_tiers.proofs.tiers.Tiers.insert.Goals as goal

@@ -1,4 +1,4 @@
-use Rattle.std.proofs.Common.{arith, rules, of_calls, true, false, ◌≡◌, ◌∙◌, ◌+◌, ◌-◌, ◌/◌, length, refl, sym}
+use Rattle.std.proofs.Common.{arith, of_calls, true, false, ◌≡◌, ◌∙◌, ◌+◌, ◌-◌, ◌/◌, length, refl, sym}
 use Rattle.std.proofs.lemmas.Fn.{called}
 use Rattle.ybase_tiers.specs.Tiers.{tiered}
 use Rattle.ybase_tiers.proofs.HalfLemmas.{after_passing, answers_next, at_failing, failed, held, passed, unhalved}
@@ -24,13 +24,12 @@ loop-size-preserved-then-pred g c =
     let base = c.loop-size.base in
     let size = c.loop-size.size in
     let mid = base + size / 2 in
-    let k = called g.P.FnMut c.if-pred.ensures refl in
-    (
+    let k = called g.P.FnMut c.if-pred.ensures refl in (
       omega arith,
       omega arith,
       search of_calls,
       λ p h. let i = c.loop-size.invariant.3 p h in let n = answers_next g.P.FnMut _ _ _ _ _ k i.0 in
-        (n.1, passed p row base size mid (size - size / 2) (omega arith) i.1 (held p row (λ y. p y ≡ true) mid c.at.result.now (omega (arith, long)) c.at.ensures (sym n.0))),
+          (n.1, passed p row base size mid (size - size / 2) (omega arith) i.1 (held p row (λ y. p y ≡ true) mid c.at.result.now (omega (arith, long)) c.at.ensures (sym n.0))),
     )
 
 pub loop-size-preserved : goal.loop-size-preserved
@@ -40,13 +39,12 @@ loop-size-preserved g c =
     let base = c.loop-size.base in
     let size = c.loop-size.size in
     let mid = base + size / 2 in
-    let k = called g.P.FnMut c.if-pred.ensures refl in
-    (
+    let k = called g.P.FnMut c.if-pred.ensures refl in (
       omega arith,
       omega arith,
       search of_calls,
       λ p h. let i = c.loop-size.invariant.3 p h in let n = answers_next g.P.FnMut _ _ _ _ _ k i.0 in
-        (n.1, failed p row base size mid (size - size / 2) (omega arith) i.1 (held p row (λ y. p y ≡ false) mid c.at.result.now (omega (arith, long)) c.at.ensures (sym n.0))),
+          (n.1, failed p row base size mid (size - size / 2) (omega arith) i.1 (held p row (λ y. p y ≡ false) mid c.at.result.now (omega (arith, long)) c.at.ensures (sym n.0))),
     )
 
 pub returns-then-pred-2 : goal.returns-then-pred-2
@@ -59,7 +57,7 @@ returns-then-pred-2 g c =
     record {
       bound = omega (arith, long);
       partitioned = λ p h. let i = c.loop-size.invariant.3 p h in let n = answers_next g.P.FnMut _ _ _ _ _ k i.0 in
-        after_passing p row base size (omega arith) (omega (arith, long)) i.1 (held p row (λ y. p y ≡ true) base c.at-2.result.now (omega (arith, long)) c.at-2.ensures (sym n.0));
+          after_passing p row base size (omega arith) (omega (arith, long)) i.1 (held p row (λ y. p y ≡ true) base c.at-2.result.now (omega (arith, long)) c.at-2.ensures (sym n.0));
     }
 
 pub returns : goal.returns
@@ -72,5 +70,5 @@ returns g c =
     record {
       bound = omega (arith, long);
       partitioned = λ p h. let i = c.loop-size.invariant.3 p h in let n = answers_next g.P.FnMut _ _ _ _ _ k i.0 in
-        at_failing p row base size i.1 (held p row (λ y. p y ≡ false) base c.at-2.result.now (omega (arith, long)) c.at-2.ensures (sym n.0));
+          at_failing p row base size i.1 (held p row (λ y. p y ≡ false) base c.at-2.result.now (omega (arith, long)) c.at-2.ensures (sym n.0));
     }

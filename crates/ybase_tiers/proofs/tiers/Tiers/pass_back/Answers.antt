@@ -11,7 +11,7 @@ loop-passed-preserved g c =
     let from : at * 512 + 512 ≡ (tiers - now.passed) * 512 = omega (arith, c.loop-passed-test.true) in
     record {
       row = ap (λ k. insert (tiered c.push_back-carried.new.self) k c.push_back-carried.result) to
-      ∙ (c.push_back-carried.ensures.row ∙ (ap (λ k. insert (tiered now.self) k now.carried) from ∙ now.invariant.row));
+          ∙ (c.push_back-carried.ensures.row ∙ (ap (λ k. insert (tiered now.self) k now.carried) from ∙ now.invariant.row));
       len = c.push_back-carried.ensures.len ∙ now.invariant.len;
       tiers = c.push_back-carried.ensures.tiers ∙ now.invariant.tiers;
       room = c.push_back-carried.ensures.room ∙ now.invariant.room;

@@ -1,4 +1,4 @@
-use Rattle.std.proofs.Common.{◌≡◌, ◌∙◌, ◌+◌, ◌*◌, ap₂, get_or, insert, length, sym}
+use Rattle.std.proofs.Common.{◌∙◌, ◌+◌, ◌*◌, ap₂, insert, sym}
 use Rattle.std.proofs.lemmas.List.{get_or_read}
 use Rattle.ybase_tiers.specs.Order.{in_order}
 use Rattle.ybase_tiers.proofs.TierLemmas.{front_is}

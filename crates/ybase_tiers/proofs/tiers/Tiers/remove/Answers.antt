@@ -1,4 +1,4 @@
-use Rattle.std.proofs.Common.{arith, Some, ◌≡◌, ◌≤◌, ◌∙◌, ◌+◌, ◌*◌, ◌/◌, ap, insert, length, remove, slice_get, sym}
+use Rattle.std.proofs.Common.{arith, ◌≡◌, ◌≤◌, ◌∙◌, ◌*◌, ap, insert, length, remove, slice_get, sym}
 use Rattle.ybase_tiers.specs.Tiers.{end_of, tiered}
 use Rattle.ybase_tiers.proofs.ListLemmas.{put_back, put_in, taken_out}
 use Rattle.ybase_tiers.proofs.OrderLemmas.{length_in_order}

@@ -1,4 +1,4 @@
-use Rattle.std.proofs.Common.{arith, ◌≡◌, ◌∙◌, ap, length, refl, remove, sym}
+use Rattle.std.proofs.Common.{arith, ◌∙◌, ap, length, refl, sym}
 use Rattle.std.proofs.lemmas.Option.{slice_get_read}
 use Rattle.ybase_tiers.specs.Order.{in_order}
 use Rattle.ybase_tiers.proofs.TierLemmas.{get_is, removed_is, stands_past}

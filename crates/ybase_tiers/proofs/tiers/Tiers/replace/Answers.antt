@@ -1,4 +1,4 @@
-use Rattle.std.proofs.Common.{arith, ◌≡◌, ◌<◌, length, refl}
+use Rattle.std.proofs.Common.{length, refl}
 use Rattle.std.proofs.lemmas.Option.{slice_get_read}
 use Rattle.ybase_tiers.proofs.TierLemmas.{get_is, set_is}
 use Rattle.ybase_tiers.proofs.tiers.Tiers.replace.Goals as goal

@@ -14,8 +14,8 @@ loop-passed-preserved g c =
     let from : at + 1 ≡ end - now.passed = omega (arith, test) in
     record {
       row = ap (λ xs. insert xs (end - (now.passed + 1)) c.replace-carried.result) c.replace-carried.ensures.row
-      ∙ (ap (λ k. insert (slice_set row at now.carried) k c.replace-carried.result) to
-      ∙ (stepped_back row at now.carried c.replace-carried.result c.replace-carried.ensures.value ∙ (ap (λ k. insert row k now.carried) from ∙ now.invariant.row)));
+          ∙ (ap (λ k. insert (slice_set row at now.carried) k c.replace-carried.result) to
+          ∙ (stepped_back row at now.carried c.replace-carried.result c.replace-carried.ensures.value ∙ (ap (λ k. insert row k now.carried) from ∙ now.invariant.row)));
       len = c.replace-carried.ensures.len ∙ now.invariant.len;
       room = c.replace-carried.ensures.room ∙ now.invariant.room;
     }

@@ -8,7 +8,7 @@ loop-at-preserved g c =
     let now = c.loop-at in
     record {
       row = ap (λ row. insert row (now.at + 1) c.replace-carried.result) c.replace-carried.ensures.row
-      ∙ (stepped_on (tiered now.self) now.at now.carried c.replace-carried.result c.replace-carried.ensures.value ∙ now.invariant.row);
+          ∙ (stepped_on (tiered now.self) now.at now.carried c.replace-carried.result c.replace-carried.ensures.value ∙ now.invariant.row);
       len = c.replace-carried.ensures.len ∙ now.invariant.len;
       tiers = c.replace-carried.ensures.tiers ∙ now.invariant.tiers;
       room = c.replace-carried.ensures.room ∙ now.invariant.room;
