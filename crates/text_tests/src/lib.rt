@@ -1,4 +1,4 @@
-//! Tests of module text, of conditions, and of what is said of codes, lines, words and names.
+//! Tests of module text, of conditions, of the rules of the table, and of what is said of codes, lines, words and names.
 #![tactic(auto)]
 
 #[cfg(test)]
@@ -15,3 +15,5 @@ mod scans;
 mod sinks;
 #[cfg(test)]
 mod spelled;
+#[cfg(test)]
+mod statements;

@@ -1,0 +1,151 @@
+//! Which rules of the table of statements modules break, by language.
+
+use crate::spelled::unmarked;
+use std::alloc::Global;
+use ylink_grammar::{BrokenRule, Language, Sources, broken_statement_rule_in};
+use ytext::{Module, parse};
+
+// A module of a body, behind its version where it states one.
+fn module_of(alloc: Global, head: &str, body: &str) -> Option<Module> {
+    let text = format!(in alloc; "module m {{ {head} namespace urn:m; prefix m; {body} }}").ok()?;
+    parse(alloc, text.as_bytes()).ok()
+}
+
+// Whether a rule is the one that is wanted, as `C4 2`: its code and its line; `-` for none.
+fn is_told(alloc: Global, told: Option<BrokenRule>, wanted: &str) -> Option<bool> {
+    let Some(rule) = told else {
+        return Some(wanted == "-");
+    };
+    let shown = format!(in alloc; "{} {}", rule.code, rule.line).ok()?;
+    Some(shown.as_str() == wanted)
+}
+
+// Whether a row holds: the body of a module, and what is told of it. None where memory ran out.
+fn holds(alloc: Global, language: &Language, head: &str, row: &str) -> Option<bool> {
+    let row = unmarked(alloc, row).ok()?;
+    let (body, wanted) = row.as_str().split_once(" => ")?;
+    let mut modules = Vec::new(alloc);
+    modules.push(module_of(alloc, head, body)?).ok()?;
+    let told = broken_statement_rule_in(alloc, language, &modules).ok()?;
+    is_told(alloc, told, wanted)
+}
+
+// YANG 1.1, and no features.
+#[test]
+fn of_the_core(rt: HostRuntime) {
+    let rows = "leaf l { type string; } => -
+leaf xml-l { type string; } => -
+leaf-list l { type string; default x; } => -
+¶feature a; => C1 2
+leaf l { type string; ¶if-feature a; } => C1 2
+¶leaf l { } => C2 2
+¶leaf a/b { type string; } => C3 2";
+    for row in rows.lines() {
+        assert!(rt;
+            holds(rt.alloc(), &Language::Core, "yang-version 1.1;", row) == Some(true),
+            "{row:?}"
+        );
+    }
+    for head in ["", "yang-version 1;", "yang-version 1.2;"] {
+        assert!(rt;
+            holds(rt.alloc(), &Language::Core, head, "¶ => C4 1") == Some(true),
+            "{head:?}"
+        );
+    }
+}
+
+// What features bring, of modules of YANG 1.1 (RFC 7950, 7.20.1, 7.20.2 and 14).
+#[test]
+fn of_yang_1_1(rt: HostRuntime) {
+    let language = Language::Rfc(Vec::new(rt.alloc()));
+    let rows = "feature a; feature b { if-feature a; status current; } => -
+feature b { if-feature \"not a\"; if-feature c; description d; } => -
+leaf l { if-feature \"a or b\"; type string; } => -
+leaf-list l { type string; default x; } => -
+leaf xml-l { type string; } => -
+identity i { if-feature a; base b; base c; } => -
+leaf l { type enumeration { enum p { if-feature a; } } } => -
+choice c { choice d { if-feature a; } } => -
+uses g { if-feature a; refine l { if-feature b; default x; default y; } } => -
+augment /m:c { if-feature a; leaf l { type string; } } => -
+import n { prefix n; description d; reference r; } => -
+¶feature; => C3 2
+¶feature a:b; => C3 2
+leaf l { type string; ¶if-feature \"a or\"; } => C3 2
+leaf l { type string; ¶if-feature; } => C3 2
+¶feature a { status current; status current; } => C2 2
+feature a { ¶type string; } => C1 2
+typedef t { type string; ¶if-feature a; } => C1 2
+container c { ¶feature a; } => C1 2
+leaf l { type string { ¶if-feature a; } } => C1 2
+leaf l { type string; if-feature a { ¶if-feature a; } } => C1 2
+¶must a; => C1 2";
+    for row in rows.lines() {
+        assert!(rt;
+            holds(rt.alloc(), &language, "yang-version 1.1;", row) == Some(true),
+            "{row:?}"
+        );
+    }
+}
+
+// What YANG 1 lacks of it (RFC 7950, 1.1; RFC 6020, 7.18.2 and 12).
+#[test]
+fn of_yang_1(rt: HostRuntime) {
+    let language = Language::Rfc(Vec::new(rt.alloc()));
+    let rows = "feature a; leaf l { if-feature a; type string; } => -
+import n { prefix xml; } => -
+leaf l { type string; ¶if-feature \"a or b\"; } => C3 2
+¶leaf XMl-a { type string; } => C3 2
+import n { prefix n; ¶description d; } => C1 2
+identity i { base a; ¶if-feature a; } => C1 2
+¶identity i { base a; base b; } => C2 2
+leaf l { type enumeration { enum p { ¶if-feature a; } } } => C1 2
+leaf l { type bits { bit p { ¶if-feature a; } } } => C1 2
+uses g { refine l { ¶if-feature a; } } => C1 2
+uses g { ¶refine l { default x; default y; } } => C2 2
+leaf-list l { type string; ¶default x; } => C1 2
+choice c { ¶choice d; } => C1 2
+leaf l { ¶type identityref { base a; base b; } } => C2 2";
+    for row in rows.lines() {
+        for head in ["", "yang-version 1;"] {
+            assert!(rt;
+                holds(rt.alloc(), &language, head, row) == Some(true),
+                "{row:?}"
+            );
+        }
+    }
+}
+
+// A `yang-version` that names none, and two of it (RFC 7950, 7.1.2).
+#[test]
+fn versions(rt: HostRuntime) {
+    let language = Language::Rfc(Vec::new(rt.alloc()));
+    let rows = "¶yang-version 1.2; => C4 2
+¶yang-version 1.0; => C4 2
+¶yang-version 1; yang-version 1; => C2 1";
+    for row in rows.lines() {
+        assert!(rt;
+            holds(rt.alloc(), &language, "", row) == Some(true),
+            "{row:?}"
+        );
+    }
+}
+
+// How many statements of a module are kept.
+fn kept(alloc: Global, language: &Language, body: &str) -> Option<usize> {
+    let mut modules = Vec::new(alloc);
+    modules
+        .push(module_of(alloc, "yang-version 1.1;", body)?)
+        .ok()?;
+    let sources = Sources::of_in(alloc, language, &modules).ok()?;
+    Some(sources.slots().len())
+}
+
+// `module`, three below it, and the leaf with its type; under the core without what features bring.
+#[test]
+fn kept_statements(rt: HostRuntime) {
+    let body = "feature a { if-feature b; } leaf l { if-feature a; type string; }";
+    let language = Language::Rfc(Vec::new(rt.alloc()));
+    assert!(rt; kept(rt.alloc(), &Language::Core, body) == Some(6));
+    assert!(rt; kept(rt.alloc(), &language, body) == Some(9));
+}
