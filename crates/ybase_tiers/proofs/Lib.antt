@@ -1,4 +1,5 @@
 pub mod HalfLemmas
 pub mod ListLemmas
+pub mod MoveLemmas
 pub mod OrderLemmas
 pub mod TierLemmas

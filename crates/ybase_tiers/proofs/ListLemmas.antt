@@ -13,7 +13,7 @@ module _ {X : Type 0} where
   take_set (suc n) (x ∷ xs) zero y = refl
   take_set (suc n) (x ∷ xs) (suc i) y = ap (λ l. x ∷ l) (take_set n xs i y)
 
-  -- one in the place of another, which goes behind it, or before it
+  -- one in the place of another, which goes behind it
   step_on : (xs : List X) (p : ℕ) (x y : X) → slice_get xs p ≡ Some y → insert (set xs p x) (suc p) y ≡ insert xs p x
   step_on [] p x y at = absurd (none-some y at)
   step_on (z ∷ xs) zero x y at = ap (λ w. x ∷ (w ∷ xs)) (sym (same_Some z y at))
@@ -21,14 +21,6 @@ module _ {X : Type 0} where
 
   pub stepped_on : (xs : List X) (p : ℕ) (x y : X) → slice_get xs p ≡ Some y → insert (set xs p x) (p + 1) y ≡ insert xs p x
   stepped_on xs p x y at = let next : p + 1 ≡ suc p = omega arith in ap (λ k. insert (set xs p x) k y) next ∙ step_on xs p x y at
-
-  step_back : (xs : List X) (p : ℕ) (x y : X) → slice_get xs p ≡ Some y → insert (set xs p x) p y ≡ insert xs (suc p) x
-  step_back [] p x y at = absurd (none-some y at)
-  step_back (z ∷ xs) zero x y at = ap (λ w. w ∷ (x ∷ xs)) (sym (same_Some z y at))
-  step_back (z ∷ xs) (suc p) x y at = ap (λ l. z ∷ l) (step_back xs p x y at)
-
-  pub stepped_back : (xs : List X) (p : ℕ) (x y : X) → slice_get xs p ≡ Some y → insert (set xs p x) p y ≡ insert xs (p + 1) x
-  stepped_back xs p x y at = let next : suc p ≡ p + 1 = omega arith in step_back xs p x y at ∙ ap (λ k. insert xs k x) next
 
   pub put_back : (xs : List X) (p : ℕ) (y : X) → slice_get xs p ≡ Some y → insert (remove xs p) p y ≡ xs
   put_back [] p y at = absurd (none-some y at)

@@ -254,3 +254,22 @@ index_past size (start ∷ starts) p past =
     let on : size + (p - size) ≡ p = omega (arith, past) in
     ap (λ b. cond b (in_ring size start p) (size + index size starts (p - size))) (le-ltb p size (omega (arith, past)))
     ∙ (ap (λ k. size + k) (index_past size starts (p - size) (omega (arith, past))) ∙ on)
+
+pub index_less : (size : ℕ) (starts : List ℕ) (n p : ℕ) → Within size starts → up size (length starts) 0 ≤ n → p < n → index size starts p < n
+index_less size [] n p within full p_in = p_in
+index_less size (start ∷ starts) n p within full p_in = by (ltb p size) refl (index_less size starts (n - size) (p - size) parts.1 (omega (arith, full)))
+  where
+    parts : (ltb start size ≡ true) × (list_all (λ s. ltb s size) starts ≡ true)
+    parts = and_parts (ltb start size) (list_all (λ s. ltb s size) starts) within
+
+    at : Bool → ℕ
+    at b = cond b (in_ring size start p) (size + index size starts (p - size))
+
+    by : (b : Bool) → ltb p size ≡ b → (p - size < n - size → index size starts (p - size) < n - size) → index size (start ∷ starts) p < n
+    by true e rest =
+        let here : index size (start ∷ starts) p ≡ in_ring size start p = ap at e in
+        omega (arith, here, ring_less size start p (ltb-true start size parts.0) (ltb-true p size e), full)
+    by false e rest =
+        let there : index size (start ∷ starts) p ≡ size + index size starts (p - size) = ap at e in
+        let past = ltb-false p size e in
+        omega (arith, there, rest (omega (arith, past, p_in)), full)

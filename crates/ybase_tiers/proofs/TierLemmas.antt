@@ -4,7 +4,7 @@ use Rattle.std.proofs.lemmas.Bool.{le-ltb, lt-ltb, ltb-true}
 use Rattle.std.proofs.lemmas.Option.{get_or_from_slice_get, slice_get-get_or}
 use Rattle.ybase_tiers.proofs.ListLemmas.{all_at}
 use Rattle.ybase_tiers.specs.Order.{from_start, in_order, in_ring, index}
-use Rattle.ybase_tiers.proofs.OrderLemmas.{Within, changed, get_in_order, index_past, index_up, inserted, length_in_order, opened, pushed_back, pushed_front, removed, set_in_order, up}
+use Rattle.ybase_tiers.proofs.OrderLemmas.{Within, changed, get_in_order, index_less, index_past, index_up, inserted, length_in_order, opened, pushed_back, pushed_front, removed, set_in_order, up}
 
 pub up_is : (tier i : ℕ) → up 512 tier i ≡ tier * 512 + i
 up_is zero i = omega arith
@@ -30,6 +30,9 @@ module _ (starts : List ℕ) (tier o place start : ℕ) (is : place ≡ tier * 5
   stands_behind past =
       let to : tier * 512 + (start + o - 512) ≡ tier * 512 + (start + o) - 512 = omega (arith, past) in
       from ∙ (ap (λ b. tier * 512 + cond b (start + o) (start + o - 512)) (le-ltb (start + o) 512 past) ∙ to)
+
+pub stands_within : (starts : List ℕ) (place n : ℕ) → Within 512 starts → length starts * 512 ≤ n → place < n → index 512 starts place < n
+stands_within starts place n within full p_in = index_less 512 starts n place within (omega (arith, up_end (length starts), full)) p_in
 
 pub stands_past : (starts : List ℕ) (place : ℕ) → length starts * 512 ≤ place → index 512 starts place ≡ place
 stands_past starts place past = index_past 512 starts place (omega (arith, up_end (length starts), past))
@@ -89,3 +92,33 @@ opened_is starts start places all =
 pub start_within : (starts : List ℕ) (tier start : ℕ) → Within 512 starts → tier < length starts → start ≡ get_or starts tier start → start < 512
 start_within starts tier start within t_in held =
     let less = ltb-true (get_or starts tier start) 512 (all_at (λ s. ltb s 512) starts tier start within t_in) in omega (arith, less, held)
+
+-- those that stand one behind the other
+module _ (starts : List ℕ) (from : ℕ) where
+  pub run_past : (k : ℕ) → length starts * 512 ≤ from → index 512 starts (from + k) ≡ index 512 starts from + k
+  run_past k past = stands_past starts (from + k) (omega (arith, past)) ∙ ap (λ i. i + k) (sym (stands_past starts from past))
+
+  module _ (tier o start : ℕ) (is : from ≡ tier * 512 + o) (t_in : tier < length starts) (held : get_or starts tier 0 ≡ start) where
+    pub run_up_to_seam : (k : ℕ) → start + (o + k) < 512 → index 512 starts (from + k) ≡ index 512 starts from + k
+    run_up_to_seam k less =
+        let on : tier * 512 + (start + (o + k)) ≡ tier * 512 + (start + o) + k = omega arith in
+        stands_before starts tier (o + k) (from + k) start (omega (arith, is)) (omega (arith, less)) t_in held less
+        ∙ (on ∙ ap (λ i. i + k) (sym (stands_before starts tier o from start is (omega (arith, less)) t_in held (omega (arith, less)))))
+
+    pub run_from_seam : (k : ℕ) → 512 ≤ start + o → o + k < 512 → index 512 starts (from + k) ≡ index 512 starts from + k
+    run_from_seam k past less =
+        let on : tier * 512 + (start + (o + k)) - 512 ≡ tier * 512 + (start + o) - 512 + k = omega (arith, past) in
+        stands_behind starts tier (o + k) (from + k) start (omega (arith, is)) less t_in held (omega (arith, past))
+        ∙ (on ∙ ap (λ i. i + k) (sym (stands_behind starts tier o from start is (omega (arith, less)) t_in held past)))
+
+-- and those of them from a place on
+pub run_later : (starts : List ℕ) (from place end : ℕ) → from ≤ place → ((k : ℕ) → from + k < end → index 512 starts (from + k) ≡ index 512 starts from + k)
+    → (k : ℕ) → place + k < end → index 512 starts (place + k) ≡ index 512 starts place + k
+run_later starts from place end past run k less =
+    let skipped = place - from in
+    let there : place + k ≡ from + (skipped + k) = omega (arith, past) in
+    let here : place ≡ from + skipped = omega (arith, past) in
+    let on : index 512 starts from + (skipped + k) ≡ index 512 starts from + skipped + k = omega arith in
+    ap (index 512 starts) there
+    ∙ (run (skipped + k) (omega (arith, past, less))
+    ∙ (on ∙ ap (λ i. i + k) (sym (ap (index 512 starts) here ∙ run skipped (omega (arith, past, less))))))

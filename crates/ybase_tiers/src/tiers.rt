@@ -1,7 +1,7 @@
 //! Elements in tiers, of which all but the last are rings.
 
 ghost use Rattle.std.specs.Prelude.{◌<◌, ◌≤◌, ◌+◌, ◌-◌, ◌*◌, ◌≡◌, ◌++◌, true, ltb, length, take, drop, vec_capacity};
-ghost use Rattle.std.specs.List.{list_all};
+ghost use Rattle.std.specs.List.{insert, list_all};
 ghost use Rattle.ybase_tiers.specs.Order.{from_start};
 
 use std::alloc::{AllocError, Global};
@@ -22,7 +22,7 @@ pub struct Tiers<T> {
 }
 
 impl<T: Copy> Tiers<T> {
-    ghost use Rattle.std.specs.Prelude.{◌≡◌, ◌+◌, ◌*◌, ◌<◌, ◌≤◌, [], Some, true, false, Bool, length, slice_get, slice_index_or, slice_set, IfOk, OnOk, OnErr};
+    ghost use Rattle.std.specs.Prelude.{ℕ, ◌≡◌, ◌+◌, ◌*◌, ◌<◌, ◌≤◌, [], Some, true, false, Bool, length, slice_get, slice_index_or, slice_set, IfOk, OnOk, OnErr};
     ghost use Rattle.std.specs.Fn.{ComputesKey};
     ghost use Rattle.std.specs.List.Sorted.{IsPartitionPoint, IsPartitionedBy};
     ghost use Rattle.std.specs.List.{insert, remove};
@@ -265,8 +265,11 @@ impl<T: Copy> Tiers<T> {
         ensures room { room_of self.new ≡ room_of self.old }
     {
         let mut carried = x;
-        for at in place..end {
-            carried = self.replace(at, carried);
+        let mut at = place;
+        while at < end {
+            let next = self.run_behind(at).min(end);
+            carried = self.move_on(at, next, carried);
+            at = next;
         }
         carried
     }
@@ -280,10 +283,78 @@ impl<T: Copy> Tiers<T> {
         ensures room { room_of self.new ≡ room_of self.old }
     {
         let mut carried = x;
-        for passed in 0..end - place {
-            carried = self.replace(end - 1 - passed, carried);
+        let mut at = end;
+        while place < at {
+            let next = self.run_before(at).max(place);
+            carried = self.move_back(next, at, carried);
+            at = next;
         }
         carried
+    }
+
+    /// Up to which place those from a place on stand one behind the other.
+    fn run_behind(&self, place: usize) -> usize
+        requires { place < count_of self.now }
+        ensures more { place < result }
+        ensures run { (k : ℕ) → place + k < result → index_in self.now (place + k) ≡ index_in self.now place + k }
+    {
+        let tier = place / TIER;
+        if tier >= self.starts.len() {
+            return self.places.len();
+        }
+        let start = self.starts[tier];
+        if start + place % TIER < TIER {
+            tier * TIER + (TIER - start)
+        } else {
+            tier * TIER + TIER
+        }
+    }
+
+    /// From which place on those up to a place stand one behind the other.
+    fn run_before(&self, place: usize) -> usize
+        requires some { 0 < place }
+        requires within { place ≤ count_of self.now }
+        ensures more { result < place }
+        ensures run { (k : ℕ) → result + k < place → index_in self.now (result + k) ≡ index_in self.now result + k }
+    {
+        let tier = (place - 1) / TIER;
+        if tier >= self.starts.len() {
+            return self.starts.len() * TIER;
+        }
+        let start = self.starts[tier];
+        if start + (place - 1) % TIER < TIER {
+            tier * TIER
+        } else {
+            tier * TIER + (TIER - start)
+        }
+    }
+
+    /// Puts one in at a place, from which on those up to an end make way where they stand, and answers the one that goes there.
+    fn move_on(&mut self, place: usize, end: usize, x: T) -> T
+        requires within { end ≤ count_of self.old }
+        requires order { place < end }
+        requires run { (k : ℕ) → place + k < end → index_in self.old (place + k) ≡ index_in self.old place + k }
+        ensures row { insert (tiered self.new) end result ≡ insert (tiered self.old) place x }
+        ensures len { count_of self.new ≡ count_of self.old }
+        ensures tiers { tiers_of self.new ≡ tiers_of self.old }
+        ensures room { room_of self.new ≡ room_of self.old }
+    {
+        let index = self.index_of(place);
+        place_first(&mut self.places, index, index + (end - place), x)
+    }
+
+    /// Puts one in before an end, from which on those back to a place make way where they stand, and answers the one that goes there.
+    fn move_back(&mut self, place: usize, end: usize, x: T) -> T
+        requires within { end ≤ count_of self.old }
+        requires order { place < end }
+        requires run { (k : ℕ) → place + k < end → index_in self.old (place + k) ≡ index_in self.old place + k }
+        ensures row { insert (tiered self.new) place result ≡ insert (tiered self.old) end x }
+        ensures len { count_of self.new ≡ count_of self.old }
+        ensures tiers { tiers_of self.new ≡ tiers_of self.old }
+        ensures room { room_of self.new ≡ room_of self.old }
+    {
+        let index = self.index_of(place);
+        place_last(&mut self.places, index, index + (end - place), x)
     }
 
     /// Puts one in front of a tier and those behind it, each of which passes its last on, and answers the last of all.
@@ -389,4 +460,32 @@ fn place_behind(place: usize) -> usize
     ensures outer { place + 1 ≡ 512 → result ≡ 0 }
 {
     if place + 1 == TIER { 0 } else { place + 1 }
+}
+
+/// Puts one in, from which on those up to an end make way, and answers the last of them, which goes.
+fn place_first<T: Copy>(places: &mut Vec<T>, from: usize, end: usize, x: T) -> T
+    requires order { from < end }
+    requires within { end ≤ length places.old.items }
+    ensures items { insert places.new.items end result ≡ insert places.old.items from x }
+    ensures len { length places.new.items ≡ length places.old.items }
+    ensures room { vec_capacity places.new ≡ vec_capacity places.old }
+{
+    let last = places[end - 1];
+    places.copy_within(from..end - 1, from + 1);
+    places[from] = x;
+    last
+}
+
+/// Puts one in before an end, from which on those back to another place make way, and answers the first of them, which goes.
+fn place_last<T: Copy>(places: &mut Vec<T>, from: usize, end: usize, x: T) -> T
+    requires order { from < end }
+    requires within { end ≤ length places.old.items }
+    ensures items { insert places.new.items from result ≡ insert places.old.items end x }
+    ensures len { length places.new.items ≡ length places.old.items }
+    ensures room { vec_capacity places.new ≡ vec_capacity places.old }
+{
+    let first = places[from];
+    places.copy_within(from + 1..end, from);
+    places[end - 1] = x;
+    first
 }
