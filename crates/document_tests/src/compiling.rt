@@ -494,13 +494,14 @@ fn push_types(alloc: Global, text: &mut String, count: u32) -> Result<(), AllocE
 // union of all of them and of these members.
 fn doubling(alloc: Global, more: &str) -> Result<String, AllocError> {
     let mut text = String::from_str(alloc, " yang-version 1.1;\ntypedef t0 { type int8; }\n")?;
+    let mut below = 0;
     for number in 1..16 {
-        let below = number - 1;
         let twice = format!(in alloc; "type t{below}; type t{below};")?;
         text.push_str(format!(in alloc; "typedef t{number} ")?.as_str())?;
         text.push_str("{ type union { ")?;
         text.push_str(twice.as_str())?;
         text.push_str(" } }\n")?;
+        below = number;
     }
     text.push_str("leaf a {\ntype union { ")?;
     push_types(alloc, &mut text, 16)?;
