@@ -123,9 +123,9 @@ module _ {X : Type 0} where
           ∙ (same (k - 1) d (omega (arith, past, other, order, count)) ∙ sym (above old end x d k (omega (arith, past, other)) within)))
 
 -- what is moved where places stand one behind the other is moved in the order too
-pub moved : {X : Type 0} (starts : List ℕ) (n : ℕ) (old new : List X) (p i : ℕ) (x out : X) → Within 512 starts → length starts * 512 ≤ length old
-    → length new ≡ length old → p + n ≤ length old → i + n ≤ length old → ((k : ℕ) → k < n → index 512 starts (p + k) ≡ i + k)
-    → insert new (i + n) out ≡ insert old i x → insert (in_order 512 starts new) (p + n) out ≡ insert (in_order 512 starts old) p x
+pub moved : {X : Type 0} (starts : List ℕ) (n : ℕ) (old new : List X) (p i : ℕ) (x out : X) → Within 1024 starts → length starts * 1024 ≤ length old
+    → length new ≡ length old → p + n ≤ length old → i + n ≤ length old → ((k : ℕ) → k < n → index 1024 starts (p + k) ≡ i + k)
+    → insert new (i + n) out ≡ insert old i x → insert (in_order 1024 starts new) (p + n) out ≡ insert (in_order 1024 starts old) p x
 moved starts zero old new p i x out within full long p_in i_in run whole =
     let i_at : i + 0 ≡ i = omega arith in
     let p_at : p + 0 ≡ p = omega arith in
@@ -134,30 +134,30 @@ moved starts zero old new p i x out within full long p_in i_in run whole =
     sym (taken_out new i out (omega (arith, long, i_in))) ∙ (ap (λ l. remove l i) here ∙ taken_out old i x (omega (arith, i_in))) in
     let values : out ≡ x =
     same_Some out x (sym (put_in new i out (omega (arith, long, i_in))) ∙ (ap (λ l. slice_get l i) here ∙ put_in old i x (omega (arith, i_in)))) in
-    ap (λ k. insert (in_order 512 starts new) k out) p_at ∙ ap₂ (λ l y. insert (in_order 512 starts l) p y) lists values
+    ap (λ k. insert (in_order 1024 starts new) k out) p_at ∙ ap₂ (λ l y. insert (in_order 1024 starts l) p y) lists values
 moved starts (suc n) old new p i x out within full long p_in i_in run whole =
     let z = get_or old i x in
     let next = set old i x in
-    let row = in_order 512 starts old in
+    let row = in_order 1024 starts old in
     let held : slice_get old i ≡ Some z = slice_get-get_or old i x (omega (arith, i_in)) in
     let first : p + 0 ≡ p = omega arith in
     let there : i + 0 ≡ i = omega arith in
-    let here : i ≡ index 512 starts p = sym (ap (index 512 starts) (sym first) ∙ (run 0 (omega arith) ∙ there)) in
+    let here : i ≡ index 1024 starts p = sym (ap (index 1024 starts) (sym first) ∙ (run 0 (omega arith) ∙ there)) in
     let i_on : i + 1 + n ≡ i + suc n = omega arith in
     let p_on : p + suc n ≡ p + 1 + n = omega arith in
     let same = length-set old i x in
     let left = moved starts n next new (p + 1) (i + 1) z out within (omega (arith, full, same)) (omega (arith, long, same)) (omega (arith, p_in, same)) (omega (arith, i_in, same))
     (λ k less. let p_is : p + 1 + k ≡ p + suc k = omega arith in let i_is : i + suc k ≡ i + 1 + k = omega arith in
-    ap (index 512 starts) p_is ∙ (run (suc k) (omega (arith, less)) ∙ i_is))
+    ap (index 1024 starts) p_is ∙ (run (suc k) (omega (arith, less)) ∙ i_is))
     (ap (λ k. insert new k out) i_on ∙ (whole ∙ sym (stepped_on old i x z held))) in
-    ap (λ k. insert (in_order 512 starts new) k out) p_on
+    ap (λ k. insert (in_order 1024 starts new) k out) p_on
     ∙ (left
     ∙ (ap (λ l. insert l (p + 1) z) (set_is starts old full p i x within here)
     ∙ stepped_on row p x z (get_is starts old full p i z within here (omega (arith, p_in)) (omega (arith, i_in)) held)))
 
 -- where those from a place on end
-pub ends_within : (starts : List ℕ) (count place end i : ℕ) → Within 512 starts → length starts * 512 ≤ count → place < end → end ≤ count → i ≡ index 512 starts place
-    → ((k : ℕ) → place + k < end → index 512 starts (place + k) ≡ index 512 starts place + k) → i + (end - place) ≤ count
+pub ends_within : (starts : List ℕ) (count place end i : ℕ) → Within 1024 starts → length starts * 1024 ≤ count → place < end → end ≤ count → i ≡ index 1024 starts place
+    → ((k : ℕ) → place + k < end → index 1024 starts (place + k) ≡ index 1024 starts place + k) → i + (end - place) ≤ count
 ends_within starts count place end i within full order end_in is run =
     let k = end - place - 1 in
     omega (arith, stands_within starts (place + k) count within full (omega (arith, order, end_in)), run k (omega (arith, order)), is, order)

@@ -5,7 +5,7 @@ use Rattle.ybase_tiers.specs.declared.tiers.Tiers.{Tiers}
 
 -- what it holds, in order
 abbrev pub tiered : {T : Type 0} → Tiers T → List T
-tiered tiers = in_order 512 tiers.starts.items tiers.places.items
+tiered tiers = in_order 1024 tiers.starts.items tiers.places.items
 
 -- how many it holds
 abbrev pub count_of : {T : Type 0} → Tiers T → ℕ
@@ -21,8 +21,8 @@ tiers_of tiers = length tiers.starts.items
 
 -- behind how many elements the open run begins
 abbrev pub end_of : {T : Type 0} → Tiers T → ℕ
-end_of tiers = tiers_of tiers * 512
+end_of tiers = tiers_of tiers * 1024
 
 -- where the one at a place stands
 abbrev pub index_in : {T : Type 0} → Tiers T → ℕ → ℕ
-index_in tiers place = index 512 tiers.starts.items place
+index_in tiers place = index 1024 tiers.starts.items place

@@ -52,7 +52,7 @@ fn stays_same(alloc: Global, edits: u64) -> Result<bool, AllocError> {
 
 #[test]
 fn edits_beside_a_vector(rt: HostRuntime) {
-    for edits in [0, 1, 2, 682, 683, 684, 1000, 2050, 6000] {
+    for edits in [0, 1, 2, 1426, 1427, 1429, 3006, 6000, 9000] {
         let same = stays_same(rt.alloc(), edits);
         assert!(rt; same.is_ok_and(|same| same), "after {edits} edits");
     }
@@ -61,12 +61,12 @@ fn edits_beside_a_vector(rt: HostRuntime) {
 #[test]
 fn halves(rt: HostRuntime) {
     let mut tiers: Tiers<u64> = Tiers::new(rt.alloc());
-    for step in 0..1537u64 {
+    for step in 0..3073u64 {
         assert!(rt; tiers.reserve().is_ok(), "room");
-        if tiers.len() < 1600 {
-            tiers.insert(0, 1537 - step);
+        if tiers.len() < 3200 {
+            tiers.insert(0, 3073 - step);
         }
     }
-    let point = tiers.partition_point(|x| *x < 600);
-    assert_eq!(rt; point, 599, "those below");
+    let point = tiers.partition_point(|x| *x < 1200);
+    assert_eq!(rt; point, 1199, "those below");
 }

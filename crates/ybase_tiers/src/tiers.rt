@@ -7,7 +7,7 @@ ghost use Rattle.ybase_tiers.specs.Order.{from_start};
 use std::alloc::{AllocError, Global};
 
 /// How many elements a tier has.
-const TIER: usize = 512;
+const TIER: usize = 1024;
 
 /// Elements in order. Behind full tiers, each a ring with a start of its own, stands an open run of at most a tier's length. Where
 /// one comes or goes, its tier makes way, and each tier behind it passes one element on.
@@ -15,10 +15,10 @@ const TIER: usize = 512;
 pub struct Tiers<T> {
     places: Vec<T>,
     starts: Vec<usize>,
-    ghost within: { list_all (λ start. ltb start 512) starts.items ≡ true },
-    ghost full: { length starts.items * 512 ≤ length places.items },
-    ghost open: { length places.items ≤ length starts.items * 512 + 512 },
-    ghost room: { vec_capacity places ≤ vec_capacity starts * 512 + 512 },
+    ghost within: { list_all (λ start. ltb start 1024) starts.items ≡ true },
+    ghost full: { length starts.items * 1024 ≤ length places.items },
+    ghost open: { length places.items ≤ length starts.items * 1024 + 1024 },
+    ghost room: { vec_capacity places ≤ vec_capacity starts * 1024 + 1024 },
 }
 
 impl<T: Copy> Tiers<T> {
@@ -206,7 +206,7 @@ impl<T: Copy> Tiers<T> {
     fn close_run(&mut self)
         requires { count_of self.old < room_of self.old }
         ensures row { tiered self.new ≡ tiered self.old }
-        ensures run { count_of self.new < end_of self.new + 512 }
+        ensures run { count_of self.new < end_of self.new + 1024 }
         ensures len { count_of self.new ≡ count_of self.old }
         ensures room { room_of self.new ≡ room_of self.old }
     {
@@ -234,7 +234,7 @@ impl<T: Copy> Tiers<T> {
     fn insert_open(&mut self, place: usize, x: T)
         requires run { end_of self.old ≤ place }
         requires within { place ≤ count_of self.old }
-        requires open { count_of self.old < end_of self.old + 512 }
+        requires open { count_of self.old < end_of self.old + 1024 }
         requires room { count_of self.old < room_of self.old }
         ensures row { tiered self.new ≡ insert (tiered self.old) place x }
         ensures room { room_of self.new ≡ room_of self.old }
@@ -360,7 +360,7 @@ impl<T: Copy> Tiers<T> {
     /// Puts one in front of a tier and those behind it, each of which passes its last on, and answers the last of all.
     fn pass_on(&mut self, tier: usize, x: T) -> T
         requires { tier ≤ tiers_of self.old }
-        ensures row { insert (tiered self.new) (end_of self.new) result ≡ insert (tiered self.old) (tier * 512) x }
+        ensures row { insert (tiered self.new) (end_of self.new) result ≡ insert (tiered self.old) (tier * 1024) x }
         ensures len { count_of self.new ≡ count_of self.old }
         ensures tiers { tiers_of self.new ≡ tiers_of self.old }
         ensures room { room_of self.new ≡ room_of self.old }
@@ -376,7 +376,7 @@ impl<T: Copy> Tiers<T> {
     /// Puts one behind the last tier, each of which back to a tier passes its first on, and answers the first of all.
     fn pass_back(&mut self, tier: usize, x: T) -> T
         requires { tier ≤ tiers_of self.old }
-        ensures row { insert (tiered self.new) (tier * 512) result ≡ insert (tiered self.old) (end_of self.old) x }
+        ensures row { insert (tiered self.new) (tier * 1024) result ≡ insert (tiered self.old) (end_of self.old) x }
         ensures len { count_of self.new ≡ count_of self.old }
         ensures tiers { tiers_of self.new ≡ tiers_of self.old }
         ensures room { room_of self.new ≡ room_of self.old }
@@ -392,7 +392,7 @@ impl<T: Copy> Tiers<T> {
     /// Puts one in front of a tier, and answers its last, which makes way.
     fn push_front(&mut self, tier: usize, x: T) -> T
         requires { tier < tiers_of self.old }
-        ensures row { insert (tiered self.new) (tier * 512 + 512) result ≡ insert (tiered self.old) (tier * 512) x }
+        ensures row { insert (tiered self.new) (tier * 1024 + 1024) result ≡ insert (tiered self.old) (tier * 1024) x }
         ensures len { count_of self.new ≡ count_of self.old }
         ensures tiers { tiers_of self.new ≡ tiers_of self.old }
         ensures room { room_of self.new ≡ room_of self.old }
@@ -404,7 +404,7 @@ impl<T: Copy> Tiers<T> {
     /// Puts one behind the last of a tier, and answers its first, which makes way.
     fn push_back(&mut self, tier: usize, x: T) -> T
         requires { tier < tiers_of self.old }
-        ensures row { insert (tiered self.new) (tier * 512) result ≡ insert (tiered self.old) (tier * 512 + 512) x }
+        ensures row { insert (tiered self.new) (tier * 1024) result ≡ insert (tiered self.old) (tier * 1024 + 1024) x }
         ensures len { count_of self.new ≡ count_of self.old }
         ensures tiers { tiers_of self.new ≡ tiers_of self.old }
         ensures room { room_of self.new ≡ room_of self.old }
@@ -416,11 +416,11 @@ impl<T: Copy> Tiers<T> {
     /// Puts one in the place of another in a tier, which begins at another start from now on, and answers the other.
     fn change(&mut self, tier: usize, place: usize, start: usize, x: T) -> T
         requires tier { tier < tiers_of self.old }
-        requires place { place < 512 }
-        requires start { start < 512 }
-        ensures places { self.new.places.items ≡ slice_set self.old.places.items (tier * 512 + place) x }
+        requires place { place < 1024 }
+        requires start { start < 1024 }
+        ensures places { self.new.places.items ≡ slice_set self.old.places.items (tier * 1024 + place) x }
         ensures starts { self.new.starts.items ≡ slice_set self.old.starts.items tier start }
-        ensures value { slice_get self.old.places.items (tier * 512 + place) ≡ Some result }
+        ensures value { slice_get self.old.places.items (tier * 1024 + place) ≡ Some result }
         ensures room { room_of self.new ≡ room_of self.old }
     {
         let index = tier * TIER + place;
@@ -444,20 +444,20 @@ fn unroll<T: Copy>(places: &mut Vec<T>, end: usize, start: usize)
 
 /// The place in a ring before another.
 fn place_before(place: usize) -> usize
-    requires { place < 512 }
-    ensures within { result < 512 }
-    ensures inner { result + 1 < 512 → place ≡ result + 1 }
-    ensures outer { result + 1 ≡ 512 → place ≡ 0 }
+    requires { place < 1024 }
+    ensures within { result < 1024 }
+    ensures inner { result + 1 < 1024 → place ≡ result + 1 }
+    ensures outer { result + 1 ≡ 1024 → place ≡ 0 }
 {
     if place == 0 { TIER - 1 } else { place - 1 }
 }
 
 /// The place in a ring behind another.
 fn place_behind(place: usize) -> usize
-    requires { place < 512 }
-    ensures within { result < 512 }
-    ensures inner { place + 1 < 512 → result ≡ place + 1 }
-    ensures outer { place + 1 ≡ 512 → result ≡ 0 }
+    requires { place < 1024 }
+    ensures within { result < 1024 }
+    ensures inner { place + 1 < 1024 → result ≡ place + 1 }
+    ensures outer { place + 1 ≡ 1024 → result ≡ 0 }
 {
     if place + 1 == TIER { 0 } else { place + 1 }
 }

@@ -21,4 +21,4 @@ returns-else-place-len g c =
     let old = c.args.self.now in
     sym
     (slice_get_past (tiered old) c.args.place
-    (omega (arith, c.if-place-len.false, c.len.ensures, old.places.ok.0, length_in_order 512 old.starts.items old.places.items)))
+    (omega (arith, c.if-place-len.false, c.len.ensures, old.places.ok.0, length_in_order 1024 old.starts.items old.places.items)))

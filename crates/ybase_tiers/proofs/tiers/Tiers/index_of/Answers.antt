@@ -11,17 +11,17 @@ returns-then-tier-len-clause-index g c =
 pub returns-then-index-lt-TIER-clause-index : goal.returns-then-index-lt-TIER-clause-index
 returns-then-index-lt-TIER-clause-index g c =
     let starts = c.args.self.now.starts in
-    let tier = c.args.place / 512 in
+    let tier = c.args.place / 1024 in
     let within : tier < length starts.items = omega (arith, c.if-tier-len.false, c.len.ensures, starts.ok.0) in
     let start = c.index.result.now in
     let held : get_or starts.items tier 0 ≡ start = sym (get_or_read starts.items tier start within c.index.ensures 0) in
-    sym (stands_before starts.items tier (c.args.place % 512) c.args.place start (omega arith) (omega arith) within held c.if-index-lt-TIER.true)
+    sym (stands_before starts.items tier (c.args.place % 1024) c.args.place start (omega arith) (omega arith) within held c.if-index-lt-TIER.true)
 
 pub returns-else-index-lt-TIER-clause-index : goal.returns-else-index-lt-TIER-clause-index
 returns-else-index-lt-TIER-clause-index g c =
     let starts = c.args.self.now.starts in
-    let tier = c.args.place / 512 in
+    let tier = c.args.place / 1024 in
     let within : tier < length starts.items = omega (arith, c.if-tier-len.false, c.len.ensures, starts.ok.0) in
     let start = c.index.result.now in
     let held : get_or starts.items tier 0 ≡ start = sym (get_or_read starts.items tier start within c.index.ensures 0) in
-    sym (stands_behind starts.items tier (c.args.place % 512) c.args.place start (omega arith) (omega arith) within held c.if-index-lt-TIER.false)
+    sym (stands_behind starts.items tier (c.args.place % 1024) c.args.place start (omega arith) (omega arith) within held c.if-index-lt-TIER.false)

@@ -20,6 +20,6 @@ returns-clause-row g c =
     let within = ends_within starts (length old.places.items) place c.args.end index old.within old.full c.requires.order c.requires.within c.index_of-index.ensures.index c.requires.run in
     let long = c.place_last.ensures.len in
     sym
-    (ap (λ k. insert (in_order 512 starts old.places.items) k c.args.x) (sym end)
+    (ap (λ k. insert (in_order 1024 starts old.places.items) k c.args.x) (sym end)
     ∙ moved starts n new old.places.items place index c.place_last.result c.args.x old.within (omega (arith, long, old.full)) (sym long) (omega (arith, long, c.requires.order, c.requires.within)) (omega (arith, long, within))
     (λ k less. c.requires.run k (omega (arith, less)) ∙ ap (λ i. i + k) (sym c.index_of-index.ensures.index)) (sym c.place_last.ensures.items))

@@ -18,6 +18,6 @@ returns-clause-row g c =
     let n = c.args.end - place in
     let end : c.args.end ≡ place + n = omega (arith, c.requires.order) in
     let within = ends_within starts (length old.places.items) place c.args.end index old.within old.full c.requires.order c.requires.within c.index_of-index.ensures.index c.requires.run in
-    ap (λ k. insert (in_order 512 starts new) k c.place_first.result) end
+    ap (λ k. insert (in_order 1024 starts new) k c.place_first.result) end
     ∙ moved starts n old.places.items new place index c.args.x c.place_first.result old.within old.full c.place_first.ensures.len (omega (arith, c.requires.order, c.requires.within)) within
     (λ k less. c.requires.run k (omega (arith, less)) ∙ ap (λ i. i + k) (sym c.index_of-index.ensures.index)) c.place_first.ensures.items

@@ -7,20 +7,20 @@ use Rattle.ybase_tiers.proofs.tiers.Tiers.partition_point.Goals as goal
 
 pub returns-then-size-eq0 : goal.returns-then-size-eq0
 returns-then-size-eq0 g c =
-    let long = length_in_order 512 c.args.self.now.starts.items c.args.self.now.places.items in
+    let long = length_in_order 1024 c.args.self.now.starts.items c.args.self.now.places.items in
     let all = c.args.self.now.places.ok.0 in
     record { bound = omega arith; partitioned = λ p h. λ _. (λ k d a b. absurd (omega arith), λ k d a b. absurd (omega (arith, long, all))) }
 
 pub loop-size-init : goal.loop-size-init
 loop-size-init g c =
     let row = tiered c.args.self.now in
-    let long : length row ≡ c.len-size.result = length_in_order 512 c.args.self.now.starts.items c.args.self.now.places.items ∙ sym (c.len-size.ensures ∙ c.args.self.now.places.ok.0) in
+    let long : length row ≡ c.len-size.result = length_in_order 1024 c.args.self.now.starts.items c.args.self.now.places.items ∙ sym (c.len-size.ensures ∙ c.args.self.now.places.ok.0) in
     (omega arith, omega (arith, long), search of_calls, λ p h. (h, unhalved p row c.len-size.result (omega (arith, long))))
 
 pub loop-size-preserved-then-pred : goal.loop-size-preserved-then-pred
 loop-size-preserved-then-pred g c =
     let row = tiered c.args.self.now in
-    let long = length_in_order 512 c.args.self.now.starts.items c.args.self.now.places.items in
+    let long = length_in_order 1024 c.args.self.now.starts.items c.args.self.now.places.items in
     let base = c.loop-size.base in
     let size = c.loop-size.size in
     let mid = base + size / 2 in
@@ -35,7 +35,7 @@ loop-size-preserved-then-pred g c =
 pub loop-size-preserved : goal.loop-size-preserved
 loop-size-preserved g c =
     let row = tiered c.args.self.now in
-    let long = length_in_order 512 c.args.self.now.starts.items c.args.self.now.places.items in
+    let long = length_in_order 1024 c.args.self.now.starts.items c.args.self.now.places.items in
     let base = c.loop-size.base in
     let size = c.loop-size.size in
     let mid = base + size / 2 in
@@ -50,7 +50,7 @@ loop-size-preserved g c =
 pub returns-then-pred-2 : goal.returns-then-pred-2
 returns-then-pred-2 g c =
     let row = tiered c.args.self.now in
-    let long = length_in_order 512 c.args.self.now.starts.items c.args.self.now.places.items in
+    let long = length_in_order 1024 c.args.self.now.starts.items c.args.self.now.places.items in
     let base = c.loop-size.base in
     let size = c.loop-size.size in
     let k = called g.P.FnMut c.if-pred-2.ensures refl in
@@ -63,7 +63,7 @@ returns-then-pred-2 g c =
 pub returns : goal.returns
 returns g c =
     let row = tiered c.args.self.now in
-    let long = length_in_order 512 c.args.self.now.starts.items c.args.self.now.places.items in
+    let long = length_in_order 1024 c.args.self.now.starts.items c.args.self.now.places.items in
     let base = c.loop-size.base in
     let size = c.loop-size.size in
     let k = called g.P.FnMut c.if-pred-2.ensures refl in

@@ -16,7 +16,7 @@ returns-clause-row g c =
     let start = c.index-start.result.now in
     let out = c.change.result in
     let turn = c.place_behind.ensures in
-    ap₂ (λ ss ps. insert (in_order 512 ss ps) (tier * 512) out) c.change.ensures.starts c.change.ensures.places
+    ap₂ (λ ss ps. insert (in_order 1024 ss ps) (tier * 1024) out) c.change.ensures.starts c.change.ensures.places
     ∙ back_is starts old.places.items old.full tier start c.place_behind.result c.args.x out c.requires turn.inner turn.outer
     (start_within starts tier start old.within c.requires c.index-start.ensures)
     (sym (get_or_read starts tier start c.requires c.index-start.ensures 0)) c.change.ensures.value

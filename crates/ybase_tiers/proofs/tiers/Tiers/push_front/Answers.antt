@@ -12,6 +12,6 @@ returns-clause-row g c =
     let start = c.index.result.now in
     let out = c.change.result in
     let turn = c.place_before-last.ensures in
-    ap₂ (λ ss ps. insert (in_order 512 ss ps) (tier * 512 + 512) out) c.change.ensures.starts c.change.ensures.places
+    ap₂ (λ ss ps. insert (in_order 1024 ss ps) (tier * 1024 + 1024) out) c.change.ensures.starts c.change.ensures.places
     ∙ front_is starts old.places.items old.full tier c.place_before-last.result start c.args.x out c.requires turn.inner turn.outer turn.within
     (sym (get_or_read starts tier start c.requires c.index.ensures 0)) c.change.ensures.value

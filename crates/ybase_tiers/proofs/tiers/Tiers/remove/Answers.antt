@@ -11,7 +11,7 @@ returns-then-place-end g c =
     let one = tiered c.open_tier.new.self in
     let two = tiered c.remove_open-first.new.self in
     let last = tiered c.shift_back.new.self in
-    let end = c.len-end.result * 512 in
+    let end = c.len-end.result * 1024 in
     let out = c.shift_back.result in
     let there : end_of c.remove_open-first.new.self ≡ end = omega (arith, c.len-end.ensures, c.open_tier.new.self.starts.ok.0, c.remove_open-first.ensures.tiers) in
     let whole : insert last place out ≡ tiered old = c.shift_back.ensures.row
@@ -20,7 +20,7 @@ returns-then-place-end g c =
     ∙ (ap (λ row. insert row end c.remove_open-first.result) c.remove_open-first.ensures.row
     ∙ (put_back one end c.remove_open-first.result c.remove_open-first.ensures.value ∙ c.open_tier.ensures.row)))) in
     let within : place ≤ length last =
-    omega (arith, c.requires, length_in_order 512 old.starts.items old.places.items, length_in_order 512 c.shift_back.new.self.starts.items c.shift_back.new.self.places.items, c.shift_back.ensures.len, c.pass_back-first.ensures.len, c.remove_open-first.ensures.len, c.open_tier.ensures.len) in
+    omega (arith, c.requires, length_in_order 1024 old.starts.items old.places.items, length_in_order 1024 c.shift_back.new.self.starts.items c.shift_back.new.self.places.items, c.shift_back.ensures.len, c.pass_back-first.ensures.len, c.remove_open-first.ensures.len, c.open_tier.ensures.len) in
     record {
       row = sym (taken_out last place out within) ∙ ap (λ row. remove row place) whole;
       value = ap (λ row. slice_get row place) (sym whole) ∙ put_in last place out within;
@@ -33,7 +33,7 @@ remove_open-first-requires-clause-within g c =
 
 pub remove_open-requires-clause-within : goal.remove_open-requires-clause-within
 remove_open-requires-clause-within g c =
-    let old = c.args.self.now in omega (arith, c.requires, length_in_order 512 old.starts.items old.places.items, c.open_tier.ensures.len)
+    let old = c.args.self.now in omega (arith, c.requires, length_in_order 1024 old.starts.items old.places.items, c.open_tier.ensures.len)
 
 pub open_tier-requires : goal.open_tier-requires
-open_tier-requires g c = let old = c.args.self.now in omega (arith, c.requires, length_in_order 512 old.starts.items old.places.items)
+open_tier-requires g c = let old = c.args.self.now in omega (arith, c.requires, length_in_order 1024 old.starts.items old.places.items)

@@ -7,7 +7,7 @@ use Rattle.ybase_tiers.proofs.tiers.Tiers.remove_open.Goals as goal
 pub returns-clause-row : goal.returns-clause-row
 returns-clause-row g c =
     let old = c.args.self.now in
-    ap (in_order 512 old.starts.items) c.remove.ensures.items ∙ removed_is old.starts.items old.places.items old.full c.args.place c.requires.run (omega (arith, c.requires.within))
+    ap (in_order 1024 old.starts.items) c.remove.ensures.items ∙ removed_is old.starts.items old.places.items old.full c.args.place c.requires.run (omega (arith, c.requires.within))
 
 pub returns-clause-value : goal.returns-clause-value
 returns-clause-value g c =

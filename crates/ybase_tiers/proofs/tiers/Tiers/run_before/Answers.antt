@@ -5,24 +5,24 @@ use Rattle.ybase_tiers.proofs.tiers.Tiers.run_before.Goals as goal
 
 pub returns-then-tier-len-clause-run : goal.returns-then-tier-len-clause-run
 returns-then-tier-len-clause-run g c = λ k less.
-    let starts = c.args.self.now.starts in run_past starts.items (c.len-then-tier-len.result * 512) k (omega (arith, c.len-then-tier-len.ensures, starts.ok.0))
+    let starts = c.args.self.now.starts in run_past starts.items (c.len-then-tier-len.result * 1024) k (omega (arith, c.len-then-tier-len.ensures, starts.ok.0))
 
 pub returns-then-start-place-lt-TIER-clause-run : goal.returns-then-start-place-lt-TIER-clause-run
 returns-then-start-place-lt-TIER-clause-run g c = λ k less.
     let starts = c.args.self.now.starts in
     let last = c.args.place - 1 in
-    let tier = last / 512 in
+    let tier = last / 1024 in
     let start = c.index-start.result.now in
     let within : tier < length starts.items = omega (arith, c.if-tier-len.false, c.len.ensures, starts.ok.0) in
     let held : get_or starts.items tier 0 ≡ start = sym (get_or_read starts.items tier start within c.index-start.ensures 0) in
-    run_up_to_seam starts.items (tier * 512) tier 0 start (omega arith) within held k (omega (arith, less, c.requires.some, c.if-start-place-lt-TIER.true))
+    run_up_to_seam starts.items (tier * 1024) tier 0 start (omega arith) within held k (omega (arith, less, c.requires.some, c.if-start-place-lt-TIER.true))
 
 pub returns-else-start-place-lt-TIER-clause-run : goal.returns-else-start-place-lt-TIER-clause-run
 returns-else-start-place-lt-TIER-clause-run g c = λ k less.
     let starts = c.args.self.now.starts in
     let last = c.args.place - 1 in
-    let tier = last / 512 in
+    let tier = last / 1024 in
     let start = c.index-start.result.now in
     let within : tier < length starts.items = omega (arith, c.if-tier-len.false, c.len.ensures, starts.ok.0) in
     let held : get_or starts.items tier 0 ≡ start = sym (get_or_read starts.items tier start within c.index-start.ensures 0) in
-    run_from_seam starts.items (tier * 512 + (512 - start)) tier (512 - start) start (omega arith) within held k (omega (arith, c.if-start-place-lt-TIER.false)) (omega (arith, less, c.requires.some, c.if-start-place-lt-TIER.false))
+    run_from_seam starts.items (tier * 1024 + (1024 - start)) tier (1024 - start) start (omega arith) within held k (omega (arith, c.if-start-place-lt-TIER.false)) (omega (arith, less, c.requires.some, c.if-start-place-lt-TIER.false))
