@@ -4,10 +4,10 @@ ghost use Rattle.ytext.specs.View.{extent, indent};
 
 use crate::cursor::{Cursor, Lexed, Lexeme};
 use crate::fault::{TextCode, TextFault};
-use crate::name::is_name;
 use crate::quoted::{push_double, push_single};
 use crate::statement::{Module, Stmt};
 use std::alloc::Global;
+use ybase_names::is_name;
 
 /// Blocks may nest so deep.
 const BLOCK_LIMIT: u32 = 64;
