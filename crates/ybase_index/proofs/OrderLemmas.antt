@@ -1,11 +1,13 @@
--- Names in their order, and how one is found by halves.
-use Rattle.std.proofs.Common.{◌≡◌, ℕ, Bool, true, false, cond, ◌&&◌, List, [], ◌∷◌, ◌++◌, Some, None, refl, sym, ap, ap₂, subst, ◌∙◌}
+-- Names in their order, and what a binary search finds among them.
+use Rattle.std.proofs.Common.{◌≡◌, ℕ, zero, suc, ◌+◌, ◌<◌, Bool, true, false, cond, ltb, List, [], ◌∷◌, length, get_or, Some, None, refl, sym, ap, ◌∙◌, arith}
 use Rattle.std.specs.List.{list_all}
-use Rattle.std.specs.Ordering.{is_eq, is_lt, ordering_reverse}
+use Rattle.std.specs.List.Sorted.{IsNonDecreasingBy, IsPartitionPoint, IsSortedBy}
+use Rattle.std.specs.Ordering.{is_eq, is_lt, ordering_index, ordering_reverse}
 use Rattle.std.specs.declared.cmp.Ordering.{Ordering}
 use Rattle.std.specs.declared.cmp.Ordering.TheVariants.{Less, Equal, Greater}
-use Rattle.std.proofs.lemmas.Bool.{and_parts}
+use Rattle.std.proofs.lemmas.Bool.{and_parts, ltb-true, ltb-false}
 use Rattle.std.proofs.lemmas.Cmp.{nat_list_cmp_total}
+use Rattle.std.proofs.lemmas.List.Sorted.{searchable_from_sorted}
 use Rattle.std.proofs.lemmas.Map.Text.{is_eq-slice_cmp}
 use Rattle.std.proofs.lemmas.Slice.Eq.{bytes_eq-Decides}
 use Rattle.yspec.specs.text.Text.{Text, is_text}
@@ -17,90 +19,63 @@ less_is Less e = refl
 less_is Equal e = absurd cc
 less_is Greater e = absurd cc
 
-apart_before : (t x : Text) → compared t x ≡ Less → is_text t x ≡ false
-apart_before t x e = sym (is_eq-slice_cmp t x) ∙ ap is_eq e
+told_by : (t x : Text) (r : Ordering) → compared x t ≡ r → is_text t x ≡ is_eq (ordering_reverse r)
+told_by t x r e = sym (is_eq-slice_cmp t x) ∙ ap is_eq (nat_list_cmp_total.antisymm t x ∙ ap ordering_reverse e)
 
-apart_behind : (t x : Text) → compared x t ≡ Less → is_text t x ≡ false
-apart_behind t x e = sym (is_eq-slice_cmp t x) ∙ ap is_eq (nat_list_cmp_total.antisymm t x ∙ ap ordering_reverse e)
-
--- ---- halves
+all_at : (test : ℕ → Bool) (xs : List ℕ) (i d : ℕ) → list_all test xs ≡ true → i < length xs → test (get_or xs i d) ≡ true
+all_at test [] i d all within = absurd (omega (arith, within))
+all_at test (x ∷ xs) zero d all within = (and_parts (test x) (list_all test xs) all).0
+all_at test (x ∷ xs) (suc i) d all within = all_at test xs i d (and_parts (test x) (list_all test xs) all).1 (omega (arith, within))
 
 module _ (text_at : ℕ → Text) where
-  ascends_first : (before after : List ℕ) → ascends text_at (before ++ after) ≡ true → ascends text_at before ≡ true
-  ascends_first [] after e = refl
-  ascends_first (n ∷ before) after e =
-      let parts = and_parts (list_all (λ m. is_lt (compared (text_at n) (text_at m))) (before ++ after)) (ascends text_at (before ++ after)) e in
-      ap₂ (λ (a : Bool) (b : Bool). a && b) (all_first (λ m. is_lt (compared (text_at n) (text_at m))) before after parts.0) (ascends_first before after parts.1)
+  abbrev after : ℕ → ℕ → Bool
+  after n m = is_lt (compared (text_at n) (text_at m))
+
+  -- a number is before each that stands behind it
+  behind : (n : ℕ) (xs : List ℕ) (i d : ℕ) → ascends text_at (n ∷ xs) ≡ true → i < length xs → compared (text_at n) (text_at (get_or xs i d)) ≡ Less
+  behind n xs i d e within =
+      less_is (compared (text_at n) (text_at (get_or xs i d))) (all_at (after n) xs i d (and_parts (list_all (after n) xs) (ascends text_at xs) e).0 within)
+
+  rest : (n : ℕ) (xs : List ℕ) → ascends text_at (n ∷ xs) ≡ true → ascends text_at xs ≡ true
+  rest n xs e = (and_parts (list_all (after n) xs) (ascends text_at xs) e).1
+
+  rises : (xs : List ℕ) → ascends text_at xs ≡ true → (k d : ℕ) → suc k < length xs → after (get_or xs (suc k) d) (get_or xs k d) ≡ false
+  rises [] e k d within = absurd (omega (arith, within))
+  rises (n ∷ xs) e zero d within =
+      ap is_lt (nat_list_cmp_total.antisymm (text_at (get_or xs 0 d)) (text_at n) ∙ ap ordering_reverse (behind n xs 0 d e (omega (arith, within))))
+  rises (n ∷ xs) e (suc k) d within = rises xs (rest n xs e) k d (omega (arith, within))
+
+  sorted : (xs : List ℕ) → ascends text_at xs ≡ true → IsSortedBy after xs
+  sorted xs e k d low within =
+      let next : k + 1 ≡ suc k = omega arith in
+      ap (λ m. after (get_or xs m d) (get_or xs k d)) next ∙ rises xs e k d (omega (arith, within))
+
+  none_of : (t : Text) (xs : List ℕ) → ((k d : ℕ) → k < length xs → is_text t (text_at (get_or xs k d)) ≡ false) → number_among text_at xs t ≡ None
+  none_of t [] none = refl
+  none_of t (n ∷ xs) none =
+      ap (λ b. cond b (Some n) (number_among text_at xs t)) (none 0 0 (omega arith)) ∙ none_of t xs (λ k d within. none (suc k) d (omega (arith, within)))
+
+  -- where a binary search finds a text, it has that place's number
+  pub found_at : (t : Text) (xs : List ℕ) → ascends text_at xs ≡ true → (i d : ℕ) → i < length xs → compared (text_at (get_or xs i d)) t ≡ Equal
+      → number_among text_at xs t ≡ Some (get_or xs i d)
+  found_at t [] e i d within is = absurd (omega (arith, within))
+  found_at t (n ∷ xs) e zero d within is = ap (λ b. cond b (Some n) (number_among text_at xs t)) (told_by t (text_at n) Equal is)
+  found_at t (n ∷ xs) e (suc i) d within is =
+      let x = text_at (get_or xs i d) in
+      let same : x ≡ t = (bytes_eq-Decides x t).0 (sym (is_eq-slice_cmp x t) ∙ ap is_eq is) in
+      ap (λ b. cond b (Some n) (number_among text_at xs t)) (told_by t (text_at n) Less (ap (compared (text_at n)) (sym same) ∙ behind n xs i d e (omega (arith, within))))
+      ∙ found_at t xs (rest n xs e) i d (omega (arith, within)) is
+
+  -- where it finds none, there is none
+  pub none_found_at : (t : Text) (xs : List ℕ) → ascends text_at xs ≡ true → (i : ℕ)
+      → (IsNonDecreasingBy (λ n. ordering_index (compared (text_at n) t)) xs
+      → IsPartitionPoint (λ n. compared (text_at n) t ≡ Less) (λ n. compared (text_at n) t ≡ Greater) xs i)
+      → number_among text_at xs t ≡ None
+  none_found_at t xs e i found = none_of t xs (λ k d within. by k d within (ltb k i) refl)
     where
-      all_first : (test : ℕ → Bool) (xs ys : List ℕ) → list_all test (xs ++ ys) ≡ true → list_all test xs ≡ true
-      all_first test [] ys f = refl
-      all_first test (x ∷ xs) ys f =
-          let parts = and_parts (test x) (list_all test (xs ++ ys)) f in
-          ap₂ (λ (a : Bool) (b : Bool). a && b) parts.0 (all_first test xs ys parts.1)
+      parted : IsPartitionPoint (λ n. compared (text_at n) t ≡ Less) (λ n. compared (text_at n) t ≡ Greater) xs i
+      parted = found (searchable_from_sorted nat_list_cmp_total text_at xs t (sorted xs e))
 
-  ascends_second : (before after : List ℕ) → ascends text_at (before ++ after) ≡ true → ascends text_at after ≡ true
-  ascends_second [] after e = e
-  ascends_second (n ∷ before) after e =
-      ascends_second before after (and_parts (list_all (λ m. is_lt (compared (text_at n) (text_at m))) (before ++ after)) (ascends text_at (before ++ after)) e).1
-
-  -- what stands behind a number is after it
-  none_after : (t : Text) (n : ℕ) (after : List ℕ) → compared t (text_at n) ≡ Less → list_all (λ m. is_lt (compared (text_at n) (text_at m))) after ≡ true
-      → number_among text_at after t ≡ None
-  none_after t n [] less all = refl
-  none_after t n (m ∷ after) less all =
-      let parts = and_parts (is_lt (compared (text_at n) (text_at m))) (list_all (λ m. is_lt (compared (text_at n) (text_at m))) after) all in
-      let further = nat_list_cmp_total.trans t (text_at n) (text_at m) less (less_is (compared (text_at n) (text_at m)) parts.0) in
-      ap (λ b. cond b (Some m) (number_among text_at after t)) (apart_before t (text_at m) further) ∙ none_after t n after less parts.1
-
-  -- what stands before a number is before it
-  last_less : (m n : ℕ) (before after : List ℕ) → list_all (λ k. is_lt (compared (text_at m) (text_at k))) (before ++ n ∷ after) ≡ true → compared (text_at m) (text_at n) ≡ Less
-  last_less m n [] after all = less_is (compared (text_at m) (text_at n)) (and_parts (is_lt (compared (text_at m) (text_at n))) (list_all (λ k. is_lt (compared (text_at m) (text_at k))) after) all).0
-  last_less m n (b ∷ before) after all =
-      last_less m n before after (and_parts (is_lt (compared (text_at m) (text_at b))) (list_all (λ k. is_lt (compared (text_at m) (text_at k))) (before ++ n ∷ after)) all).1
-
-  -- a text that is none of those before a number is found from there on
-  pass_before : (t : Text) (n : ℕ) (before after : List ℕ) → ascends text_at (before ++ n ∷ after) ≡ true
-      → ((x : Text) → compared x (text_at n) ≡ Less → is_text t x ≡ false) → number_among text_at (before ++ n ∷ after) t ≡ number_among text_at (n ∷ after) t
-  pass_before t n [] after e apart = refl
-  pass_before t n (m ∷ before) after e apart =
-      let parts = and_parts (list_all (λ k. is_lt (compared (text_at m) (text_at k))) (before ++ n ∷ after)) (ascends text_at (before ++ n ∷ after)) e in
-      ap (λ b. cond b (Some m) (number_among text_at (before ++ n ∷ after) t)) (apart (text_at m) (last_less m n before after parts.0))
-      ∙ pass_before t n before after parts.1 apart
-
-  pass_after : (t : Text) (before after : List ℕ) → number_among text_at after t ≡ None → number_among text_at (before ++ after) t ≡ number_among text_at before t
-  pass_after t [] after none = none
-  pass_after t (m ∷ before) after none = ap (λ o. cond (is_text t (text_at m)) (Some m) o) (pass_after t before after none)
-
-  -- one step of a search by halves
-  pub record Halved (t : Text) (numbers before after : List ℕ) (n : ℕ) : Type 0 where
-    pub first_ascends : ascends text_at before ≡ true
-    pub second_ascends : ascends text_at after ≡ true
-    pub is_less : compared t (text_at n) ≡ Less → number_among text_at numbers t ≡ number_among text_at before t
-    pub is_equal : compared t (text_at n) ≡ Equal → number_among text_at numbers t ≡ Some n
-    pub is_greater : compared t (text_at n) ≡ Greater → number_among text_at numbers t ≡ number_among text_at after t
-
-  halved_at : (t : Text) (before after : List ℕ) (n : ℕ) → ascends text_at (before ++ n ∷ after) ≡ true → Halved t (before ++ n ∷ after) before after n
-  halved_at t before after n e =
-      let from = ascends_second before (n ∷ after) e in
-      let behind = and_parts (list_all (λ m. is_lt (compared (text_at n) (text_at m))) after) (ascends text_at after) from in
-      record {
-        first_ascends = ascends_first before (n ∷ after) e;
-        second_ascends = behind.1;
-        is_less = λ less. pass_after t before (n ∷ after)
-            (ap (λ b. cond b (Some n) (number_among text_at after t)) (apart_before t (text_at n) less) ∙ none_after t n after less behind.0);
-        is_equal = λ equal.
-            let own : is_text t (text_at n) ≡ true = sym (is_eq-slice_cmp t (text_at n)) ∙ ap is_eq equal in
-            let same : t ≡ text_at n = (bytes_eq-Decides t (text_at n)).0 own in
-            pass_before t n before after e (λ x less. apart_behind t x (ap (compared x) same ∙ less))
-            ∙ ap (λ b. cond b (Some n) (number_among text_at after t)) own;
-        is_greater = λ greater.
-            let less : compared (text_at n) t ≡ Less = nat_list_cmp_total.antisymm (text_at n) t ∙ ap ordering_reverse greater in
-            pass_before t n before after e (λ x first. apart_behind t x (nat_list_cmp_total.trans x (text_at n) t first less))
-            ∙ ap (λ b. cond b (Some n) (number_among text_at after t)) (apart_behind t (text_at n) less);
-      }
-
-  pub halved : (t : Text) (numbers before from after : List ℕ) (n : ℕ) → ascends text_at numbers ≡ true → numbers ≡ before ++ from → from ≡ n ∷ after
-      → Halved t numbers before after n
-  halved t numbers before from after n e cut split =
-      let whole : numbers ≡ before ++ n ∷ after = cut ∙ ap (λ xs. before ++ xs) split in
-      subst (λ (xs : List ℕ). Halved t xs before after n) (sym whole) (halved_at t before after n (subst (λ (xs : List ℕ). ascends text_at xs ≡ true) whole e))
+      by : (k d : ℕ) → k < length xs → (b : Bool) → ltb k i ≡ b → is_text t (text_at (get_or xs k d)) ≡ false
+      by k d within true is = told_by t (text_at (get_or xs k d)) Less (parted.0 k d (omega arith) (ltb-true k i is))
+      by k d within false is = told_by t (text_at (get_or xs k d)) Greater (parted.1 k d (ltb-false k i is) within)

@@ -7,7 +7,6 @@ ghost use Rattle.ybase_index.specs.Names.{ascends, number_among, text_in, AreNam
 ghost use Rattle.ybase_index.specs.Sorted.{compared, AreBelow, AreOwn, Ascend, HaveAll, Stands};
 
 use std::alloc::{AllocError, Global};
-use std::cmp::Ordering;
 
 /// The names of nodes, as numbers: a name has that of the first node that has it.
 #[derive(Debug, Drop)]
@@ -111,16 +110,12 @@ pub(crate) fn names_of<'a, 't>(alloc: Global, texts: &'a [&'t str]) -> Result<Na
 }
 
 /// The number of what has a name, of some whose names ascend.
-#[cycle(halving)]
 pub fn number_named<T: Named>(named: &[T], ordered: &[u32], name: &str) -> Option<u32>
     ensures { ascends (text_in (map T.text named.now)) ordered.now ≡ true
         → result ≡ number_among (text_in (map T.text named.now)) ordered.now name.now }
 {
-    let (before, from) = ordered.split_at(ordered.len() / 2);
-    let (number, after) = from.split_first()?;
-    match name.cmp(name_at(named, *number)) {
-        Ordering::Less => number_named(named, before, name),
-        Ordering::Equal => Some(*number),
-        Ordering::Greater => number_named(named, after, name),
+    match ordered.binary_search_by(|number| name_at(named, *number).cmp(name)) {
+        Ok(place) => Some(ordered[place]),
+        Err(_) => None,
     }
 }
