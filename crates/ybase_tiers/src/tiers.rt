@@ -189,6 +189,7 @@ impl<T: Copy> Tiers<T> {
         ensures row { tiered self.new ≡ remove (tiered self.old) place }
         ensures value { slice_get (tiered self.old) place ≡ Some result }
         ensures room { room_of self.new ≡ room_of self.old }
+        ensures spare { length (tiered self.new) < room_of self.new }
     {
         self.open_tier();
         let end = self.starts.len() * TIER;

@@ -25,7 +25,13 @@ returns-then-place-end g c =
       row = sym (taken_out last place out within) ∙ ap (λ row. remove row place) whole;
       value = ap (λ row. slice_get row place) (sym whole) ∙ put_in last place out within;
       room = c.shift_back.ensures.room ∙ (c.pass_back-first.ensures.room ∙ (c.remove_open-first.ensures.room ∙ c.open_tier.ensures.room));
+      spare = omega (arith, length_in_order 1024 c.shift_back.new.self.starts.items c.shift_back.new.self.places.items, c.shift_back.ensures.len, c.pass_back-first.ensures.len, c.remove_open-first.ensures.len, c.open_tier.new.self.places.ok.0, c.open_tier.new.self.places.ok.1, c.shift_back.ensures.room, c.pass_back-first.ensures.room, c.remove_open-first.ensures.room);
     }
+
+pub returns-else-place-end-clause-spare : goal.returns-else-place-end-clause-spare
+returns-else-place-end-clause-spare g c =
+    let new = c.remove_open.new.self in
+    omega (arith, length_in_order 1024 new.starts.items new.places.items, c.remove_open.ensures.len, c.remove_open.ensures.room, c.open_tier.new.self.places.ok.0, c.open_tier.new.self.places.ok.1)
 
 pub remove_open-first-requires-clause-within : goal.remove_open-first-requires-clause-within
 remove_open-first-requires-clause-within g c =
