@@ -299,7 +299,9 @@ pub(crate) fn told(alloc: Global) -> Option<bool> {
         read && nodes.alloc() == alloc
             && nodes.node_count() == 1
             && view.node_count() == 1
-            && view.children(Row::Top) == [(FIRST, node)].as_slice()
+            && view.child_count(Row::Top) == 1
+            && view.child_at(Row::Top, 0) == Some((FIRST, node))
+            && view.child_at(Row::Top, 1) == None
             && view.schema(node) == Some(FIRST)
             && view.parent(node) == Some(Row::Top)
             && matches!(view.value(node), Some(Raw::Text(_)))

@@ -11,7 +11,7 @@ ghost use Rattle.yinst_tree.specs.View.{step_view};
 ghost use Rattle.ycheck.specs.View.{views};
 ghost use Rattle.ycheck.specs.Walk.{marks_told, repetition};
 ghost use Rattle.yspec_play.specs.Merging.{merged, position_behind, step_of};
-ghost use Rattle.ystore.specs.Store.{node_count};
+ghost use Rattle.ystore.specs.Store.{children_at, node_count};
 ghost use Rattle.ystore.specs.Viewed.{viewed};
 ghost use Rattle.ystore_tree.specs.Hanging.{Branches, Hangs, tree_of};
 ghost use Rattle.ylive_list.specs.Found.{Adds};
@@ -81,8 +81,7 @@ fn list_row(
     if levels == 0 {
         list_absences(schema, above, play, findings)
     } else {
-        let children = view.children(row);
-        list_children(schema, view, above, play, children, levels - 1, findings)
+        list_children(schema, view, above, play, row, levels - 1, findings)
     }
 }
 
@@ -93,22 +92,25 @@ fn list_children(
     view: View<'_>,
     above: Option<SchemaId>,
     play: &[Absence],
-    children: &[(SchemaId, NodeId)],
+    row: Row,
     levels: usize,
     findings: &mut Findings,
 ) -> Result<(), AllocError>
-    ensures { OnOk result (Adds findings.old findings.new
+    ensures { let nodes = viewed view.entry in
+        OnOk result (Adds findings.old findings.new
         (merged (schema_view.view schema.now) (number_of above) (absences_of play.now)
-        (children_told levels (schema_view.view schema.now) (viewed view.entry) children.now))) }
+        (children_told levels (schema_view.view schema.now) nodes (children_at nodes row)))) }
 {
     let mut rest = play;
     let mut last = SchemaId(0);
     let mut position = 0;
-    for (index, child) in children.iter().enumerate() {
-        rest = list_up_to(schema, above, child.0, rest, findings)?;
-        position = position_behind(last, position, child.0);
-        last = child.0;
-        list_child(schema, view, *child, position, levels, findings)?;
+    for index in 0..view.child_count(row) {
+        if let Some(child) = view.child_at(row, index) {
+            rest = list_up_to(schema, above, child.0, rest, findings)?;
+            position = position_behind(last, position, child.0);
+            last = child.0;
+            list_child(schema, view, child, position, levels, findings)?;
+        }
     }
     list_absences(schema, above, rest, findings)
 }

@@ -106,11 +106,11 @@ impl RowLeft {
         if levels == 0 {
             return None;
         }
-        let children = view.children(self.row());
-        if children.len() <= self.passed {
+        let row = self.row();
+        if view.child_count(row) <= self.passed {
             return None;
         }
-        Some(children[self.passed])
+        view.child_at(row, self.passed)
     }
 
     /// The next node of which it is told that it isn't stored, if it doesn't stand behind the next child.

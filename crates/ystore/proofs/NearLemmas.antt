@@ -198,25 +198,28 @@ it_is_not node (Some c) e same =
     false≢true (sym e ∙ eq-eqb c.1.0 node.0 (ap (λ (n : NodeId). n.0) (same_Some c.1 node same)))
 it_is_not node None e same = none-some node same
 
-stands : (node : NodeId) (of : List Child) (k : ℕ) → is_node node (slice_get of k) ≡ true → Among node (ids_of of) k
+pub stands : (node : NodeId) (of : List Child) (k : ℕ) → is_node node (slice_get of k) ≡ true → Among node (ids_of of) k
 stands node of k e = slice_get-map (λ (c : Child). c.1) of k ∙ it_is node (slice_get of k) e
 
-stands_not : (node : NodeId) (of : List Child) (k : ℕ) → is_node node (slice_get of k) ≡ false → Among node (ids_of of) k → ⊥
+pub stands_not : (node : NodeId) (of : List Child) (k : ℕ) → is_node node (slice_get of k) ≡ false → Among node (ids_of of) k → ⊥
 stands_not node of k e held = it_is_not node (slice_get of k) e (sym (slice_get-map (λ (c : Child). c.1) of k) ∙ held)
 
+-- ---- those between two places of a row
+
+module _ (first end : ℕ) (row : List Child) (order : first ≤ end) (within : end ≤ length row) where
+  abbrev pub part : List Child
+  part = take (end - first) (drop first row)
+
+  pub part_long : length part ≡ end - first
+  part_long = length-take-le (end - first) (drop first row) (omega (arith, order, within, length-drop first row))
+
+  pub in_part : (node : NodeId) (k : ℕ) → k < end - first → is_node node (slice_get row (first + k)) ≡ is_node node (slice_get part k)
+  in_part node k less = ap (is_node node) (sym (taken (end - first) k (drop first row) less ∙ ahead first k row))
+
+  pub past_part : (node : NodeId) (k : ℕ) → end - first ≤ k → false ≡ is_node node (slice_get part k)
+  past_part node k past = sym (ap (is_node node) (slice_get_past part k (omega (arith, past, part_long))))
+
 module _ (node : NodeId) (of : List Child) (n : ℕ) where
-  pub is_ahead_of : (far : ℕ) → is_node node (slice_get (drop n of) far) ≡ true → Among node (ids_of of) (n + far)
-  is_ahead_of far e = stands node of (n + far) (ap (is_node node) (sym (ahead n far of)) ∙ e)
-
-  pub not_ahead_of : (far : ℕ) → is_node node (slice_get (drop n of) far) ≡ false → Among node (ids_of of) (n + far) → ⊥
-  not_ahead_of far e = stands_not node of (n + far) (ap (is_node node) (sym (ahead n far of)) ∙ e)
-
-  pub is_behind_of : (k : ℕ) → k < n → is_node node (slice_get (take n of) k) ≡ true → Among node (ids_of of) k
-  is_behind_of k less e = stands node of k (ap (is_node node) (sym (taken n k of less)) ∙ e)
-
-  pub not_behind_of : (k : ℕ) → k < n → is_node node (slice_get (take n of) k) ≡ false → Among node (ids_of of) k → ⊥
-  not_behind_of k less e = stands_not node of k (ap (is_node node) (sym (taken n k of less)) ∙ e)
-
   module _ (near : ℕ) (is : n ≡ min near (length of)) where
     long : length (ids_of of) ≡ length of
     long = length-map of (λ (c : Child). c.1)

@@ -5,7 +5,6 @@ pub mod Held
 pub mod Index
 pub mod Lending
 pub mod Rows
-pub mod Shelf
 pub mod Store
 pub mod Viewed
 pub mod Views

@@ -1,25 +1,24 @@
 //! The nodes of one row.
 
-ghost use Rattle.std.specs.Prelude.{◌≡◌, eqb, false, map, slice_get, true};
-ghost use Rattle.std.specs.Option.{option_map_or};
-ghost use Rattle.ystore.specs.Entries.{place_near};
+ghost use Rattle.std.specs.Prelude.{◌≡◌, true};
+ghost use Rattle.ybase_tiers.specs.Tiers.{tiered};
 ghost use Rattle.ystore.specs.Rows.{ascends};
-ghost use Rattle.ystore.specs.Shelf.{shelved};
 
 use crate::row::NodeId;
-use crate::shelf::Shelf;
 use std::alloc::{AllocError, Global};
+use ybase_tiers::Tiers;
 use yschema_model::SchemaId;
 
 /// The nodes of a row, each with its schema node, by which they ascend.
 #[derive(Debug, Drop)]
 pub struct Children {
-    nodes: Shelf,
-    ghost ascending: { ascends (shelved nodes) ≡ true },
+    nodes: Tiers<(SchemaId, NodeId)>,
+    ghost ascending: { ascends (tiered nodes) ≡ true },
 }
 
 impl Children {
-    ghost use Rattle.std.specs.Prelude.{◌≡◌, ◌+◌, ◌<◌, ◌≤◌, [], length, min, option_map, slice_get, IfOk, OnOk, OnErr};
+    ghost use Rattle.std.specs.Prelude.{◌≡◌, ◌+◌, ◌-◌, ◌<◌, ◌≤◌, [], drop, eqb, false, length, map, min, option_map, slice_get, take, IfOk, OnOk, OnErr};
+    ghost use Rattle.std.specs.Option.{option_map_or};
     ghost use Rattle.ystore.specs.Children.{nodes_of, room_of};
     ghost use Rattle.ystore.specs.Rows as rows;
     ghost use Rattle.ystore.specs.Entries as entries;
@@ -30,7 +29,7 @@ impl Children {
         ensures room { IfOk result (λ made. room_of made ≡ room) }
     {
         Ok(Children {
-            nodes: Shelf::with_capacity(alloc, room)?,
+            nodes: Tiers::with_capacity(alloc, room)?,
         })
     }
 
@@ -40,15 +39,22 @@ impl Children {
         ensures room { room_of result ≡ 0 }
     {
         Children {
-            nodes: Shelf::new(alloc),
+            nodes: Tiers::new(alloc),
         }
     }
 
-    /// They, in order.
-    pub fn as_slice(&self) -> &[(SchemaId, NodeId)]
-        ensures { result.now ≡ nodes_of self.now }
+    /// How many they are.
+    pub fn len(&self) -> usize
+        ensures { result ≡ length (nodes_of self.now) }
     {
-        self.nodes.as_slice()
+        self.nodes.len()
+    }
+
+    /// The one at a place, with its schema node.
+    pub fn child_at(&self, place: usize) -> Option<(SchemaId, NodeId)>
+        ensures { result ≡ slice_get (nodes_of self.now) place }
+    {
+        self.nodes.get(place)
     }
 
     /// The place of the first of a schema node.
@@ -56,8 +62,7 @@ impl Children {
         ensures place { result ≡ rows.first_place schema (nodes_of self.now) }
         ensures within { result ≤ length (nodes_of self.now) }
     {
-        self.as_slice()
-            .partition_point(|child| child.0.0 < schema.0)
+        self.nodes.partition_point(|child| child.0.0 < schema.0)
     }
 
     /// The place behind the last of a schema node.
@@ -65,8 +70,7 @@ impl Children {
         ensures place { result ≡ rows.end_place schema (nodes_of self.now) }
         ensures within { result ≤ length (nodes_of self.now) }
     {
-        self.as_slice()
-            .partition_point(|child| child.0.0 <= schema.0)
+        self.nodes.partition_point(|child| child.0.0 <= schema.0)
     }
 
     /// The place of a child, or the end.
@@ -90,7 +94,7 @@ impl Children {
     pub fn get(&self, place: usize) -> Option<NodeId>
         ensures { result ≡ option_map (λ c. c.1) (slice_get (nodes_of self.now) place) }
     {
-        match self.as_slice().get(place) {
+        match self.nodes.get(place) {
             Some(child) => Some(child.1),
             None => None,
         }
@@ -128,9 +132,56 @@ impl Children {
     {
         let first = self.first_place(schema);
         let end = self.end_place(schema);
-        let (_, rest) = self.as_slice().split_at(first);
-        let (of, _) = rest.split_at(end - first);
-        place_near(of, node, near)
+        self.place_near(first, end, node, near)
+    }
+
+    /// The place of a node among those between two places that is next to another place among them, or their number. It is looked
+    /// for forward and backward at once.
+    fn place_near(&self, first: usize, end: usize, node: NodeId, near: usize) -> usize
+        requires order { first ≤ end }
+        requires within { end ≤ length (nodes_of self.now) }
+        ensures { result ≡ entries.place_near near node (map (λ c. c.1) (take (end - first) (drop first (nodes_of self.now)))) }
+    {
+        let count = end - first;
+        let near = near.min(count);
+        for step in 0..count {
+            if self.is_ahead(first, end, near, step, node) {
+                return near + step;
+            }
+            if step < near && self.is_among(first, end, near - 1 - step, node) {
+                return near - 1 - step;
+            }
+        }
+        count
+    }
+
+    /// Whether the one so far behind a place among those between two places is this node.
+    fn is_ahead(&self, first: usize, end: usize, near: usize, step: usize, node: NodeId) -> bool
+        requires order { first ≤ end }
+        requires within { end ≤ length (nodes_of self.now) }
+        requires near { near ≤ end - first }
+        ensures { result ≡ option_map_or (λ c. eqb c.1.0 node.0) (slice_get (take (end - first) (drop first (nodes_of self.now))) (near + step)) false }
+    {
+        step < end - first - near && self.is_among(first, end, near + step, node)
+    }
+
+    /// Whether the one at a place among those between two places is this node.
+    fn is_among(&self, first: usize, end: usize, place: usize, node: NodeId) -> bool
+        requires order { first ≤ end }
+        requires within { end ≤ length (nodes_of self.now) }
+        ensures { result ≡ option_map_or (λ c. eqb c.1.0 node.0) (slice_get (take (end - first) (drop first (nodes_of self.now))) place) false }
+    {
+        place < end - first && self.is_at(first + place, node)
+    }
+
+    /// Whether the one at a place is this node.
+    fn is_at(&self, place: usize, node: NodeId) -> bool
+        ensures { result ≡ option_map_or (λ c. eqb c.1.0 node.0) (slice_get (nodes_of self.now) place) false }
+    {
+        match self.nodes.get(place) {
+            Some(child) => child.1 == node,
+            None => false,
+        }
     }
 
     /// The place in the row of a place among those of a schema node, or that behind them.
@@ -246,32 +297,5 @@ impl Children {
         } else {
             None
         }
-    }
-}
-
-/// The place of a node among some that is next to a place, or their number. It is looked for forward and backward at once.
-fn place_near(of: &[(SchemaId, NodeId)], node: NodeId, near: usize) -> usize
-    ensures { result ≡ place_near near node (map (λ c. c.1) of.now) }
-{
-    let near = near.min(of.len());
-    let (before, after) = of.split_at(near);
-    for step in 0..of.len() {
-        if is_at(after, step, node) {
-            return near + step;
-        }
-        if step < near && is_at(before, near - 1 - step, node) {
-            return near - 1 - step;
-        }
-    }
-    of.len()
-}
-
-/// Whether the one at a place is this node.
-fn is_at(of: &[(SchemaId, NodeId)], place: usize, node: NodeId) -> bool
-    ensures { result ≡ option_map_or (λ c. eqb c.1.0 node.0) (slice_get of.now place) false }
-{
-    match of.get(place) {
-        Some(child) => child.1 == node,
-        None => false,
     }
 }

@@ -10,7 +10,6 @@ mod laws;
 mod nodes;
 mod record;
 mod row;
-mod shelf;
 
 pub use key::Key;
 pub use laws::{kept_loans, same_keys};

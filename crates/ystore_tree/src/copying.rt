@@ -5,7 +5,7 @@ ghost use Rattle.yspec.specs.Forest.{size};
 ghost use Rattle.yspec.specs.document.Document as document;
 ghost use Rattle.ytype.specs.View.{raw_of};
 ghost use Rattle.yinst_tree.specs.View.{row_view, tree_view};
-ghost use Rattle.ystore.specs.Store.{node_count};
+ghost use Rattle.ystore.specs.Store.{children_at, node_count};
 ghost use Rattle.ystore.specs.Viewed.{viewed};
 ghost use Rattle.ystore.specs.declared.row.Row.TheVariants.{Top};
 ghost use Rattle.ystore_tree.specs.Hanging.{Branches, Hangs, Holds, tree_of};
@@ -13,8 +13,7 @@ ghost use Rattle.ystore_tree.specs.Copies.{listed_below, row_of_children};
 
 use std::alloc::{AllocError, Global};
 use yinst_tree::{Stored, Tree};
-use yschema_model::SchemaId;
-use ystore::{NodeId, Row, View};
+use ystore::{Row, View};
 use ytype::Raw;
 
 /// A copy of the document that hangs in a store. Its reads aren't counted.
@@ -52,24 +51,27 @@ fn copy_row(
     if levels == 0 {
         return Ok(Vec::new(alloc));
     }
-    copy_children(alloc, view, view.children(above), levels - 1)
+    copy_children(alloc, view, above, levels - 1)
 }
 
 #[cycle(copies)]
 fn copy_children(
     alloc: Global,
     view: View<'_>,
-    children: &[(SchemaId, NodeId)],
+    above: Row,
     levels: usize,
 ) -> Result<Vec<Stored>, AllocError>
     ensures { IfOk result (λ nodes. row_view nodes.items
-        ≡ row_of_children levels (viewed view.entry) children.now) }
+        ≡ row_of_children levels (viewed view.entry) (children_at (viewed view.entry) above)) }
 {
-    let mut nodes = Vec::with_capacity(alloc, children.len())?;
-    for child in children {
-        let value = copy_of_value(view.value(child.1))?;
-        let below = copy_row(alloc, view, Row::Below(child.1), levels)?;
-        nodes.push(Stored::new(child.0, value, below))?;
+    let count = view.child_count(above);
+    let mut nodes = Vec::with_capacity(alloc, count)?;
+    for place in 0..count {
+        if let Some((schema, id)) = view.child_at(above, place) {
+            let value = copy_of_value(view.value(id))?;
+            let below = copy_row(alloc, view, Row::Below(id), levels)?;
+            nodes.push(Stored::new(schema, value, below))?;
+        }
     }
     Ok(nodes)
 }

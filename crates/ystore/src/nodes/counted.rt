@@ -132,7 +132,7 @@ impl<'a> Counted<'a> {
     {
         self.nodes.count.count_read();
         match self.nodes.record(row) {
-            Some(record) => record.children.as_slice().len(),
+            Some(record) => record.children.len(),
             None => 0,
         }
     }

@@ -13,7 +13,7 @@ pub struct View<'a> {
 }
 
 impl<'a> View<'a> {
-    ghost use Rattle.std.specs.Prelude.{◌≡◌, option_map, option_and_then};
+    ghost use Rattle.std.specs.Prelude.{◌≡◌, length, option_map, option_and_then, slice_get};
     ghost use Rattle.ytype.specs.View.{raw_of};
     ghost use Rattle.ystore.specs.Store as store;
     ghost use Rattle.ystore.specs.Viewed.{viewed};
@@ -26,13 +26,23 @@ impl<'a> View<'a> {
         self.nodes.node_count()
     }
 
-    /// The nodes of a row, each with its schema node, by which they ascend.
-    pub fn children(self, row: Row) -> &'a [(SchemaId, NodeId)]
-        ensures { result.now ≡ store.children_at (viewed self.entry) row }
+    /// How many nodes a row has.
+    pub fn child_count(self, row: Row) -> usize
+        ensures { result ≡ length (store.children_at (viewed self.entry) row) }
     {
         match self.nodes.record(row) {
-            Some(record) => record.children.as_slice(),
-            None => &[],
+            Some(record) => record.children.len(),
+            None => 0,
+        }
+    }
+
+    /// The node at a place of a row, with its schema node, by which they ascend.
+    pub fn child_at(self, row: Row, place: usize) -> Option<(SchemaId, NodeId)>
+        ensures { result ≡ slice_get (store.children_at (viewed self.entry) row) place }
+    {
+        match self.nodes.record(row) {
+            Some(record) => record.children.child_at(place),
+            None => None,
         }
     }
 

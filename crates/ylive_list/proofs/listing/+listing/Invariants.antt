@@ -2,6 +2,7 @@ use Rattle.std.proofs.Common.{◌+◌, ◌*◌, ◌≤◌, drop}
 use Rattle.yschema_model.specs.Layout.{number_of}
 use Rattle.yschema_model.specs.View as schema_view
 use Rattle.yspec_play.specs.Merging.{merged, merged_behind}
+use Rattle.ystore.specs.Store.{children_at}
 use Rattle.ystore.specs.Viewed.{viewed}
 use Rattle.ylive_list.specs.Listed.{absences_of, children_told}
 use Rattle.ylive_list.proofs.FoundLemmas.{Leaves}
@@ -29,6 +30,6 @@ invariant-list_children-loop-index l =
     record {
       position : l.position ≤ l.index;
       found : Leaves l.fn.findings l.findings
-          (merged_behind schema above l.last.0 l.position (absences_of l.rest) (children_told l.levels schema nodes (drop l.index l.children)))
-          (merged schema above (absences_of l.play) (children_told l.levels schema nodes l.children));
+          (merged_behind schema above l.last.0 l.position (absences_of l.rest) (children_told l.fn.levels schema nodes (drop l.index (children_at nodes l.fn.row))))
+          (merged schema above (absences_of l.play) (children_told l.fn.levels schema nodes (children_at nodes l.fn.row)));
     }

@@ -1,5 +1,6 @@
 use Rattle.std.proofs.Common.{◌≡◌, ◌+◌, ◌*◌, map, take}
 use Rattle.yinst_tree.specs.View.{view}
+use Rattle.ystore.specs.Store.{children_at}
 use Rattle.ystore.specs.Viewed.{viewed}
 use Rattle.ystore.specs.declared.row.Row.TheVariants.{Below}
 use Rattle.ystore_tree.specs.Copies.{stored_at, listed_below}
@@ -15,4 +16,4 @@ decreases-copy_children l = 2 * l.levels + 1
 abbrev pub invariant-copy_children-loop-child : goal.invariant-copy_children-loop-child
 invariant-copy_children-loop-child l =
     map view l.nodes.items
-    ≡ map (λ c. (stored_at (viewed l.view) c, listed_below l.levels (viewed l.view) (Below c.1))) (take l.child-index l.children)
+    ≡ map (λ c. (stored_at (viewed l.view) c, listed_below l.levels (viewed l.view) (Below c.1))) (take l.place (children_at (viewed l.view) l.above))

@@ -5,8 +5,8 @@ use Rattle.ystore.specs.Rows.{Child, of_schema}
 use Rattle.ystore.proofs.RowLemmas.{first_before_end, together_is}
 use Rattle.ystore.proofs.children.Children.index_near.Goals as goal
 
-pub overflow_sub-end : goal.overflow_sub-end
-overflow_sub-end c =
+pub place_near-requires-clause-order : goal.place_near-requires-clause-order
+place_near-requires-clause-order c =
     omega (arith, c.first_place-first.ensures.place, c.end_place-end.ensures.place, first_before_end c.args.schema (nodes_of c.args.self.now))
 
 pub returns : goal.returns
@@ -14,10 +14,8 @@ returns c =
     let row = nodes_of c.args.self.now in
     let first = c.first_place-first.result in
     let end = c.end_place-end.result in
-    let part : map (λ (d : Child). d.1) c.split_at-2.result.0.now ≡ of_schema c.args.schema row =
+    let part : map (λ (d : Child). d.1) (take (end - first) (drop first row)) ≡ of_schema c.args.schema row =
     ap (map (λ (d : Child). d.1))
-    (c.split_at-2.ensures.front
-    ∙ (ap (take (end - first)) (c.split_at.ensures.back ∙ ap (drop first) c.as_slice.ensures)
-    ∙ (ap₂ (λ f e. take (e - f) (drop f row)) c.first_place-first.ensures.place c.end_place-end.ensures.place
-    ∙ sym (together_is c.args.schema row c.args.self.now.ascending)))) in
+    (ap₂ (λ f e. take (e - f) (drop f row)) c.first_place-first.ensures.place c.end_place-end.ensures.place
+    ∙ sym (together_is c.args.schema row c.args.self.now.ascending)) in
     c.place_near.ensures ∙ ap (place_near c.args.near c.args.node) part

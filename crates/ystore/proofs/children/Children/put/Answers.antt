@@ -2,7 +2,7 @@ use Rattle.std.proofs.Common.{rules, ◌≡◌, ◌∙◌, ◌<◌, ap, length}
 use Rattle.std.specs.Prelude.{slice_set}
 use Rattle.ystore.specs.Children.{nodes_of}
 use Rattle.ystore.specs.Rows.{place_of, put}
-use Rattle.ystore.specs.Shelf.{shelved}
+use Rattle.ybase_tiers.specs.Tiers.{tiered}
 use Rattle.ystore.proofs.RowLemmas.{ascends_put}
 use Rattle.ystore.proofs.children.Children.put.Goals as goal
 
@@ -11,6 +11,6 @@ invariant_of-self c =
     let row = nodes_of c.args.self.now in
     let child = c.args.child in
     let within : place_of child row < length row = search rules in
-    let now : shelved c.set.new.self ≡ put child c.args.node row =
-    c.set.ensures.nodes ∙ ap (λ place. slice_set row place (child.0, c.args.node)) c.place_of-place.ensures.place in
+    let now : tiered c.set.new.self ≡ put child c.args.node row =
+    c.set.ensures.row ∙ ap (λ place. slice_set row place (child.0, c.args.node)) c.place_of-place.ensures.place in
     record { ascending = rw now (ascends_put child c.args.node row within c.args.self.now.ascending) }

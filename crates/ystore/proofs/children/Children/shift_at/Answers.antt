@@ -1,30 +1,32 @@
-use Rattle.std.proofs.Common.{rules, ◌≡◌, ◌∙◌, ◌-◌, ◌≤◌, ap, length, min, true}
+use Rattle.std.proofs.Common.{rules, ◌≡◌, ◌∙◌, ◌-◌, ◌≤◌, ap, insert, length, min, true}
 use Rattle.ystore.specs.Children.{nodes_of}
 use Rattle.ystore.specs.Rows.{ascends, brought, of_schema, place_at}
-use Rattle.ystore.specs.Shelf.{shelved}
+use Rattle.ybase_tiers.specs.Tiers.{tiered}
 use Rattle.ystore.proofs.RowLemmas.{ascends_brought, ascends_remove, none_shifted, shifted_is}
 use Rattle.ystore.proofs.children.Children.shift_at.Goals as goal
 
 pub invariant_of-self : goal.invariant_of-self
 invariant_of-self c =
-    record { ascending = rw c.remove-child.ensures.nodes (ascends_remove (nodes_of c.args.self.now) c.place_at-from.result c.args.self.now.ascending) }
+    record { ascending = rw c.remove-child.ensures.row (ascends_remove (nodes_of c.args.self.now) c.place_at-from.result c.args.self.now.ascending) }
 
 pub invariant_of-self-then-from-len : goal.invariant_of-self-then-from-len
 invariant_of-self-then-from-len c =
-    let rest = shelved c.remove-child.new.self in
-    let all : ascends rest ≡ true = rw c.remove-child.ensures.nodes (ascends_remove (nodes_of c.args.self.now) c.place_at-from.result c.args.self.now.ascending) in
-    let now : shelved c.insert.new.self ≡ brought c.remove-child.result c.args.to rest = search rules in
+    let rest = tiered c.remove-child.new.self in
+    let all : ascends rest ≡ true = rw c.remove-child.ensures.row (ascends_remove (nodes_of c.args.self.now) c.place_at-from.result c.args.self.now.ascending) in
+    let now : tiered c.insert.new.self ≡ brought c.remove-child.result c.args.to rest =
+    c.insert.ensures.row ∙ ap (λ place. insert rest place c.remove-child.result) c.place_among-to.ensures.place in
     record { ascending = rw now (ascends_brought rest c.remove-child.result c.args.to all) }
 
 pub returns-then-from-len-clause-nodes : goal.returns-then-from-len-clause-nodes
 returns-then-from-len-clause-nodes c =
     let row = nodes_of c.args.self.now in
     let child = c.remove-child.result in
-    let rest = shelved c.remove-child.new.self in
-    let now : shelved c.insert.new.self ≡ brought child c.args.to rest = search rules in
+    let rest = tiered c.remove-child.new.self in
+    let now : tiered c.insert.new.self ≡ brought child c.args.to rest =
+    c.insert.ensures.row ∙ ap (λ place. insert rest place child) c.place_among-to.ensures.place in
     let is : c.place_at-from.result ≡ place_at c.args.schema (min c.args.from (length (of_schema c.args.schema row) - 1)) row = search rules in
     now
-    ∙ (ap (brought child c.args.to) c.remove-child.ensures.nodes
+    ∙ (ap (brought child c.args.to) c.remove-child.ensures.row
     ∙ shifted_is c.args.schema c.args.from c.args.to c.place_at-from.result row child is c.remove-child.ensures.value)
 
 pub returns-else-from-len-clause-nodes : goal.returns-else-from-len-clause-nodes
@@ -33,3 +35,6 @@ returns-else-from-len-clause-nodes c =
     let is : c.place_at-from.result ≡ place_at c.args.schema (min c.args.from (length (of_schema c.args.schema row) - 1)) row = search rules in
     let past : length row ≤ c.place_at-from.result = search rules in
     none_shifted c.args.schema c.args.from c.args.to c.place_at-from.result row is past
+
+pub insert-requires-clause-room : goal.insert-requires-clause-room
+insert-requires-clause-room c = c.remove-child.ensures.spare

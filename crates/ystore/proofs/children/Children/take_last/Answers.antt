@@ -5,4 +5,4 @@ use Rattle.ystore.proofs.children.Children.take_last.Goals as goal
 
 pub invariant_of-self : goal.invariant_of-self
 invariant_of-self c =
-    record { ascending = rw c.remove.ensures.nodes (ascends_remove (nodes_of c.args.self.now) (c.end_place-end.result - 1) c.args.self.now.ascending) }
+    record { ascending = rw c.remove.ensures.row (ascends_remove (nodes_of c.args.self.now) (c.end_place-end.result - 1) c.args.self.now.ascending) }
