@@ -1,11 +1,12 @@
 -- What a store lists below a row is what hangs on it.
-use Rattle.std.proofs.Common.{◌≡◌, ℕ, zero, suc, ◌+◌, ◌-◌, ◌<◌, ◌≤◌, List, [], ◌∷◌, ◌++◌, length, take, get_or, map, Option, Some, None, option_map, Result, Ok, Err, IfOk, refl, sym, ap, ap₂, ◌∙◌, arith}
+use Rattle.std.proofs.Common.{◌≡◌, ℕ, zero, suc, ◌+◌, ◌-◌, ◌<◌, ◌≤◌, List, [], ◌∷◌, ◌++◌, length, length-append, take, map, Option, Some, None, option_map, Result, Ok, Err, IfOk, refl, sym, ap, ap₂, ◌∙◌, arith, slice_get}
+use Rattle.std.proofs.lemmas.Option.{none-some, same_Some, slice_get_within}
 use Rattle.std.specs.Prelude.{option_and_then}
 use Rattle.std.specs.Option.{option_map_or}
 use Rattle.yspec.specs.Forest.{end, node, size, levels}
 use Rattle.yspec.specs.types.Types.{Raw}
 use Rattle.yspec.specs.document.Document.{Stored, Tree}
-use Rattle.yinst_tree.specs.View.{Labelled, row_of, view}
+use Rattle.yinst_tree.specs.View.{Labelled, row_of, row_view, view}
 use Rattle.yinst_tree.specs.declared.tree.Stored as tree
 use Rattle.ystore.specs.Rows.{Child}
 use Rattle.ystore.specs.Held.{Held, Label, Shape}
@@ -75,10 +76,10 @@ deeper (suc k) nodes above more =
 abbrev child_view : ℕ → Nodes → Child → Labelled
 child_view levels nodes c = (stored_at nodes c, listed_below levels nodes (Below c.1))
 
-take_more : (cs : List Child) (i : ℕ) (d : Child) → i < length cs → take (suc i) cs ≡ take i cs ++ get_or cs i d ∷ []
-take_more [] i d within = absurd (omega (arith, within))
-take_more (c ∷ cs) zero d within = refl
-take_more (c ∷ cs) (suc i) d within = ap (λ xs. c ∷ xs) (take_more cs i d (omega (arith, within)))
+take_more : (cs : List Child) (i : ℕ) (c : Child) → slice_get cs i ≡ Some c → take (suc i) cs ≡ take i cs ++ c ∷ []
+take_more [] i c there = absurd (none-some c there)
+take_more (x ∷ cs) zero c there = ap (λ y. y ∷ []) (same_Some x c there)
+take_more (x ∷ cs) (suc i) c there = ap (λ xs. x ∷ xs) (take_more cs i c there)
 
 map_last : {X : Type 0} (f : X → Labelled) (xs : List X) (x : X) → map f (xs ++ x ∷ []) ≡ map f xs ++ f x ∷ []
 map_last f [] x = refl
@@ -90,17 +91,35 @@ pub copy_is : (levels : ℕ) (nodes : Nodes) (c : Child) (seen : Labelled) (v w 
 copy_is levels nodes c seen v w t label same held below deep =
     ap₂ (λ (s : Stored) (r : Tree). (s, r)) (label ∙ ap (λ (v : Option Raw). record { schema_number = c.0.0; value = v }) (same ∙ held)) (below ∙ deep)
 
-pub one_copied : (levels : ℕ) (nodes : Nodes) (cs : List Child) (i : ℕ) (d : Child) (done : List tree.Stored) (s : tree.Stored) → i < length cs
-    → map view done ≡ map (λ c. (stored_at nodes c, listed_below levels nodes (Below c.1))) (take i cs)
-    → view s ≡ (stored_at nodes (get_or cs i d), listed_below levels nodes (Below (get_or cs i d).1))
-    → map view (done ++ s ∷ []) ≡ map (λ c. (stored_at nodes c, listed_below levels nodes (Below c.1))) (take (i + 1) cs)
-one_copied levels nodes cs i d done s within so is =
-    let e : suc i ≡ i + 1 = omega arith in
-    map_last view done s
-    ∙ (ap₂ (λ (ls : List Labelled) (l : Labelled). ls ++ l ∷ []) so is
-    ∙ (sym (map_last (child_view levels nodes) (take i cs) (get_or cs i d))
-    ∙ (ap (map (child_view levels nodes)) (sym (take_more cs i d within))
-    ∙ ap (λ n. map (child_view levels nodes) (take n cs)) e)))
+module _ (cs : List Child) (done after : List tree.Stored) (s : tree.Stored) (one_more : after ≡ done ++ s ∷ []) (c : Child) (there : slice_get cs (length done) ≡ Some c) where
+  long : length after ≡ suc (length done)
+  long = ap length one_more ∙ (let one : length (done ++ s ∷ []) ≡ suc (length done) = omega (arith, length-append done (s ∷ [])) in one)
+
+  pub fewer : length cs - length after < length cs - length done
+  fewer = omega (arith, long, slice_get_within cs (length done) c there)
+
+  pub one_copied : (levels : ℕ) (nodes : Nodes)
+      → map view done ≡ map (λ c. (stored_at nodes c, listed_below levels nodes (Below c.1))) (take (length done) cs)
+      → view s ≡ (stored_at nodes c, listed_below levels nodes (Below c.1))
+      → map view after ≡ map (λ c. (stored_at nodes c, listed_below levels nodes (Below c.1))) (take (length after) cs)
+  one_copied levels nodes so is =
+      ap (map view) one_more
+      ∙ (map_last view done s
+      ∙ (ap₂ (λ (ls : List Labelled) (l : Labelled). ls ++ l ∷ []) so is
+      ∙ (sym (map_last (child_view levels nodes) (take (length done) cs) c)
+      ∙ (ap (map (child_view levels nodes)) (sym (take_more cs (length done) c there))
+      ∙ ap (λ n. map (child_view levels nodes) (take n cs)) (sym long)))))
+
+take_whole : (cs : List Child) (n : ℕ) → slice_get cs n ≡ None → take n cs ≡ cs
+take_whole [] zero none = refl
+take_whole [] (suc n) none = refl
+take_whole (x ∷ cs) zero none = absurd (none-some x (sym none))
+take_whole (x ∷ cs) (suc n) none = ap (λ xs. x ∷ xs) (take_whole cs n none)
+
+pub all_copied : (levels : ℕ) (nodes : Nodes) (cs : List Child) (done : List tree.Stored)
+    → map view done ≡ map (λ c. (stored_at nodes c, listed_below levels nodes (Below c.1))) (take (length done) cs) → slice_get cs (length done) ≡ None
+    → row_view done ≡ row_of_children levels nodes cs
+all_copied levels nodes cs done so none = ap row_of (so ∙ ap (map (child_view levels nodes)) (take_whole cs (length done) none))
 
 pub same_if_ok : {X E : Type 0} (r : Result X E) (see : X → Tree) (a b : Tree) → a ≡ b → IfOk r (λ x. see x ≡ a) → IfOk r (λ x. see x ≡ b)
 same_if_ok (Ok x) see a b is h = h ∙ is

@@ -64,14 +64,11 @@ fn copy_children(
     ensures { IfOk result (λ nodes. row_view nodes.items
         ≡ row_of_children levels (viewed view.entry) (children_at (viewed view.entry) above)) }
 {
-    let count = view.child_count(above);
-    let mut nodes = Vec::with_capacity(alloc, count)?;
-    for place in 0..count {
-        if let Some((schema, id)) = view.child_at(above, place) {
-            let value = copy_of_value(view.value(id))?;
-            let below = copy_row(alloc, view, Row::Below(id), levels)?;
-            nodes.push(Stored::new(schema, value, below))?;
-        }
+    let mut nodes = Vec::with_capacity(alloc, view.child_count(above))?;
+    while let Some(child) = view.child_at(above, nodes.len()) {
+        let value = copy_of_value(view.value(child.1))?;
+        let below = copy_row(alloc, view, Row::Below(child.1), levels)?;
+        nodes.push(Stored::new(child.0, value, below))?;
     }
     Ok(nodes)
 }

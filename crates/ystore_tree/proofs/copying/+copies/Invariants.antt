@@ -1,4 +1,4 @@
-use Rattle.std.proofs.Common.{◌≡◌, ◌+◌, ◌*◌, map, take}
+use Rattle.std.proofs.Common.{◌≡◌, ◌+◌, ◌-◌, ◌*◌, length, map, take}
 use Rattle.yinst_tree.specs.View.{view}
 use Rattle.ystore.specs.Store.{children_at}
 use Rattle.ystore.specs.Viewed.{viewed}
@@ -16,4 +16,8 @@ decreases-copy_children l = 2 * l.levels + 1
 abbrev pub invariant-copy_children-loop-child : goal.invariant-copy_children-loop-child
 invariant-copy_children-loop-child l =
     map view l.nodes.items
-    ≡ map (λ c. (stored_at (viewed l.view) c, listed_below l.levels (viewed l.view) (Below c.1))) (take l.place (children_at (viewed l.view) l.above))
+    ≡ map (λ c. (stored_at (viewed l.view) c, listed_below l.levels (viewed l.view) (Below c.1))) (take (length l.nodes.items) (children_at (viewed l.view) l.above))
+
+-- the children that are left
+abbrev pub decreases-copy_children-loop-child : goal.decreases-copy_children-loop-child
+decreases-copy_children-loop-child l = length (children_at (viewed l.view) l.above) - length l.nodes.items
