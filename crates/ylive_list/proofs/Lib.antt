@@ -1,3 +1,4 @@
+pub mod ChildLemmas
 pub mod DownLemmas
 pub mod FoundLemmas
 pub mod ListingLemmas

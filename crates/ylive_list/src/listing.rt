@@ -1,6 +1,6 @@
 //! The faults that a store holds, listed row by row.
 
-ghost use Rattle.std.specs.Prelude.{◌≡◌, ◌≤◌, ◌<◌, ◌^◌, ◌∷◌, [], map, option_map, string_bytes, IfOk, OnOk};
+ghost use Rattle.std.specs.Prelude.{◌≡◌, ◌+◌, ◌≤◌, ◌<◌, ◌^◌, ◌∷◌, [], map, option_map, string_bytes, IfOk, OnOk};
 ghost use Rattle.std.specs.Option.{option_map_or};
 ghost use Rattle.yspec.specs.Forest.{size};
 ghost use Rattle.yspec.specs.document.Faults.{faults_of, under};
@@ -117,7 +117,7 @@ fn list_children(
 
 /// The position of a child among those of its schema node, behind one of a schema node and a position.
 pub(crate) fn position_behind(last: SchemaId, position: usize, id: SchemaId) -> usize
-    requires { position < 2 ^ 63 }
+    requires { position + 1 < 2 ^ 64 }
     ensures { result ≡ position_behind last.0 position id.0 }
 {
     if id.0 == last.0 { position + 1 } else { 1 }
