@@ -1,0 +1,4 @@
+pub mod AskedLemmas
+pub mod PlaceLemmas
+pub mod EdgeLemmas
+pub mod OrderLemmas
