@@ -1,1 +1,2 @@
+pub mod ConditionView
 pub mod StandingView
