@@ -4,3 +4,4 @@ pub mod EdgeLemmas
 pub mod OrderLemmas
 pub mod RowLemmas
 pub mod StepLemmas
+pub mod AskingLemmas

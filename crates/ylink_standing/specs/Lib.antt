@@ -1,2 +1,3 @@
+pub mod AskingView
 pub mod ConditionView
 pub mod StandingView
