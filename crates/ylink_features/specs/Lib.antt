@@ -1,0 +1,4 @@
+pub mod ConditionView
+pub mod FeatureView
+pub mod NumberView
+pub mod VersionView

@@ -1,0 +1,17 @@
+//! Which features modules have, and what conditions name.
+#![tactic(auto)]
+
+mod added;
+mod condition;
+mod declaring;
+mod features;
+mod first_numbers;
+mod taken;
+mod unknown;
+mod versions;
+
+pub use added::{is_condition, is_feature};
+pub use features::Features;
+pub use taken::broken_taken_feature_rule;
+pub use unknown::broken_condition_prefix_rule;
+pub use versions::Versions;
