@@ -1,0 +1,2 @@
+pub mod ConditionView
+pub mod StandingView
