@@ -1,5 +1,6 @@
 //! Documents that are read, put into a store, changed there, and copied back.
 
+use crate::stores::hang;
 use std::alloc::Global;
 use test_modules::{ENTRIES, MODULE, NETWORK, STATE};
 use yinst_tree::{Tree, read, write};
@@ -98,40 +99,59 @@ fn replaced(alloc: Global, schema: &Schema, nodes: &mut Nodes, other: &str) -> O
     Some(())
 }
 
+// Takes the first top node out.
+fn take_first(nodes: &mut Nodes) -> Option<()> {
+    let mut counted = nodes.counted();
+    let (id, _) = first_of(&mut counted)?;
+    counted.take_child_at(Row::Top, id, 0);
+    Some(())
+}
+
+fn changes_in(alloc: Global, schema: &Schema, nodes: &mut Nodes) -> Option<bool> {
+    let new = r#"{"p:c":{"id":8,"note":"y"}}"#;
+    replaced(alloc, schema, nodes, new)?;
+    let is_put = holds(alloc, schema, nodes, new, "3")?;
+    take_first(nodes)?;
+    Some(is_put && holds(alloc, schema, nodes, "{}", "3")?)
+}
+
 // A container with a leaf is replaced, and taken out.
 fn changes(alloc: Global) -> Option<bool> {
     let schema = schema_of(alloc, MODULE)?;
     let mut nodes = opened(alloc, &schema, r#"{"p:c":{"id":7}}"#)?;
-    let new = r#"{"p:c":{"id":8,"note":"y"}}"#;
-    replaced(alloc, &schema, &mut nodes, new)?;
-    let is_put = holds(alloc, &schema, &nodes, new, "3")?;
-    let mut counted = nodes.counted();
-    let (id, _) = first_of(&mut counted)?;
-    counted.take_child_at(Row::Top, id, 0);
-    Some(is_put && holds(alloc, &schema, &nodes, "{}", "3")?)
+    changes_in(alloc, &schema, &mut nodes)
 }
 
-// An entry stands behind those that are there, and in front of nodes of later schema nodes.
-#[tactic(auto, using(ystore::proofs::CallerLemmas::room_is_there))]
-fn added(alloc: Global) -> Option<bool> {
-    let schema = schema_of(alloc, ENTRIES)?;
-    let mut nodes = opened(alloc, &schema, r#"{"v:e":[{"id":2},{"id":1}]}"#)?;
-    let other = read(alloc, &schema, r#"{"v:e":[{"id":3}]}"#.as_bytes()).ok()?;
+// Hangs an entry behind all others, and moves the first behind the second.
+fn hang_entry(counted: &mut Counted<'_>, id: SchemaId, new: NodeId) -> Option<()> {
+    hang(counted, Row::Top, id, new)?;
+    counted.move_child_at(Row::Top, id, 0, 1);
+    Some(())
+}
+
+// Adds an entry; whether its nodes are listed.
+fn add_entry(alloc: Global, schema: &Schema, nodes: &mut Nodes, entry: &str) -> Option<bool> {
+    let other = read(alloc, schema, entry.as_bytes()).ok()?;
     let mut counted = nodes.counted();
     let (id, _) = first_of(&mut counted)?;
     let mut numbers = Vec::new(alloc);
     let new = insert_part(
         &mut counted,
-        &schema,
+        schema,
         Row::Top,
         other.into_roots().pop()?,
         &mut numbers,
     )
     .ok()?;
-    let is_listed = numbers.len() == 2 && numbers[0] == new;
-    counted.reserve_child(Row::Top).ok()?;
-    counted.add_child(Row::Top, id, new);
-    counted.move_child_at(Row::Top, id, 0, 1);
+    hang_entry(&mut counted, id, new)?;
+    Some(numbers.len() == 2 && numbers[0] == new)
+}
+
+// An entry stands behind those that are there, and in front of nodes of later schema nodes.
+fn added(alloc: Global) -> Option<bool> {
+    let schema = schema_of(alloc, ENTRIES)?;
+    let mut nodes = opened(alloc, &schema, r#"{"v:e":[{"id":2},{"id":1}]}"#)?;
+    let is_listed = add_entry(alloc, &schema, &mut nodes, r#"{"v:e":[{"id":3}]}"#)?;
     let document = r#"{"v:e":[{"id":1},{"id":2},{"id":3}]}"#;
     Some(is_listed && holds(alloc, &schema, &nodes, document, "6")?)
 }

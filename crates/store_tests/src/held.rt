@@ -1,16 +1,14 @@
 //! What each node of a store holds, in preorder: its keys, the values that it gives, and what is told of it and below it.
 
+use crate::documents::{opened, schema_of};
 use std::alloc::Global;
 use test_modules::{DEFAULT_CASE, ENTRIES, MODULE, NETWORK, STATE};
-use yinst_tree::read;
 use ylive_facts::{
     InPlay, child_over, flag_count, in_play, in_play_over, judged_of, keys_of, own_value_of,
 };
-use yschema::compile;
 use yschema_model::{Schema, SchemaId};
-use ystore::{Counted, Judged, Key, NodeId, Nodes, Row};
-use ystore_tree::{copy_part, store_of_tree};
-use ytext::parse;
+use ystore::{Counted, Judged, Key, NodeId, Row};
+use ystore_tree::copy_part;
 
 // A `leafref` with its target; an `item` with its leaf-list; a `tuple` with its list, its number and its length; `texts` with
 // their list, and each of them.
@@ -146,16 +144,20 @@ fn numbers_of(counted: &mut Counted<'_>) -> Option<Vec<NodeId>> {
     Some(numbers)
 }
 
+fn add_document(counted: &mut Counted<'_>, schema: &Schema, text: &mut String) -> Option<()> {
+    add_row(counted, schema, Row::Top, None, text)?;
+    let numbers = numbers_of(counted)?;
+    for id in &numbers {
+        add_node(counted, schema, *id, text)?;
+    }
+    Some(())
+}
+
 fn text_of(alloc: Global, schema: &Schema, document: &str) -> Option<String> {
-    let tree = read(alloc, schema, document.as_bytes()).ok()?;
-    let mut nodes: Nodes = store_of_tree(alloc, schema, &tree).ok()?;
+    let mut nodes = opened(alloc, schema, document)?;
     let mut counted = nodes.counted();
     let mut text = String::new(alloc);
-    add_row(&mut counted, schema, Row::Top, None, &mut text)?;
-    let numbers = numbers_of(&mut counted)?;
-    for id in &numbers {
-        add_node(&mut counted, schema, *id, &mut text)?;
-    }
+    add_document(&mut counted, schema, &mut text)?;
     Some(text)
 }
 
@@ -163,9 +165,7 @@ fn text_of(alloc: Global, schema: &Schema, document: &str) -> Option<String> {
 // keys, its value, what is told of it and of the row below it, and the defaults there`
 fn holds(alloc: Global, module: &str, row: &str) -> Option<bool> {
     let (document, expected) = row.split_once(" => ")?;
-    let mut modules = Vec::new(alloc);
-    modules.push(parse(alloc, module.as_bytes()).ok()?).ok()?;
-    let schema = compile(alloc, &modules).ok()?;
+    let schema = schema_of(alloc, module)?;
     let text = text_of(alloc, &schema, document)?;
     Some(text.as_str() == expected)
 }
@@ -219,40 +219,51 @@ fn items(rt: HostRuntime) {
     assert!(rt; hold(rt.alloc(), STATE, state) == Some(true));
 }
 
-// Of each schema node the child of the top row that is over it, and what is in play of that child there.
-fn play_over(alloc: Global, module: &str, document: &str) -> Option<String> {
-    let mut modules = Vec::new(alloc);
-    modules.push(parse(alloc, module.as_bytes()).ok()?).ok()?;
-    let schema = compile(alloc, &modules).ok()?;
-    let tree = read(alloc, &schema, document.as_bytes()).ok()?;
-    let mut nodes: Nodes = store_of_tree(alloc, &schema, &tree).ok()?;
+// The child of the top row that is over a schema node, and what is in play of that child there.
+fn add_over(
+    counted: &mut Counted<'_>,
+    schema: &Schema,
+    number: u32,
+    text: &mut String,
+) -> Option<()> {
+    let alloc = counted.alloc();
+    let child = child_over(schema, None, SchemaId::new(number));
+    text.push_str(
+        format!(in alloc; "{}:{} ", number, child?.id().0)
+            .ok()?
+            .as_str(),
+    )
+    .ok()?;
+    let found = in_play_over(counted, schema, Row::Top, child).ok()?;
+    add_play(alloc, &found, text)
+}
+
+// Of each schema node.
+fn add_overs(counted: &mut Counted<'_>, schema: &Schema, text: &mut String) -> Option<()> {
+    for number in 0..6u32 {
+        add_over(counted, schema, number, text)?;
+    }
+    Some(())
+}
+
+fn play_over(alloc: Global, schema: &Schema, document: &str) -> Option<String> {
+    let mut nodes = opened(alloc, schema, document)?;
     let mut counted = nodes.counted();
     let mut text = String::new(alloc);
-    for number in 0..6u32 {
-        let child = child_over(&schema, None, SchemaId::new(number));
-        text.push_str(
-            format!(in alloc; "{}:{} ", number, child?.id().0)
-                .ok()?
-                .as_str(),
-        )
-        .ok()?;
-        let found = in_play_over(&mut counted, &schema, Row::Top, child).ok()?;
-        add_play(alloc, &found, &mut text)?;
-    }
+    add_overs(&mut counted, schema, &mut text)?;
     Some(text)
 }
 
-fn plays(alloc: Global, document: &str, expected: &str) -> bool {
-    match play_over(alloc, DEFAULT_CASE, document) {
-        Some(text) => text.as_str() == expected,
-        None => false,
-    }
+fn plays(alloc: Global, document: &str, expected: &str) -> Option<bool> {
+    let schema = schema_of(alloc, DEFAULT_CASE)?;
+    let text = play_over(alloc, &schema, document)?;
+    Some(text.as_str() == expected)
 }
 
 #[test]
 fn children_over_nodes(rt: HostRuntime) {
-    assert!(rt; plays(rt.alloc(), "{}", "0:0 *2 1:0 *2 2:0 *2 3:0 *2 4:0 *2 5:5 "));
-    assert!(rt; plays(rt.alloc(), r#"{"k:boost":1}"#, "0:0 1:0 2:0 3:0 4:0 5:5 "));
+    assert!(rt; plays(rt.alloc(), "{}", "0:0 *2 1:0 *2 2:0 *2 3:0 *2 4:0 *2 5:5 ") == Some(true));
+    assert!(rt; plays(rt.alloc(), r#"{"k:boost":1}"#, "0:0 1:0 2:0 3:0 4:0 5:5 ") == Some(true));
     let both = "0:0 V5@0 1:0 V5@0 2:0 V5@0 3:0 V5@0 4:0 V5@0 5:5 ";
-    assert!(rt; plays(rt.alloc(), r#"{"k:boost":1,"k:rate":2}"#, both));
+    assert!(rt; plays(rt.alloc(), r#"{"k:boost":1,"k:rate":2}"#, both) == Some(true));
 }

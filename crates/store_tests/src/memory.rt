@@ -1,11 +1,14 @@
 //! One request for memory, whichever, may be refused: a growth says so, and all that was stored is as it was.
 //! `tools/refuse-memory` refuses each request in turn.
 
-use crate::stores::{CONTAINER, FIRST, SECOND, hang, hold, insert, keys, rows, text, told};
+use crate::stores::{
+    FIRST, SECOND, container, hang, hold, insert, instances_of, items_of, keys, leaf, rows, told,
+    value_of,
+};
 use std::alloc::{AllocError, Global};
 use ycheck::FaultCode;
 use ystore::{Counted, Judged, Key, NodeId, Nodes, Row};
-use ytype::{Val, YType};
+use ytype::Val;
 
 // What a store is asked for: a container with two leafs, and what is held at two keys and at one that isn't there.
 #[derive(Drop)]
@@ -17,13 +20,6 @@ struct Stored {
     instances: Key,
     holders: Key,
     absent: Key,
-}
-
-fn value_of(alloc: Global, of: &str) -> Option<Val> {
-    YType::string(alloc)
-        .ok()?
-        .check(alloc, &text(alloc, of)?)
-        .ok()
 }
 
 // Tells of the leafs and the rows.
@@ -42,26 +38,47 @@ fn tell(counted: &mut Counted<'_>, stored: &Stored) -> Option<()> {
     hold(counted, &stored.value, stored.second)
 }
 
-fn store(alloc: Global, counted: &mut Counted<'_>) -> Option<Stored> {
-    let container = insert(counted, CONTAINER, None, Row::Top, 0)?;
-    hang(counted, Row::Top, CONTAINER, container)?;
+// A container with two leafs.
+fn store_nodes(counted: &mut Counted<'_>) -> Option<(NodeId, NodeId, NodeId)> {
+    let container = container(counted)?;
     let row = Row::Below(container);
-    let first = insert(counted, FIRST, Some(text(alloc, "a")?), row, 0)?;
+    let first = leaf(counted, FIRST, "a", row)?;
     hang(counted, row, FIRST, first)?;
-    let second = insert(counted, SECOND, Some(text(alloc, "b")?), row, 0)?;
+    let second = leaf(counted, SECOND, "b", row)?;
     hang(counted, row, SECOND, second)?;
+    Some((container, first, second))
+}
+
+fn store(alloc: Global, counted: &mut Counted<'_>) -> Option<Stored> {
+    let (container, first, second) = store_nodes(counted)?;
     let value = value_of(alloc, "a")?;
     let stored = Stored {
         container,
         first,
         second,
-        instances: Key::Value(FIRST, value.clone().ok()?),
-        holders: Key::Item(Row::Top, FIRST, value.clone().ok()?),
-        absent: Key::Item(row, SECOND, value.clone().ok()?),
+        instances: instances_of(FIRST, &value)?,
+        holders: items_of(Row::Top, FIRST, &value)?,
+        absent: items_of(Row::Below(container), SECOND, &value)?,
         value,
     };
     tell(counted, &stored)?;
     Some(stored)
+}
+
+fn grow_rows(counted: &mut Counted<'_>, row: Row) -> Result<(), AllocError> {
+    counted.reserve_nodes(64)?;
+    counted.reserve_child(Row::Top)?;
+    counted.reserve_child(row)
+}
+
+fn grow_instances(counted: &mut Counted<'_>, known: Key, new: Key) -> Result<(), AllocError> {
+    counted.await_instance(known)?;
+    counted.await_instance(new)
+}
+
+fn grow_holders(counted: &mut Counted<'_>, known: Key, new: Key) -> Result<(), AllocError> {
+    counted.await_holder(known)?;
+    counted.await_holder(new)
 }
 
 // Each growth, by keys that are made before.
@@ -73,14 +90,18 @@ fn grow(
     held: Key,
     instance: Key,
 ) -> Result<(), AllocError> {
-    counted.reserve_nodes(64)?;
-    counted.reserve_child(Row::Top)?;
-    counted.reserve_child(row)?;
-    counted.await_instance(known)?;
-    counted.await_instance(instance)?;
-    counted.await_holder(held)?;
-    counted.await_holder(new)?;
-    Ok(())
+    grow_rows(counted, row)?;
+    grow_instances(counted, known, instance)?;
+    grow_holders(counted, held, new)
+}
+
+// Whether each growth was done.
+fn is_grown(counted: &mut Counted<'_>, row: Row, value: &Val) -> Option<bool> {
+    let known = instances_of(FIRST, value)?;
+    let new = items_of(row, SECOND, value)?;
+    let held = items_of(Row::Top, FIRST, value)?;
+    let instance = instances_of(SECOND, value)?;
+    Some(grow(counted, row, known, new, held, instance).is_ok())
 }
 
 // Whether the rows are read as they were made.
@@ -116,20 +137,23 @@ fn is_told_kept(nodes: &Nodes, stored: &Stored) -> bool {
         && view.play(Row::Below(stored.container)) == [(FaultCode::V3, SECOND)].as_slice()
 }
 
+// Whether all is read as it was once another node is inserted, where there is memory for it.
+fn is_read(counted: &mut Counted<'_>, stored: &Stored, is_grown: bool) -> bool {
+    let row = Row::Below(stored.container);
+    let is_inserted = insert(counted, SECOND, None, row, 4).is_some();
+    counted.node_count() == 3 + usize::from(is_inserted)
+        && are_rows_kept(counted, stored)
+        && are_keys_kept(counted, stored)
+        && (is_grown || is_inserted)
+}
+
 fn is_kept(alloc: Global) -> Option<bool> {
     let mut nodes = Nodes::new(alloc);
     let mut counted = nodes.counted();
     let stored = store(alloc, &mut counted)?;
-    let row = Row::Below(stored.container);
-    let known = Key::Value(FIRST, stored.value.clone().ok()?);
-    let new = Key::Item(row, SECOND, stored.value.clone().ok()?);
-    let held = Key::Item(Row::Top, FIRST, stored.value.clone().ok()?);
-    let instance = Key::Value(SECOND, stored.value.clone().ok()?);
-    let is_grown = grow(&mut counted, row, known, new, held, instance).is_ok();
-    let is_inserted = insert(&mut counted, SECOND, None, row, 4).is_some();
-    let are_added = counted.node_count() == 3 + usize::from(is_inserted);
-    let is_read = are_rows_kept(&mut counted, &stored) && are_keys_kept(&mut counted, &stored);
-    Some(is_read && are_added && is_told_kept(&nodes, &stored) && (is_grown || is_inserted))
+    let is_grown = is_grown(&mut counted, Row::Below(stored.container), &stored.value)?;
+    let is_read = is_read(&mut counted, &stored, is_grown);
+    Some(is_read && is_told_kept(&nodes, &stored))
 }
 
 #[test]

@@ -1,3 +1,4 @@
+pub mod AskedView
 pub mod ConditionView
 pub mod FeatureView
 pub mod NumberView

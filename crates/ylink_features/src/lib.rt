@@ -2,16 +2,19 @@
 #![tactic(auto)]
 
 mod added;
+mod asked;
 mod condition;
 mod declaring;
 mod features;
 mod first_numbers;
+mod lost;
 mod taken;
 mod unknown;
 mod versions;
 
 pub use added::{is_condition, is_feature};
 pub use features::Features;
+pub use lost::{LostCondition, broken_condition_rule};
 pub use taken::broken_taken_feature_rule;
 pub use unknown::broken_condition_prefix_rule;
 pub use versions::Versions;
