@@ -1,13 +1,11 @@
 -- What conditions ask by the numbers of features is what their expressions say, statement by statement.
 use Rattle.std.proofs.Common.{◌≡◌, ℕ, zero, suc, ◌+◌, ◌<◌, ◌≤◌, Bool, true, false, not, cond, List, [], ◌∷◌, ◌++◌, length, get_or, Option, Some, None, option_map, refl, sym, ap, ap₂, ◌∙◌, subst, arith}
 use Rattle.std.specs.Prelude.{◌==◌, ◌&&◌, ◌||◌, slice_get, option_and_then}
-use Rattle.std.specs.List.{Contains}
 use Rattle.std.specs.Option.{option_map_or}
 use Rattle.std.proofs.lemmas.Bool.Decides.{Decides-eqb}
 use Rattle.std.proofs.lemmas.Option.{slice_get-get_or}
 use Rattle.yspec.specs.Forest.{Forest}
-use Rattle.yspec.specs.linking.Arguments.{Name}
-use Rattle.yspec.specs.linking.Scopes.{Placed, statements_of, statement_at}
+use Rattle.yspec.specs.linking.Scopes.{Placed}
 use Rattle.yspec.specs.linking.Source.{Source}
 use Rattle.yspec_wide.specs.Expressions.{Expression, feature, not_so, both_so, one_so, holds}
 use Rattle.yspec_wide.specs.Features.{Feature, feature_named, condition_holds}

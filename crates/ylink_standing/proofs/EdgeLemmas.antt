@@ -1,5 +1,5 @@
 -- What features ask of one another is an edge between them, and where nothing is told of conditions none lies on a circle.
-use Rattle.std.proofs.Common.{◌≡◌, ℕ, zero, suc, Bool, true, false, not, cond, List, [], ◌∷◌, ◌++◌, map, Option, Some, None, refl, sym, ap, ap₂, ◌∙◌, inl, inr, arith}
+use Rattle.std.proofs.Common.{◌≡◌, ℕ, zero, suc, Bool, true, false, not, cond, List, [], ◌∷◌, map, Option, Some, None, refl, sym, ap, ap₂, ◌∙◌, inl, inr, arith}
 use Rattle.std.specs.Prelude.{◌==◌, ◌&&◌, ◌||◌}
 use Rattle.std.specs.List.{Contains, list_any, flat_map, filter_map, cons_option}
 use Rattle.std.specs.Option.{option_map_or}
@@ -11,7 +11,7 @@ use Rattle.yspec.specs.linking.Arguments.{Name}
 use Rattle.yspec.specs.linking.Graph.{Edge, is_on_circle}
 use Rattle.yspec.specs.linking.Scopes.{Placed, placed, statements_of}
 use Rattle.yspec.specs.linking.Source.{Source}
-use Rattle.yspec.specs.schema.Breaks.{Break, broken, when}
+use Rattle.yspec.specs.schema.Breaks.{Break, broken}
 use Rattle.yspec.proofs.LinkingProofs.BreakLemmas.{none_first, none_second, unbroken}
 use Rattle.yspec_wide.specs.Language.{Language}
 use Rattle.yspec_wide.specs.Features.{Feature, feature_named, names_asked, is_lost, edge_to, feature_above, feature_edges_at, feature_edges, condition_break, condition_breaks}

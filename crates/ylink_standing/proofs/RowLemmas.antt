@@ -1,5 +1,5 @@
 -- What the statements of a row ask, one after another, and all of them as the definition says.
-use Rattle.std.proofs.Common.{◌≡◌, ℕ, ◌+◌, Bool, true, false, cond, take, drop, List, [], ◌∷◌, Option, Some, None, option_map, refl, sym, ap, ap₂, ◌∙◌, subst}
+use Rattle.std.proofs.Common.{◌≡◌, ℕ, ◌+◌, Bool, true, false, cond, take, drop, List, [], ◌∷◌, Option, Some, None, option_map, refl, sym, ap, ap₂, ◌∙◌}
 use Rattle.std.specs.Prelude.{◌&&◌, filter, slice_get}
 use Rattle.std.specs.List.{Contains, list_all}
 use Rattle.std.specs.Option.{option_map_or}
@@ -8,7 +8,7 @@ use Rattle.yspec.specs.linking.Scopes.{Placed, placed, statements_of, statement_
 use Rattle.yspec.specs.linking.Source.{Source}
 use Rattle.yspec_wide.specs.Language.{Language}
 use Rattle.yspec_wide.specs.Features.{condition_holds, all_hold}
-use Rattle.yspec_wide.specs.Sources.{is_condition, conditions_in}
+use Rattle.yspec_wide.specs.Sources.{is_condition}
 use Rattle.ybase_preorder.specs.declared.slot.Slot.{Slot}
 use Rattle.ybase_preorder.specs.Layout.{numbered_by, forest_of, IsLaidOut}
 use Rattle.ylink_grammar.specs.declared.source.Source as held

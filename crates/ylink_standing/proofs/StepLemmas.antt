@@ -1,5 +1,5 @@
 -- One statement after another is told of, in an order that is given.
-use Rattle.std.proofs.Common.{◌≡◌, ℕ, zero, suc, ◌+◌, ◌<◌, ◌≤◌, Bool, true, false, List, [], ◌∷◌, length, get_or, slice_set, Option, Some, None, refl, sym, ap, ap₂, ◌∙◌, arith}
+use Rattle.std.proofs.Common.{◌≡◌, ℕ, zero, suc, ◌+◌, ◌<◌, ◌≤◌, Bool, true, false, List, [], ◌∷◌, length, get_or, slice_set, Option, Some, refl, sym, ap, ap₂, ◌∙◌, arith}
 use Rattle.std.specs.Prelude.{◌&&◌, slice_get}
 use Rattle.std.specs.List.{Contains, range_with_len}
 use Rattle.std.specs.List.Sorted.{IsPermutation}
@@ -25,7 +25,7 @@ use Rattle.ylink_grammar.specs.SourceView.{source_view}
 use Rattle.ylink_names.proofs.NumberedLemmas.{length_placed}
 use Rattle.ylink_names.proofs.PlacedLemmas.{number_of, are_from, stands_at}
 use Rattle.ylink_standing.specs.ConditionView.{is_in, all_asked}
-use Rattle.ylink_standing.specs.StandingView.{feature_at, told, TellsOn, AreInOrder, AreAsked, AreChosen, AreKnown}
+use Rattle.ylink_standing.specs.StandingView.{feature_at, told, TellsOn, AreInOrder, AreKnown}
 use Rattle.ylink_standing.specs.declared.condition.Condition.{Condition}
 use Rattle.ylink_standing.proofs.EdgeLemmas.{straight}
 use Rattle.ylink_standing.proofs.OrderLemmas.{AreTold, told_next, told_all}

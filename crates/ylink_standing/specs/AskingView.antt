@@ -1,5 +1,5 @@
 -- What conditions ask, with their names as the numbers of features.
-use Rattle.std.specs.Prelude.{ℕ, ◌≡◌, ◌&&◌, ◌||◌, Bool, true, false, not, Option, None, option_map, if◌then◌else◌}
+use Rattle.std.specs.Prelude.{ℕ, ◌≡◌, Bool, true, not, Option, None, option_map, if◌then◌else◌}
 use Rattle.std.specs.Option.{option_map_or}
 use Rattle.yspec.specs.Forest.{Forest}
 use Rattle.yspec.specs.linking.Arguments.{Name}
