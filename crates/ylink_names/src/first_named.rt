@@ -16,7 +16,7 @@ impl<'t, V: Copy> FirstNamed<'t, V> {
     ghost use Rattle.ylink_names.specs.FirstNamedView.{named};
 
     /// Nothing of any name.
-    pub(crate) fn new(alloc: Global) -> FirstNamed<'t, V>
+    pub fn new(alloc: Global) -> FirstNamed<'t, V>
         ensures { (name : Text) → named result name ≡ None }
     {
         FirstNamed {
@@ -25,14 +25,14 @@ impl<'t, V: Copy> FirstNamed<'t, V> {
     }
 
     /// What the first of a name stands for.
-    pub(crate) fn get(&self, name: &str) -> Option<V>
+    pub fn get(&self, name: &str) -> Option<V>
         ensures { result ≡ named self.now name.now }
     {
         self.by_name.get(name).copied()
     }
 
     /// Adds one behind those so far.
-    pub(crate) fn add(&mut self, name: &'t str, value: V) -> Result<(), AllocError>
+    pub fn add(&mut self, name: &'t str, value: V) -> Result<(), AllocError>
         ensures { OnOk result ((t : Text) → named self.new t
             ≡ first_of (named self.old t) (if is_text name.now t then Some value else None)) }
     {

@@ -15,6 +15,7 @@ mod referring;
 mod repeated;
 mod taken;
 
+pub use first_named::FirstNamed;
 pub use linking::broken_meaning_rule;
 pub use lost::meaning_at;
 pub use meanings::meanings_of;

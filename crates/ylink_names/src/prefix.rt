@@ -152,7 +152,8 @@ impl<'t> Prefixes<'t> {
         }
     }
 
-    fn is_unknown(&self, home: usize, name: &Name<'_>) -> bool
+    /// Whether a name has a prefix that the module of a number doesn't declare.
+    pub fn is_unknown(&self, home: usize, name: &Name<'_>) -> bool
         ensures { (modules : Forest sources.Source) → IsOf self.now modules
             → result ≡ spec.is_unknown_prefix modules home (name_view name.now) }
     {
