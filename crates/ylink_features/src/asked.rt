@@ -17,7 +17,6 @@ ghost use Rattle.ylink_names.specs.PrefixView.{IsOf};
 ghost use Rattle.ylink_features.specs.FeatureView.{AreFeaturesOf};
 ghost use Rattle.ylink_features.specs.AskedView as view;
 
-use crate::added::{is_condition, is_feature};
 use crate::condition::names_asked;
 use crate::features::Features;
 use crate::versions::Versions;
@@ -25,7 +24,7 @@ use std::alloc::{AllocError, Global};
 use ybase_graph::Edge;
 use ybase_preorder::{Node, Siblings};
 use ylink_arguments::Name;
-use ylink_grammar::{Language, Source, Sources};
+use ylink_grammar::{Language, Source, Sources, is_condition, is_feature};
 use ylink_names::Prefixes;
 
 /// By what names in conditions are understood.

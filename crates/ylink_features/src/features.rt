@@ -9,12 +9,11 @@ ghost use Rattle.ylink_grammar.specs.SourceView.{source_view};
 ghost use Rattle.ylink_features.specs.FeatureView.{feature_by, number_named};
 ghost use Rattle.ylink_features.specs.NumberView.{number_at};
 
-use crate::added::is_feature;
 use crate::first_numbers::FirstNumbers;
 use std::alloc::{AllocError, Global};
 use ybase_preorder::{Node, Siblings};
 use ylink_arguments::Name;
-use ylink_grammar::{Language, Source, Sources, argument_of};
+use ylink_grammar::{Language, Source, Sources, argument_of, is_feature};
 use ylink_names::Prefixes;
 
 /// The features of each module of a set, by the number of the module and their names.

@@ -1,7 +1,6 @@
 //! Which features modules have, and what conditions name.
 #![tactic(auto)]
 
-mod added;
 mod asked;
 mod condition;
 mod declaring;
@@ -12,7 +11,6 @@ mod taken;
 mod unknown;
 mod versions;
 
-pub use added::{is_condition, is_feature};
 pub use features::Features;
 pub use lost::{LostCondition, broken_condition_rule};
 pub use taken::broken_taken_feature_rule;

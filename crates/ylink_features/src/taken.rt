@@ -9,12 +9,11 @@ ghost use Rattle.ylink_grammar.specs.LanguageView.{language_view};
 ghost use Rattle.ylink_grammar.specs.LinkView.{view};
 ghost use Rattle.ylink_grammar.specs.SourceView.{source_view};
 
-use crate::added::is_feature;
 use crate::first_numbers::FirstNumbers;
 use std::alloc::{AllocError, Global};
 use ybase_preorder::Siblings;
 use ylink_grammar::{
-    BrokenRule, CompileCode, Language, Source, Sources, argument_of, broken, least_when,
+    BrokenRule, CompileCode, Language, Source, Sources, argument_of, broken, is_feature, least_when,
 };
 
 /// The lesser of one so far and of the features of a module whose names earlier ones have.

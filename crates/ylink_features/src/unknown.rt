@@ -14,13 +14,14 @@ ghost use Rattle.ylink_names.specs.PrefixView.{IsOf};
 ghost use Rattle.ylink_features.specs.ConditionView.{asks_unknown};
 ghost use Rattle.ylink_features.specs.VersionView.{AreVersionsOf};
 
-use crate::added::is_condition;
 use crate::condition::names_asked;
 use crate::declaring::declares_prefix;
 use crate::versions::Versions;
 use std::alloc::{AllocError, Global};
 use ylink_arguments::Name;
-use ylink_grammar::{BrokenRule, CompileCode, Language, Source, Sources, broken, least_when};
+use ylink_grammar::{
+    BrokenRule, CompileCode, Language, Source, Sources, broken, is_condition, least_when,
+};
 use ylink_names::Prefixes;
 
 /// Whether the prefix of a name is declared nowhere in the module in which it stands.

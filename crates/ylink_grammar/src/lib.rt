@@ -2,6 +2,7 @@
 //! own.
 #![tactic(auto)]
 
+mod added;
 mod adding;
 mod fault;
 mod form;
@@ -15,6 +16,7 @@ mod sources;
 mod table;
 mod word;
 
+pub use added::{is_condition, is_feature};
 pub use fault::{BrokenRule, CompileCode, least, least_when};
 pub use grammar::{broken, broken_statement_rule, broken_statement_rule_in};
 pub use language::{Choosing, Language};

@@ -20,8 +20,8 @@ ghost use Rattle.ylink_standing.specs.StandingView.{AreAsked};
 use crate::condition::Condition;
 use std::alloc::{AllocError, Global};
 use ylink_conditions::{Expression, YangVersion, expression_of};
-use ylink_features::{Features, Versions, is_condition};
-use ylink_grammar::{Language, Source, Sources};
+use ylink_features::{Features, Versions};
+use ylink_grammar::{Language, Source, Sources, is_condition};
 use ylink_names::Prefixes;
 
 fn negated(alloc: Global, condition: Condition) -> Result<Condition, AllocError>

@@ -1,9 +1,10 @@
 -- Under the core no statement is a feature or a condition, all stand, and linking tells what it tells without a language.
-use Rattle.std.proofs.Common.{◌≡◌, Bool, true, false, ◌&&◌, ◌++◌, List, [], ◌∷◌, append-nil, refl, ap, ap₂, ◌∙◌}
+use Rattle.std.proofs.Common.{◌≡◌, Bool, true, false, ◌&&◌, ◌++◌, List, [], ◌∷◌, Ok, Err, append-nil, refl, ap, ap₂, ◌∙◌}
 use Rattle.std.proofs.Math.Path.{fun_ext}
 use Rattle.std.proofs.lemmas.Bool.{and_right}
 use Rattle.std.specs.Prelude.{filter}
 use Rattle.std.specs.List.{list_all, flat_map}
+use Rattle.std.specs.Option.{option_map_or}
 use Rattle.yspec.specs.Forest.{Forest, end, node, row}
 use Rattle.yspec.specs.text.Statement.{Statement}
 use Rattle.yspec.specs.linking.Keyword as word
@@ -14,14 +15,14 @@ use Rattle.yspec.specs.linking.Scopes.{taken_breaks, lost_breaks, statements_of}
 use Rattle.yspec.specs.linking.Circles.{import_circles, definition_circles}
 use Rattle.yspec.specs.linking.DerivedTypes.{type_breaks}
 use Rattle.yspec.specs.linking.StatementBreaks.{statement_phase}
-use Rattle.yspec.specs.linking.Compiling.{names_phase, meanings_phase, linking_phases}
-use Rattle.yspec.specs.schema.Breaks.{Break, broken, when, module_breaks}
+use Rattle.yspec.specs.linking.Compiling.{names_phase, meanings_phase, linking_phases, linked}
+use Rattle.yspec.specs.schema.Breaks.{Break, broken, when, module_breaks, first_broken}
 use Rattle.yspec_wide.specs.Language.{core}
 use Rattle.yspec_wide.specs.Sources.{conditions_in}
 use Rattle.yspec_wide.specs.StatementBreaks.{statement_phase_in}
 use Rattle.yspec_wide.specs.Features.{features_in, doubled_features, condition_holds, is_on, stands, condition_prefix_breaks, taken_feature_breaks, condition_breaks}
 use Rattle.yspec_wide.specs.VersionBreaks.{version_import_break, version_import_breaks, version_type_break, version_type_breaks}
-use Rattle.yspec_wide.specs.Compiling.{names_phase_in, meanings_phase_in, linking_phases_in}
+use Rattle.yspec_wide.specs.Compiling.{names_phase_in, meanings_phase_in, linking_phases_in, linked_in}
 use Rattle.yspec_wide.proofs.CoreLemmas.{phase_alike, kept_of_all_alike}
 
 -- ---- lists of nothing
@@ -95,3 +96,7 @@ linking_alike modules =
     (phase_alike modules) (names_alike modules (sources_of modules))
     ∙ ap₂ (λ meanings types. statement_phase modules ∷ names_phase modules (sources_of modules) ∷ meanings ∷ types ∷ [])
     (meanings_alike (sources_of modules)) (types_alike (sources_of modules)))
+
+pub linked_alike : (modules : Forest Statement) → linked_in core modules ≡ linked modules
+unfolding linked_in linked
+linked_alike modules = ap₂ (λ phases sources. option_map_or Err (first_broken phases) (Ok sources)) (linking_alike modules) (kept_of_all_alike modules)

@@ -75,6 +75,11 @@ phases_of_plan_in language modules whole plan = limit_breaks (nat_lt node_limit 
     ∷ node_breaks_in language whole plan
     ∷ limit_breaks (is_too_deep plan.nodes) modules ∷ []
 
+-- the statements of a set of modules that links in a language, or what is told
+unfoldable pub linked_in : Language → Forest Statement → Result (Forest Source) Break
+linked_in language modules =
+    option_map_or Err (first_broken (linking_phases_in language modules)) (Ok (sources_in language modules))
+
 abbrev pub phases_in : Language → Forest Statement → List (List Break)
 phases_in language modules = let sources = sources_in language modules in
     linking_phases_in language modules ++ phases_of_plan_in language modules (whole_plan language sources) (plan_in language sources)

@@ -9,13 +9,13 @@ ghost use Rattle.yspec.specs.linking.Source.{sources_of};
 ghost use Rattle.yspec.specs.linking.Expansion.{unfit_breaks};
 ghost use Rattle.yspec.specs.linking.Augments.{augmented, augment_breaks};
 ghost use Rattle.yspec.specs.linking.Planned.{type_of};
-ghost use Rattle.yspec.specs.linking.Compiling.{linking_phases, compiled};
+ghost use Rattle.yspec.specs.linking.Compiling.{linking_phases, linked, compiled};
 ghost use Rattle.yspec_wide.specs.Language.{core, rfc, yang_1_1, version_below};
 ghost use Rattle.yspec_wide.specs.Words.{known};
 ghost use Rattle.yspec_wide.specs.Table.{rule_in, rule_before};
 ghost use Rattle.yspec_wide.specs.StatementBreaks.{top_breaks, statement_phase_in};
 ghost use Rattle.yspec_wide.specs.Sources.{is_feature, is_condition, sources_in};
-ghost use Rattle.yspec_wide.specs.Compiling.{linking_phases_in, compiled_in};
+ghost use Rattle.yspec_wide.specs.Compiling.{linking_phases_in, linked_in, compiled_in};
 ghost use Rattle.yspec_wide.specs.Expansion.{augmented_in, unfit_breaks_in, augment_breaks_in};
 ghost use Rattle.yspec_wide.specs.Types.{type_of_kept};
 ghost use Rattle.yspec_wide.specs.Standing.{standing, standing_by, all_stand};
@@ -44,9 +44,10 @@ pub fn versions_in_the_core()
     ensures { (m s below : _) → top_breaks core m s below ≡ [] → version_below below ≡ yang_1_1 }
 {}
 
-/// Linking breaks the same rules phase by phase.
+/// Linking breaks the same rules phase by phase, and a set of modules links to the same statements.
 pub fn core_links()
-    ensures { (modules : _) → linking_phases_in core modules ≡ linking_phases modules }
+    ensures linked { (modules : _) → linked_in core modules ≡ linked modules }
+    ensures phases { (modules : _) → linking_phases_in core modules ≡ linking_phases modules }
 {}
 
 /// Groupings and augments are expanded to the same nodes, the same augments are left, and all of the nodes stand.

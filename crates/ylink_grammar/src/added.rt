@@ -5,7 +5,8 @@ ghost use Rattle.yspec_wide.specs.Sources as spec;
 ghost use Rattle.ylink_grammar.specs.LanguageView.{language_view};
 ghost use Rattle.ylink_grammar.specs.SourceView.{source_view};
 
-use ylink_grammar::{Language, Source};
+use crate::language::Language;
+use crate::source::Source;
 
 /// Whether a statement is a `feature` of a language (RFC 7950, 7.20.1).
 pub fn is_feature(language: &Language, statement: &Source<'_>) -> bool
