@@ -84,7 +84,8 @@ impl BrokenRule {
     pub fn is_before(&self, other: &BrokenRule) -> bool
         ensures { result ≡ spec.is_before (break_view self.now) (break_view other.now) }
     {
-        self < other
+        (self.module, self.line, self.code.number())
+            < (other.module, other.line, other.code.number())
     }
 }
 
