@@ -1,7 +1,7 @@
 pub mod AskedLemmas
 pub mod ConditionLemmas
-pub mod DeclaringLemmas
 pub mod FeatureLemmas
 pub mod LostLemmas
 pub mod TakenLemmas
 pub mod VersionLemmas
+pub mod WithinLemmas
