@@ -1,5 +1,5 @@
 -- The least of some conditions, by what is said of all their edges.
-use Rattle.std.proofs.Common.{◌≡◌, ℕ, zero, suc, ◌+◌, ◌<◌, ◌≤◌, Bool, ◌||◌, List, [], ◌∷◌, ◌++◌, length, get_or, take, drop, map, Option, None, refl, sym, ap, ◌∙◌, arith}
+use Rattle.std.proofs.Common.{◌≡◌, ℕ, zero, suc, ◌+◌, ◌<◌, ◌≤◌, Bool, ◌||◌, List, [], ◌∷◌, ◌++◌, length, get_or, take, drop, map, Option, refl, sym, ap, ◌∙◌, arith}
 use Rattle.std.specs.List.{list_any, flat_map}
 use Rattle.std.proofs.lemmas.List.{at_drop_more, at_drop_all, length-map, map-append}
 use Rattle.yspec.specs.Forest.{Forest}
@@ -102,7 +102,8 @@ module _ (language : Language) (modules : Forest Source) (conditions : List Aske
   pub edges_all : edges_in conditions ≡ feature_edges language modules
   edges_all = edges_seen conditions ∙ (ap (flat_map (λ (c : Condition). c.edges)) listed ∙ edges_of_all language modules)
 
-  pub told_of_all : (told : Option Break) → told ≡ least_from None (flat_map (lost_break (is_on_circle (feature_edges language modules))) (map asked_view conditions))
-      → told ≡ least_from None (condition_breaks language modules)
-  told_of_all told is = is ∙ (ap (λ cs. least_from None (flat_map (lost_break (is_on_circle (feature_edges language modules))) cs)) listed
-      ∙ ap (least_from None) (breaks_of_all language modules))
+  pub told_of_all : (so_far told : Option Break)
+      → told ≡ least_from so_far (flat_map (lost_break (is_on_circle (feature_edges language modules))) (map asked_view conditions))
+      → told ≡ least_from so_far (condition_breaks language modules)
+  told_of_all so_far told is = is ∙ (ap (λ cs. least_from so_far (flat_map (lost_break (is_on_circle (feature_edges language modules))) cs)) listed
+      ∙ ap (least_from so_far) (breaks_of_all language modules))

@@ -1,9 +1,7 @@
 -- Features whose names earlier ones have.
-use Rattle.std.proofs.Common.{◌≡◌, ℕ, Bool, true, false, cond, ◌||◌, List, [], ◌∷◌, Option, Some, None, is_some, refl, sym, ap, ap₂, ◌∙◌}
+use Rattle.std.proofs.Common.{◌≡◌, Bool, true, false, cond, List, [], ◌∷◌, Option, refl, sym, ap, ◌∙◌}
 use Rattle.std.specs.List.{list_any}
-use Rattle.std.specs.Cmp.Lexicographic.{nat_list_eq_equiv}
-use Rattle.std.proofs.Math.Bool.{or_comm}
-use Rattle.yspec.specs.Forest.{Forest, node, first_of}
+use Rattle.yspec.specs.Forest.{Forest, node}
 use Rattle.yspec.specs.text.Text.{Text, is_text}
 use Rattle.yspec.specs.linking.Source.{Source, argument_in}
 use Rattle.yspec.specs.schema.Breaks.{Break, broken, when, least_from}
@@ -11,23 +9,6 @@ use Rattle.yspec.proofs.SchemaProofs.LeastLemmas.{least_of_both}
 use Rattle.yspec_wide.specs.Features.{Feature, features_in, doubled_features, taken_feature_breaks}
 use Rattle.yspec_wide.specs.Language.{Language}
 use Rattle.yspec_wide.specs.Sources.{is_feature}
-use Rattle.ylink_features.specs.NumberView.{number_at}
-use Rattle.ylink_features.specs.declared.first_numbers.FirstNumbers.{FirstNumbers}
-
--- names that are held are those of a list
-abbrev pub AreHeld : FirstNumbers → List Text → Type 0
-AreHeld names before = (t : Text) → is_some (number_at names t) ≡ list_any (is_text t) before
-
-is_some_first : (v : ℕ) (a : Option ℕ) (b : Bool) → is_some (first_of a (cond b (Some v) None)) ≡ (is_some a || b)
-is_some_first v (Some w) b = refl
-is_some_first v None true = refl
-is_some_first v None false = refl
-
-pub held_more : (v : ℕ) (old new : FirstNumbers) (before : List Text) (name : Text) → AreHeld old before
-    → ((t : Text) → number_at new t ≡ first_of (number_at old t) (cond (is_text name t) (Some v) None)) → AreHeld new (name ∷ before)
-held_more v old new before name held added t =
-    ap is_some (added t) ∙ (is_some_first v (number_at old t) (is_text name t)
-    ∙ (ap₂ (λ a b. a || b) (held t) (nat_list_eq_equiv.symm name t) ∙ or_comm (list_any (is_text t) before) (is_text t name)))
 
 module _ (language : Language) where
   -- ---- the features of a row, one statement after another

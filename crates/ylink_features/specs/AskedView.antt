@@ -18,7 +18,6 @@ use Rattle.ylink_features.specs.FeatureView.{AreFeaturesOf}
 use Rattle.ylink_features.specs.VersionView.{AreVersionsOf}
 use Rattle.ylink_features.specs.declared.asked.Asked.{Asked}
 use Rattle.ylink_features.specs.declared.asked.Meaning.{Meaning}
-use Rattle.ylink_features.specs.declared.lost.LostCondition.{LostCondition}
 
 -- what is known of the modules of a set is so
 pub record IsMeaning (m : Meaning) (modules : Forest Source) : Type 0 where
@@ -81,9 +80,3 @@ asked_of language modules p = asked_by language modules (above_in language p.anc
 
 abbrev pub lost_break : (Edge → Bool) → Condition → List Break
 lost_break circular c = when (c.is_lost || list_any circular c.edges) (broken 22 c.module_number c.line)
-
-abbrev pub lost_view : LostCondition → Break
-lost_view c = record { code = 22; module_number = c.«module»; line = c.line }
-
-abbrev pub seen_lost : Option LostCondition → Option Break
-seen_lost = option_map lost_view

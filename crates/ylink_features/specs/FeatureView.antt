@@ -7,7 +7,7 @@ use Rattle.yspec.specs.linking.Source.{Source, argument_in}
 use Rattle.yspec_wide.specs.Features.{is_named, features_in}
 use Rattle.yspec_wide.specs.Language.{Language}
 use Rattle.yspec_wide.specs.Sources.{is_feature}
-use Rattle.ylink_features.specs.NumberView.{number_at}
+use Rattle.ylink_names.specs.FirstNamedView.{named}
 use Rattle.ylink_features.specs.declared.features.Features.{Features}
 
 -- the number of the first feature of a row with a name
@@ -20,7 +20,7 @@ feature_by language name s = if is_feature language s && is_text (argument_in s)
 
 -- what is held of a module of a number
 abbrev pub number_in : Features → ℕ → Text → Option ℕ
-number_in features home name = option_and_then (λ numbers. number_at numbers name) (slice_get features.by_module.items home)
+number_in features home name = option_and_then (λ numbers. named numbers name) (slice_get features.by_module.items home)
 
 -- each name has in each module the number of the first feature of that name
 abbrev pub AreFeaturesOf : Features → Language → Forest Source → Type 0

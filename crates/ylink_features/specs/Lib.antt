@@ -1,5 +1,4 @@
 pub mod AskedView
 pub mod ConditionView
 pub mod FeatureView
-pub mod NumberView
 pub mod VersionView

@@ -6,30 +6,29 @@ ghost use Rattle.yspec.specs.text.Text.{Text};
 ghost use Rattle.ybase_preorder.specs.View.{row_by, label_by};
 ghost use Rattle.ylink_grammar.specs.LanguageView.{language_view};
 ghost use Rattle.ylink_grammar.specs.SourceView.{source_view};
+ghost use Rattle.ylink_names.specs.FirstNamedView.{named};
 ghost use Rattle.ylink_features.specs.FeatureView.{feature_by, number_named};
-ghost use Rattle.ylink_features.specs.NumberView.{number_at};
 
-use crate::first_numbers::FirstNumbers;
 use std::alloc::{AllocError, Global};
 use ybase_preorder::{Node, Siblings};
 use ylink_arguments::Name;
 use ylink_grammar::{Language, Source, Sources, argument_of, is_feature};
-use ylink_names::Prefixes;
+use ylink_names::{FirstNamed, Prefixes};
 
 /// The features of each module of a set, by the number of the module and their names.
 #[derive(Drop)]
 pub struct Features<'t> {
-    by_module: Vec<FirstNumbers<'t>>,
+    by_module: Vec<FirstNamed<'t, u32>>,
 }
 
 /// Adds a statement, where it is a feature, behind those so far.
 fn add_feature<'t>(
-    numbers: &mut FirstNumbers<'t>,
+    numbers: &mut FirstNamed<'t, u32>,
     language: &Language,
     statement: Node<'_, Source<'t>>,
 ) -> Result<(), AllocError>
-    ensures { OnOk result ((name : Text) → number_at numbers.new name
-        ≡ first_of (number_at numbers.old name)
+    ensures { OnOk result ((name : Text) → named numbers.new name
+        ≡ first_of (named numbers.old name)
         (feature_by (language_view language.now) name (label_by source_view statement.entry))) }
 {
     if !is_feature(language, statement.label()) {
@@ -43,11 +42,11 @@ fn features_in<'t>(
     alloc: Global,
     language: &Language,
     body: Siblings<'_, Source<'t>>,
-) -> Result<FirstNumbers<'t>, AllocError>
-    ensures { IfOk result (λ numbers. (name : Text) → number_at numbers name
+) -> Result<FirstNamed<'t, u32>, AllocError>
+    ensures { IfOk result (λ numbers. (name : Text) → named numbers name
         ≡ number_named (language_view language.now) name (row_by source_view body.entry)) }
 {
-    let mut numbers = FirstNumbers::new(alloc);
+    let mut numbers = FirstNamed::new(alloc);
     for statement in body {
         add_feature(&mut numbers, language, statement)?;
     }

@@ -1,14 +1,17 @@
 //! Conditions that name no feature, or that lead from a feature back to it (RFC 7950, 7.20.1 and 7.20.2).
 
-ghost use Rattle.std.specs.Prelude.{◌≡◌, [], ◌∷◌, Bool, IfOk, None, drop, map, take};
+ghost use Rattle.std.specs.Prelude.{◌≡◌, Bool, IfOk, drop, length, map, take};
 ghost use Rattle.std.specs.List.{flat_map, list_any};
 ghost use Rattle.yspec.specs.linking.Graph as graph;
-ghost use Rattle.yspec.specs.schema.Breaks.{is_before, least_from};
+ghost use Rattle.yspec.specs.schema.Breaks.{least_from};
 ghost use Rattle.yspec_wide.specs.Features as spec;
+ghost use Rattle.ybase_graph.specs.Edges.{AreWithin, edge_view};
+ghost use Rattle.ybase_preorder.specs.View.{slots_in};
+ghost use Rattle.ylink_grammar.specs.BreakView.{seen};
 ghost use Rattle.ylink_grammar.specs.LanguageView.{language_view};
 ghost use Rattle.ylink_grammar.specs.LinkView.{view};
 ghost use Rattle.ylink_names.specs.PrefixView.{IsOf};
-ghost use Rattle.ylink_features.specs.AskedView.{asked_view, edges_in, lost_break, lost_view, seen_lost};
+ghost use Rattle.ylink_features.specs.AskedView.{asked_view, edges_in, lost_break};
 ghost use Rattle.ylink_features.specs.FeatureView.{AreFeaturesOf};
 ghost use Rattle.ylink_features.specs.VersionView.{AreVersionsOf};
 
@@ -17,55 +20,26 @@ use crate::features::Features;
 use crate::versions::Versions;
 use std::alloc::{AllocError, Global};
 use ybase_graph::{Edge, on_circles};
-use ylink_grammar::{Language, Sources};
+use ylink_grammar::{BrokenRule, CompileCode, Language, Sources, least_when};
 use ylink_names::Prefixes;
-
-/// Where a condition stands that names no feature, or that leads from a feature back to it. The order is that in which one is
-/// told before another: by module and line.
-#[derive(Clone, Copy, Debug, PartialEq, Eq, PartialOrd, Ord)]
-pub struct LostCondition {
-    pub module: usize,
-    pub line: u32,
-}
-
-/// Whether one is told before another.
-fn is_before(a: &LostCondition, b: &LostCondition) -> bool
-    ensures { result ≡ is_before (lost_view a.now) (lost_view b.now) }
-{
-    a < b
-}
-
-/// The lesser of one so far and another.
-fn least(so_far: Option<LostCondition>, found: LostCondition) -> Option<LostCondition>
-    ensures { seen_lost result ≡ least_from (seen_lost so_far) (lost_view found ∷ []) }
-{
-    match so_far {
-        Some(first) if !is_before(&found, &first) => Some(first),
-        _ => Some(found),
-    }
-}
 
 /// The lesser of one so far and a condition, where it is lost or an edge of it lies on a circle.
 fn least_lost(
     condition: &Asked,
     is_circular: bool,
-    so_far: Option<LostCondition>,
-) -> Option<LostCondition>
+    so_far: Option<BrokenRule>,
+) -> Option<BrokenRule>
     ensures { (circular : graph.Edge → Bool)
         → is_circular ≡ list_any circular (asked_view condition.now).edges
-        → seen_lost result ≡ least_from (seen_lost so_far)
+        → seen result ≡ least_from (seen so_far)
         (lost_break circular (asked_view condition.now)) }
 {
-    if !condition.is_lost && !is_circular {
-        return so_far;
-    }
-    least(
-        so_far,
-        LostCondition {
-            module: condition.module,
-            line: condition.line,
-        },
-    )
+    let rule = BrokenRule {
+        module: condition.module,
+        line: condition.line,
+        code: CompileCode::C22,
+    };
+    least_when(condition.is_lost || is_circular, so_far, rule)
 }
 
 /// The edges of all of some conditions.
@@ -95,14 +69,14 @@ fn first_flags(flags: &[bool], count: usize) -> (bool, &[bool])
     (has_flag(own), others)
 }
 
-/// The least of some conditions, given what is said of all their edges.
-fn least_of(conditions: &[Asked], flags: &[bool]) -> Option<LostCondition>
+/// The lesser of one so far and of some conditions, given what is said of all their edges.
+fn least_of(conditions: &[Asked], flags: &[bool], so_far: Option<BrokenRule>) -> Option<BrokenRule>
     ensures { (circular : graph.Edge → Bool)
         → flags.now ≡ map circular (edges_in conditions.now)
-        → seen_lost result ≡ least_from None
+        → seen result ≡ least_from (seen so_far)
         (flat_map (lost_break circular) (map asked_view conditions.now)) }
 {
-    let mut told = None;
+    let mut told = so_far;
     let mut left = flags;
     for condition in conditions {
         let (is_circular, others) = first_flags(left, condition.edges.len());
@@ -121,8 +95,36 @@ fn circular_flags(alloc: Global, conditions: &[Asked]) -> Result<Vec<bool>, Allo
     on_circles(alloc, &edges)
 }
 
-/// The least of the conditions that name no feature or lead from a feature back to it, by module and line, given what prefixes
+/// The edges from each feature of a set to those that its conditions name, in the order of its conditions, given what prefixes
 /// stand for, the versions of the modules and their features.
+pub fn feature_edges<'a, 't>(
+    alloc: Global,
+    language: &'a Language,
+    sources: &Sources<'_>,
+    prefixes: &'a Prefixes<'t>,
+    versions: &'a Versions,
+    features: &'a Features<'t>,
+) -> Result<Vec<Edge>, AllocError>
+    requires prefixes { IsOf prefixes.now (view sources.now) }
+    requires versions { AreVersionsOf versions.now (language_view language.now) (view sources.now) }
+    requires features { AreFeaturesOf features.now (language_view language.now) (view sources.now) }
+    ensures edges { IfOk result (λ edges. map edge_view edges.items
+        ≡ spec.feature_edges (language_view language.now) (view sources.now)) }
+    ensures within { IfOk result (λ edges.
+        AreWithin (length (slots_in sources.now.table)) edges.items) }
+{
+    let meaning = Meaning {
+        language,
+        prefixes,
+        versions,
+        features,
+    };
+    let conditions = conditions_of(alloc, &meaning, sources)?;
+    all_edges(alloc, &conditions)
+}
+
+/// The lesser of one so far and of the conditions that name no feature or lead from a feature back to it, by module and line,
+/// given what prefixes stand for, the versions of the modules and their features.
 pub fn broken_condition_rule<'a, 't>(
     alloc: Global,
     language: &'a Language,
@@ -130,11 +132,12 @@ pub fn broken_condition_rule<'a, 't>(
     prefixes: &'a Prefixes<'t>,
     versions: &'a Versions,
     features: &'a Features<'t>,
-) -> Result<Option<LostCondition>, AllocError>
+    so_far: Option<BrokenRule>,
+) -> Result<Option<BrokenRule>, AllocError>
     requires prefixes { IsOf prefixes.now (view sources.now) }
     requires versions { AreVersionsOf versions.now (language_view language.now) (view sources.now) }
     requires features { AreFeaturesOf features.now (language_view language.now) (view sources.now) }
-    ensures { IfOk result (λ told. seen_lost told ≡ least_from None
+    ensures { IfOk result (λ told. seen told ≡ least_from (seen so_far)
         (spec.condition_breaks (language_view language.now) (view sources.now))) }
 {
     let meaning = Meaning {
@@ -145,5 +148,5 @@ pub fn broken_condition_rule<'a, 't>(
     };
     let conditions = conditions_of(alloc, &meaning, sources)?;
     let flags = circular_flags(alloc, &conditions)?;
-    Ok(least_of(&conditions, &flags))
+    Ok(least_of(&conditions, &flags, so_far))
 }

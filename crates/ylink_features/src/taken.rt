@@ -9,12 +9,12 @@ ghost use Rattle.ylink_grammar.specs.LanguageView.{language_view};
 ghost use Rattle.ylink_grammar.specs.LinkView.{view};
 ghost use Rattle.ylink_grammar.specs.SourceView.{source_view};
 
-use crate::first_numbers::FirstNumbers;
 use std::alloc::{AllocError, Global};
 use ybase_preorder::Siblings;
 use ylink_grammar::{
     BrokenRule, CompileCode, Language, Source, Sources, argument_of, broken, is_feature, least_when,
 };
+use ylink_names::FirstNamed;
 
 /// The lesser of one so far and of the features of a module whose names earlier ones have.
 fn judge_features(
@@ -27,7 +27,7 @@ fn judge_features(
         ≡ least_from (seen so_far)
         (spec.doubled_features l [] (spec.features_in l (row_by source_view body.entry)))) }
 {
-    let mut names = FirstNumbers::new(alloc);
+    let mut names = FirstNamed::new(alloc);
     let mut told = so_far;
     for statement in body {
         let source = statement.label();
@@ -36,7 +36,7 @@ fn judge_features(
         }
         let name = argument_of(statement);
         let is_taken = names.get(name).is_some();
-        names.add(name, statement.number())?;
+        names.add(name, ())?;
         let taken = broken(CompileCode::C7, source.home, source.statement);
         told = least_when(is_taken, told, taken);
     }

@@ -2,10 +2,12 @@
 
 ghost use Rattle.std.specs.Prelude.{◌≡◌, ℕ, IfOk};
 ghost use Rattle.std.specs.List.{list_any};
+ghost use Rattle.yspec.specs.Forest.{Forest};
 ghost use Rattle.yspec.specs.linking.Prefixes.{is_unknown_prefix};
+ghost use Rattle.yspec.specs.linking.Source as sources;
 ghost use Rattle.yspec.specs.schema.Breaks.{least_from};
 ghost use Rattle.yspec_wide.specs.Features as spec;
-ghost use Rattle.ylink_arguments.specs.NameView.{name_view, names_view};
+ghost use Rattle.ylink_arguments.specs.NameView.{names_view};
 ghost use Rattle.ylink_grammar.specs.BreakView.{seen};
 ghost use Rattle.ylink_grammar.specs.LanguageView.{language_view};
 ghost use Rattle.ylink_grammar.specs.LinkView.{view};
@@ -15,7 +17,6 @@ ghost use Rattle.ylink_features.specs.ConditionView.{asks_unknown};
 ghost use Rattle.ylink_features.specs.VersionView.{AreVersionsOf};
 
 use crate::condition::names_asked;
-use crate::declaring::declares_prefix;
 use crate::versions::Versions;
 use std::alloc::{AllocError, Global};
 use ylink_arguments::Name;
@@ -24,32 +25,13 @@ use ylink_grammar::{
 };
 use ylink_names::Prefixes;
 
-/// Whether the prefix of a name is declared nowhere in the module in which it stands.
-fn is_unknown(sources: &Sources<'_>, prefixes: &Prefixes<'_>, home: usize, name: &Name<'_>) -> bool
-    requires { IsOf prefixes.now (view sources.now) }
-    ensures { result ≡ is_unknown_prefix (view sources.now) home (name_view name.now) }
-{
-    match name.prefix {
-        // A prefix that names a module is declared: the module's text need not be looked at.
-        Some(prefix) => {
-            prefixes.module_meant(home, prefix).is_none() && !declares_prefix(sources, home, prefix)
-        }
-        None => false,
-    }
-}
-
-/// Whether the prefix of one of some names is declared nowhere in the module in which they stand.
-fn has_unknown(
-    sources: &Sources<'_>,
-    prefixes: &Prefixes<'_>,
-    home: usize,
-    names: &[Name<'_>],
-) -> bool
-    requires { IsOf prefixes.now (view sources.now) }
-    ensures { result ≡ list_any (is_unknown_prefix (view sources.now) home) (names_view names.now) }
+/// Whether one of some names has a prefix that the module of a number doesn't declare.
+fn has_unknown(prefixes: &Prefixes<'_>, home: usize, names: &[Name<'_>]) -> bool
+    ensures { (modules : Forest sources.Source) → IsOf prefixes.now modules
+        → result ≡ list_any (is_unknown_prefix modules home) (names_view names.now) }
 {
     for name in names {
-        if is_unknown(sources, prefixes, home, name) {
+        if prefixes.is_unknown(home, name) {
             return true;
         }
     }
@@ -60,23 +42,21 @@ fn has_unknown(
 fn asks_unknown(
     alloc: Global,
     language: &Language,
-    sources: &Sources<'_>,
     prefixes: &Prefixes<'_>,
     versions: &Versions,
     statement: &Source<'_>,
 ) -> Result<bool, AllocError>
-    requires prefixes { IsOf prefixes.now (view sources.now) }
-    requires versions { AreVersionsOf versions.now (language_view language.now) (view sources.now) }
-    ensures { IfOk result (λ b. (number : ℕ) → b
-        ≡ asks_unknown (language_view language.now) (view sources.now)
-        (source_view number statement.now)) }
+    ensures { IfOk result (λ b. (modules : Forest sources.Source) (number : ℕ)
+        → IsOf prefixes.now modules
+        → AreVersionsOf versions.now (language_view language.now) modules
+        → b ≡ asks_unknown (language_view language.now) modules (source_view number statement.now)) }
 {
     if !is_condition(language, statement) {
         return Ok(false);
     }
     let home = statement.home;
     let names = names_asked(alloc, versions.version_of(home), statement)?;
-    Ok(has_unknown(sources, prefixes, home, &names))
+    Ok(has_unknown(prefixes, home, &names))
 }
 
 /// The lesser of one so far and of the conditions that ask for names whose prefixes their modules don't declare, by module and
@@ -97,7 +77,7 @@ pub fn broken_condition_prefix_rule(
     let mut told = so_far;
     for row in sources.slots() {
         let source = &row.label;
-        let unknown = asks_unknown(alloc, language, sources, prefixes, versions, source)?;
+        let unknown = asks_unknown(alloc, language, prefixes, versions, source)?;
         let rule = broken(CompileCode::C6, source.home, source.statement);
         told = least_when(unknown, told, rule);
     }

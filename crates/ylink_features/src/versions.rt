@@ -45,6 +45,13 @@ fn stated_in(body: Siblings<'_, Source<'_>>) -> Option<YangVersion>
     }
 }
 
+/// Whether a version is YANG 1.
+fn is_first(version: YangVersion) -> bool
+    ensures { result ≡ spec.is_yang_1 (version_view version) }
+{
+    matches!(version, YangVersion::Yang1)
+}
+
 /// The version that each module of a set states.
 fn stated_versions(
     alloc: Global,
@@ -105,5 +112,14 @@ impl Versions {
             Versions::Core => YangVersion::Yang1_1,
             Versions::Stated(stated) => stated_at(stated, home),
         }
+    }
+
+    /// Whether the module of a number is one of YANG 1.
+    pub fn is_yang_1(&self, home: usize) -> bool
+        ensures { (language : spec.Language) (modules : Forest sources.Source)
+            → AreVersionsOf self.now language modules
+            → result ≡ spec.is_yang_1 (spec.version_of language modules home) }
+    {
+        is_first(self.version_of(home))
     }
 }

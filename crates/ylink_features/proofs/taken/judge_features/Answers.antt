@@ -12,8 +12,9 @@ use Rattle.ylink_grammar.specs.BreakView.{break_view, seen}
 use Rattle.ylink_grammar.specs.LanguageView.{language_view}
 use Rattle.ylink_grammar.specs.SourceView.{source_view}
 use Rattle.ylink_grammar.specs.declared.source.Source.{Source}
-use Rattle.ylink_features.specs.NumberView.{number_at}
-use Rattle.ylink_features.proofs.TakenLemmas.{held_more, next_other, next_feature}
+use Rattle.ylink_names.specs.FirstNamedView.{named}
+use Rattle.ylink_names.proofs.RepeatedLemmas.{held_more}
+use Rattle.ylink_features.proofs.TakenLemmas.{next_other, next_feature}
 use Rattle.ylink_features.proofs.taken.judge_features.Goals as goal
 
 pub loop-statement-preserved-then-not-is_feature : goal.loop-statement-preserved-then-not-is_feature
@@ -50,12 +51,12 @@ loop-statement-preserved c =
       ends = tt;
       so_far = (
         name ∷ held.0,
-        held_more c.number.result c.loop-statement.names c.add.new.self held.0 name held.1
-            (λ t. c.in_ok-add.ensures t ∙ ap (λ n. first_of (number_at c.loop-statement.names t) (cond (is_text n t) (Some c.number.result) None)) c.argument_of-name.ensures),
+        held_more tt c.loop-statement.names c.add.new.self held.0 name held.1
+            (λ t. c.in_ok-add.ensures t ∙ ap (λ n. first_of (named c.loop-statement.names t) (cond (is_text n t) (Some tt) None)) c.argument_of-name.ensures),
         next_feature language (row_by source_view before) (row_by source_view after) (row_by source_view s.children) source
             held.0 told _ _ c.is_some-is_taken.result (takes_by source_view before after s c.in-Some.ensures.steps)
             (ap (λ l. is_feature language (source_view s.number l)) (sym c.label-source.ensures) ∙ (sym (c.is_feature.ensures s.number) ∙ c.if-not-is_feature.false))
-            (c.is_some-is_taken.ensures ∙ ap is_some c.get.ensures ∙ ap (λ n. is_some (number_at c.loop-statement.names n)) c.argument_of-name.ensures ∙ held.1 name)
+            (c.is_some-is_taken.ensures ∙ ap is_some c.get.ensures ∙ ap (λ n. is_some (named c.loop-statement.names n)) c.argument_of-name.ensures ∙ held.1 name)
             (c.least_when-told.ensures ∙ ap (λ b. least_from told (when c.is_some-is_taken.result (break_view b ∷ []))) c.broken-taken.ensures
             ∙ ap (λ (l : Source). least_from told (when c.is_some-is_taken.result (broken 7 l.home (view l.statement.now).0.line))) c.label-source.ensures) held.2,
       );

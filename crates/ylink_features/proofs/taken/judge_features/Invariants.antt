@@ -6,7 +6,7 @@ use Rattle.ybase_preorder.specs.View.{row_by}
 use Rattle.ylink_grammar.specs.BreakView.{seen}
 use Rattle.ylink_grammar.specs.LanguageView.{language_view}
 use Rattle.ylink_grammar.specs.SourceView.{source_view}
-use Rattle.ylink_features.proofs.TakenLemmas.{AreHeld}
+use Rattle.ylink_names.proofs.RepeatedLemmas.{AreHeld}
 use Rattle.ylink_features.proofs.taken.judge_features.Given as goal
 
 abbrev pub invariant-loop-statement : goal.invariant-loop-statement

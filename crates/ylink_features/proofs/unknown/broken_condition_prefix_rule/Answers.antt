@@ -20,7 +20,7 @@ loop-row-preserved c =
     next_told (unknown_break language modules) _ (slots_in c.args.sources.now.table) c.slots-row-items.ensures i c.row-item.result told (seen c.least_when-told.result) _
     (omega arith) c.row-item.is
     (c.least_when-told.ensures ∙ (ap (λ b. least_from told (when c.in_ok-unknown.unknown (break_view b ∷ []))) c.broken-rule.ensures
-    ∙ ap (λ b. least_from told (when b (broken 6 s.home s.statement.line))) (c.in_ok-unknown.ensures i))) c.loop-row.invariant
+    ∙ ap (λ b. least_from told (when b (broken 6 s.home s.statement.line))) (c.in_ok-unknown.ensures modules i c.requires.prefixes c.requires.versions))) c.loop-row.invariant
 
 pub returns : goal.returns
 returns c =
