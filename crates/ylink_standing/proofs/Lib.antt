@@ -5,3 +5,5 @@ pub mod OrderLemmas
 pub mod RowLemmas
 pub mod StepLemmas
 pub mod AskingLemmas
+pub mod ChosenLemmas
+pub mod CoreLemmas

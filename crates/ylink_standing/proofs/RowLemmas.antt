@@ -1,8 +1,9 @@
 -- What the statements of a row ask, one after another, and all of them as the definition says.
-use Rattle.std.proofs.Common.{◌≡◌, ℕ, ◌+◌, Bool, true, false, cond, take, drop, List, [], ◌∷◌, Option, Some, None, option_map, refl, sym, ap, ap₂, ◌∙◌}
+use Rattle.std.proofs.Common.{◌≡◌, ℕ, ◌+◌, ◌<◌, ◌≤◌, Bool, true, false, cond, take, drop, get_or, length, List, [], ◌∷◌, Option, Some, None, option_map, refl, sym, ap, ap₂, ◌∙◌}
 use Rattle.std.specs.Prelude.{◌&&◌, filter, slice_get}
 use Rattle.std.specs.List.{Contains, list_all}
 use Rattle.std.specs.Option.{option_map_or}
+use Rattle.std.proofs.lemmas.List.{at_drop_more, at_drop_all}
 use Rattle.yspec.specs.Forest.{Forest, end, node, row}
 use Rattle.yspec.specs.linking.Scopes.{Placed, placed, statements_of, statement_at}
 use Rattle.yspec.specs.linking.Source.{Source}
@@ -88,3 +89,18 @@ pub told_by_none : (o : Option Placed) (says : Forest Source → Bool) → None 
     → false ≡ option_map_or (λ (p : Placed). says p.below) o false
 told_by_none None says there = refl
 told_by_none (Some p) says there = absurd cc
+
+-- ---- several rows, one after another
+
+module _ {A : Type 0} (test : A → Bool) (xs : List A) where
+  pub one_fails : (i : ℕ) (x : A) (whole : Bool) → i < length xs → x ≡ get_or xs i x → test x ≡ false → list_all test (drop i xs) ≡ whole → false ≡ whole
+  one_fails i x whole within is fails so_far =
+      sym (at_drop_more (list_all test) xs i x within ∙ ap (λ b. b && list_all test (drop (i + 1) xs)) (ap test (sym is) ∙ fails)) ∙ so_far
+
+  pub one_passes : (i : ℕ) (x : A) (whole : Bool) → i < length xs → x ≡ get_or xs i x → test x ≡ true → list_all test (drop i xs) ≡ whole
+      → list_all test (drop (i + 1) xs) ≡ whole
+  one_passes i x whole within is passes so_far =
+      sym (at_drop_more (list_all test) xs i x within ∙ ap (λ b. b && list_all test (drop (i + 1) xs)) (ap test (sym is) ∙ passes)) ∙ so_far
+
+  pub all_passed : (i : ℕ) (whole : Bool) → length xs ≤ i → list_all test (drop i xs) ≡ whole → true ≡ whole
+  all_passed i whole past so_far = sym (at_drop_all (list_all test) xs i past) ∙ so_far

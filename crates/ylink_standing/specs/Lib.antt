@@ -1,3 +1,4 @@
 pub mod AskingView
+pub mod ChosenView
 pub mod ConditionView
 pub mod StandingView

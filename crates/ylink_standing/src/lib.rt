@@ -2,9 +2,12 @@
 #![tactic(auto)]
 
 mod asking;
+mod choosing;
+mod chosen;
 mod condition;
 mod standing;
 
 pub use asking::conditions_of;
+pub use choosing::chosen_of;
 pub use condition::Condition;
 pub use standing::FeaturesOn;

@@ -11,11 +11,15 @@ ghost use Rattle.ylink_grammar.specs.SourceView.{source_view};
 ghost use Rattle.ylink_standing.specs.ConditionView.{all_asked, holds_at, is_in};
 ghost use Rattle.ylink_standing.specs.StandingView.{AreKnown, TellsOn};
 
+use crate::asking::conditions_of;
+use crate::choosing::chosen_of;
 use crate::condition::{Condition, is_on};
 use std::alloc::{AllocError, Global};
 use ybase_graph::{Edge, in_order};
 use ybase_preorder::Siblings;
-use ylink_grammar::{Source, Sources};
+use ylink_features::{Features, Versions, feature_edges};
+use ylink_grammar::{Language, Source, Sources};
+use ylink_names::Prefixes;
 
 /// Which features of a set are on (RFC 7950, 7.20.1).
 #[derive(Drop)]
@@ -123,7 +127,7 @@ fn told_in_order(
 
 impl FeaturesOn {
     ghost use Rattle.std.specs.Prelude.{◌≡◌, [], true, IfOk, length, map};
-    ghost use Rattle.std.specs.List.{Contains};
+    ghost use Rattle.std.specs.List.{All, Contains, list_all};
     ghost use Rattle.yspec.specs.Forest.{Forest};
     ghost use Rattle.yspec.specs.linking.Scopes.{Placed, statements_of};
     ghost use Rattle.yspec.specs.linking.Source as spec_source;
@@ -131,10 +135,68 @@ impl FeaturesOn {
     ghost use Rattle.yspec_wide.specs.Language as languages;
     ghost use Rattle.ybase_graph.specs.Edges.{AreWithin, edge_view};
     ghost use Rattle.ybase_preorder.specs.View.{row_by, slots_in};
+    ghost use Rattle.ylink_grammar.specs.LanguageView.{language_view};
     ghost use Rattle.ylink_grammar.specs.LinkView.{view};
     ghost use Rattle.ylink_grammar.specs.SourceView.{source_view};
+    ghost use Rattle.ylink_names.specs.PrefixView.{IsOf as AreFor};
+    ghost use Rattle.ylink_features.specs.FeatureView.{AreFeaturesOf};
+    ghost use Rattle.ylink_features.specs.VersionView.{AreVersionsOf};
     ghost use Rattle.yspec_wide.specs.Sources.{is_feature};
     ghost use Rattle.ylink_standing.specs.StandingView.{AreAsked, AreChosen, IsOf, IsRowOf, feature_at};
+
+    /// The features of a set that are on in a language, given what prefixes stand for (RFC 7950, 7.20.1). Under the core there
+    /// are none.
+    pub fn of_set<'t>(
+        alloc: Global,
+        language: &Language,
+        sources: &Sources<'t>,
+        prefixes: &Prefixes<'t>,
+    ) -> Result<FeaturesOn, AllocError>
+        requires prefixes { AreFor prefixes.now (view sources.now) }
+        ensures { spec.condition_breaks (language_view language.now) (view sources.now) ≡ []
+            → IfOk result (λ features.
+            IsOf features (language_view language.now) (view sources.now)) }
+    {
+        match language {
+            Language::Core => Ok(FeaturesOn {
+                on: Vec::new(alloc),
+                conditions: Vec::new(alloc),
+            }),
+            Language::Rfc(_) => {
+                let versions = Versions::of(alloc, language, sources)?;
+                let features = Features::of(alloc, language, sources)?;
+                FeaturesOn::of_features(alloc, language, sources, prefixes, &versions, &features)
+            }
+        }
+    }
+
+    /// The same, given the versions of the modules and their features too.
+    fn of_features<'a, 't>(
+        alloc: Global,
+        language: &'a Language,
+        sources: &Sources<'_>,
+        prefixes: &'a Prefixes<'t>,
+        versions: &'a Versions,
+        features: &'a Features<'t>,
+    ) -> Result<FeaturesOn, AllocError>
+        requires prefixes { AreFor prefixes.now (view sources.now) }
+        requires versions { AreVersionsOf versions.now (language_view language.now) (view sources.now) }
+        requires features { AreFeaturesOf features.now (language_view language.now) (view sources.now) }
+        ensures { spec.condition_breaks (language_view language.now) (view sources.now) ≡ []
+            → IfOk result (λ features.
+            IsOf features (language_view language.now) (view sources.now)) }
+    {
+        let conditions = conditions_of(alloc, language, sources, prefixes, features, versions)?;
+        let chosen = chosen_of(alloc, language, sources)?;
+        let edges = feature_edges(alloc, language, sources, prefixes, versions, features)?;
+        FeaturesOn::of(
+            alloc,
+            sources,
+            conditions,
+            chosen.as_slice(),
+            edges.as_slice(),
+        )
+    }
 
     /// The features of a set that are on, given what its conditions ask, which of its features are chosen, and the edges from
     /// each feature to those that its conditions name (RFC 7950, 7.20.1).
@@ -181,5 +243,21 @@ impl FeaturesOn {
             → result ≡ spec.stands language modules (row_by source_view below.entry) }
     {
         all_hold(self.conditions.as_slice(), self.on.as_slice(), below)
+    }
+
+    /// Whether a statement stands by several rows: the one below it, and those that others add to it (RFC 7950, 7.13, 7.17 and
+    /// 7.20.2).
+    pub fn stands_by(&self, rows: &[Siblings<'_, Source<'_>>]) -> bool
+        ensures { (language : languages.Language) (modules : Forest spec_source.Source)
+            → IsOf self.now language modules
+            → All (λ r. IsRowOf modules (row_by source_view r)) rows.now
+            → result ≡ list_all (λ r. spec.stands language modules (row_by source_view r)) rows.now }
+    {
+        for row in rows {
+            if !self.stands(*row) {
+                return false;
+            }
+        }
+        true
     }
 }
