@@ -1,6 +1,9 @@
-pub mod ModuleNameLemmas
-pub mod VerdictLemmas
-pub mod ModuleLemmas
-mod RepeatedLemmas
-pub mod PhaseLemmas
+pub mod CoreLemmas
+pub mod EmptyLemmas
 pub mod LinkingLemmas
+pub mod ModuleLemmas
+pub mod ModuleNameLemmas
+pub mod PhaseLemmas
+mod RepeatedLemmas
+pub mod VerdictLemmas
+pub mod WrongLemmas

@@ -1,5 +1,6 @@
 pub use Rattle.ylink_types.specs.TypeView
 pub mod VerdictView
+pub mod EmptyView
 pub mod ModuleView
 pub mod LinkedView
 pub mod Told

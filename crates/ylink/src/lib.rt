@@ -2,6 +2,7 @@
 #![tactic(auto)]
 
 mod fault;
+mod features;
 mod judging;
 mod linked;
 mod linking;
@@ -10,11 +11,12 @@ mod ordering;
 mod repeated;
 mod statements;
 mod verdicts;
+mod versions;
 
 pub use fault::CompileFault;
 pub use linked::{Linked, StmtId};
-pub use linking::link;
+pub use linking::{link, link_in};
 pub use modules::prefixed_in;
 pub use statements::Statements;
-pub use ylink_grammar::CompileCode;
+pub use ylink_grammar::{CompileCode, Language};
 pub use ylink_types::Meant;
