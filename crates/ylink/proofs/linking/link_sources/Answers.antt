@@ -1,7 +1,9 @@
-use Rattle.std.proofs.Common.{sym, ap, subst, ◌∙◌}
+use Rattle.std.proofs.Common.{ℕ, sym, ap, subst, ◌∙◌}
 use Rattle.ytext.specs.View.{modules_view}
 use Rattle.yspec.specs.Results.{Fails}
 use Rattle.yspec.specs.linking.Compiling.{linked}
+use Rattle.yspec.specs.linking.DerivedTypes.{Known}
+use Rattle.ylink_values.proofs.AllKeptLemmas.{known_named_alike}
 use Rattle.ylink_grammar.specs.LinkView as statements
 use Rattle.ylink.specs.Told.{seen, told_by, break_view}
 use Rattle.ylink.proofs.LinkingLemmas.{in_names, in_meanings, no_circles}
@@ -35,3 +37,8 @@ of-requires-2-clause-straight c =
     let meant = c.in_ok-found-2.ensures (c.deref.ensures.value ∙ c.in_ok-holders.ensures)
     (c.deref-2.ensures.value ∙ c.in_ok-meanings.ensures c.in_ok-prefixes.ensures) in
     no_circles (statements.view c.args.sources) (sym (ap seen c.in_default-2.is) ∙ meant)
+
+-- all names are kept
+pub link_types-requires-clause-named : goal.link_types-requires-clause-named
+link_types-requires-clause-named c number =
+    c.in_ok-typedefs.ensures.known number ∙ ap (λ (known : ℕ → Known). known number) (known_named_alike (statements.view c.args.sources))
