@@ -28,21 +28,37 @@ seam so_far mid full new inner y x n mid_is full_is n_is new_is =
     ∙ (ap (λ l. slice_set l (length so_far) x) (full_is ∙ (ap (λ l. l ++ inner) mid_is ∙ append_assoc so_far (y ∷ []) inner))
     ∙ (set-append_seam so_far y inner x ∙ sym (append_assoc so_far (x ∷ []) inner))))
 
+module _ (modules : Forest Source) (named : ℕ → spec.Verdict) where
+  abbrev one_judged : Source → Forest Source → spec.Verdict
+  one_judged s below = verdict modules named true s below (verdicts modules named below)
+
+  none_judged : verdicts modules named end ≡ []
+  unfolding verdicts
+  none_judged = refl
+
+  judged_step : (s : Source) (below after : Forest Source) → verdicts modules named (node s below after)
+      ≡ cond (is_source_of type_word s) (one_judged s below ∷ verdicts modules named after) (verdicts modules named after)
+  unfolding verdicts
+  judged_step s below after = refl
+
 module _ (modules : Forest Source) (named : ℕ → spec.Verdict) (s : Source) (below after before : Forest Source) (first : before ≡ node s below after) where
   pub no_member : (u : Bool) (so_far whole : List spec.Verdict) → is_source_of type_word s ≡ false
       → so_far ++ members_below modules named u before ≡ whole → so_far ++ members_below modules named u after ≡ whole
-  no_member true so_far whole other made = no_verdict modules named s below after before first so_far whole other made
+  no_member true so_far whole other made = no_verdict (one_judged modules named) (verdicts modules named) (none_judged modules named) (judged_step modules named)
+      s below after before first so_far whole other made
   no_member false so_far whole other made = made
 
   pub next_member : (u : Bool) (so_far more : List spec.Verdict) (v : spec.Verdict) (whole : List spec.Verdict) → is_source_of type_word s ≡ true
       → more ≡ so_far ++ members_in u v → v ≡ verdict modules named u s below (verdicts modules named below)
       → so_far ++ members_below modules named u before ≡ whole → more ++ members_below modules named u after ≡ whole
-  next_member true so_far more v whole stands added is made = next_verdict modules named s below after before first so_far more v whole stands added is made
+  next_member true so_far more v whole stands added is made = next_verdict (one_judged modules named) (verdicts modules named) (none_judged modules named)
+      (judged_step modules named) s below after before first so_far more v whole stands added is made
   next_member false so_far more v whole stands added is made = ap (λ l. l ++ []) (added ∙ append-nil so_far) ∙ made
 
 pub all_members : (modules : Forest Source) (named : ℕ → spec.Verdict) (u : Bool) (left : Forest Source) (so_far whole : List spec.Verdict) → left ≡ end
     → so_far ++ members_below modules named u left ≡ whole → so_far ≡ whole
-all_members modules named true left so_far whole ended made = no_more_verdicts modules named left so_far whole ended made
+all_members modules named true left so_far whole ended made = no_more_verdicts (one_judged modules named) (verdicts modules named) (none_judged modules named)
+    (judged_step modules named) left so_far whole ended made
 all_members modules named false left so_far whole ended made = sym (append-nil so_far) ∙ made
 
 -- ---- what verdicts tell

@@ -16,6 +16,7 @@ ghost use Rattle.ylink_names.specs.MeaningView.{AreMeanings};
 ghost use Rattle.ylink_names.specs.Ordered.{AreInOrder};
 ghost use Rattle.ylink_names.specs.PrefixView as prefix;
 ghost use Rattle.ylink_features.specs.VersionView.{AreVersionsOf};
+ghost use Rattle.ylink_values.specs.KeptView.{all_kept};
 ghost use Rattle.ylink_types.specs.TypedefView as typedef;
 ghost use Rattle.ylink.specs.LinkedView.{view, wholes};
 ghost use Rattle.ylink.specs.Told.{told_by};
@@ -34,7 +35,7 @@ use ylink_grammar::{BrokenRule, Language, Sources, broken_statement_rule_in};
 use ylink_names::{
     Prefixes, broken_meaning_rule, broken_prefix_rule, broken_taken_rule, holders_of, meanings_of,
 };
-use ylink_types::{Identities, Typedefs};
+use ylink_types::{Identities, Kept, Typedefs};
 use ytext::Module;
 
 /// The statements of a set of modules in the core, with what their names and types mean, or the least broken rule, by module,
@@ -100,8 +101,8 @@ fn link_sources<'t>(
         return Err(CompileFault::from(found));
     }
     let order = order_of(alloc, &sources, &holders, &meanings)?;
-    let identities = Identities::of(alloc, &sources, &holders, &meanings)?;
-    let typedefs = Typedefs::of(alloc, &sources, meanings, identities, &order)?;
+    let identities = Identities::of(alloc, &sources, Kept::All, &holders, &meanings)?;
+    let typedefs = Typedefs::of(alloc, &sources, Kept::All, meanings, identities, &order)?;
     link_types(
         alloc, language, modules, sources, prefixes, &versions, order, typedefs,
     )
@@ -127,7 +128,7 @@ fn link_types<'t>(
     requires ordered { AreInOrder order.items (statements.view sources) }
     requires named { typedef.IsOf typedefs (statements.view sources) }
     requires meant { AreMeanings (typedef.meanings_in typedefs) (statements.view sources) }
-    requires rests { typedef.RestsOn typedefs (statements.view sources) }
+    requires rests { typedef.RestsOn all_kept typedefs (statements.view sources) }
     requires first { None ≡ least_from None
         (statement_phase_in (language_view language.now) (modules_view modules.now)) }
     requires names { None ≡ least_from None (names_phase_in (language_view language.now)

@@ -6,6 +6,7 @@ ghost use Rattle.yspec.specs.linking.Scopes.{placed};
 ghost use Rattle.ybase_preorder.specs.View.{row_by};
 ghost use Rattle.ylink_grammar.specs.LinkView.{view};
 ghost use Rattle.ylink_grammar.specs.SourceView.{source_view};
+ghost use Rattle.ylink_values.specs.KeptView.{all_kept};
 ghost use Rattle.ylink_types.specs.TypeView.{verdict_view};
 ghost use Rattle.ylink_types.specs.TypedefView.{verdicts_in, IsOf, RestsOn};
 ghost use Rattle.ylink.specs.VerdictView.{judged, members_below, members_in, table_view, verdict_held, AreVerdicts};
@@ -14,7 +15,7 @@ use std::alloc::{AllocError, Global};
 use ybase_preorder::Siblings;
 use ybase_words::Keyword;
 use ylink_grammar::{Source, Sources};
-use ylink_types::{Typedefs, Verdict, judge_type};
+use ylink_types::{Kept, Typedefs, Verdict, judge_type};
 
 /// Sets what a table holds of the statement of a number.
 fn set_verdict<'t>(
@@ -58,7 +59,7 @@ fn add_verdicts<'t>(
     statements: Siblings<'_, Source<'t>>,
     table: &mut Vec<Option<Box<Verdict<'t>>>>,
 ) -> Result<Vec<Verdict<'t>>, AllocError>
-    requires { RestsOn typedefs.now (view sources.now) }
+    requires { RestsOn all_kept typedefs.now (view sources.now) }
     ensures members { IfOk result (λ members. map verdict_view members.items
         ≡ members_below (view sources.now) (verdicts_in typedefs.now) in_union
         (row_by source_view statements.entry)) }
@@ -77,7 +78,15 @@ fn add_verdicts<'t>(
         if !is_type {
             continue;
         }
-        let verdict = judge_type(alloc, sources, typedefs, in_union, statement, inner)?;
+        let verdict = judge_type(
+            alloc,
+            sources,
+            typedefs,
+            Kept::All,
+            in_union,
+            statement,
+            inner,
+        )?;
         add_member(in_union, &verdict, &mut members)?;
         set_verdict(alloc, table, number, verdict)?;
     }
@@ -90,7 +99,7 @@ pub(crate) fn verdicts_of<'t>(
     sources: &Sources<'t>,
     typedefs: &Typedefs<'t>,
 ) -> Result<Vec<Option<Box<Verdict<'t>>>>, AllocError>
-    requires { RestsOn typedefs.now (view sources.now) }
+    requires { RestsOn all_kept typedefs.now (view sources.now) }
     ensures { IsOf typedefs.now (view sources.now)
         → IfOk result (λ table. AreVerdicts table.items (view sources.now)) }
 {

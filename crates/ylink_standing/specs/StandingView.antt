@@ -8,7 +8,7 @@ use Rattle.yspec_wide.specs.Features.{Feature, is_on, is_chosen_feature, conditi
 use Rattle.yspec_wide.specs.Language.{Language}
 use Rattle.yspec_wide.specs.Sources.{is_feature, is_condition}
 use Rattle.ybase_graph.specs.Reaching.{HasEdge, StandsBefore}
-use Rattle.ylink_standing.specs.ConditionView.{holds_at, is_in}
+use Rattle.ylink_standing.specs.ConditionView.{all_asked, holds_at, is_in}
 use Rattle.ylink_standing.specs.declared.condition.Condition.{Condition}
 use Rattle.ylink_standing.specs.declared.standing.FeaturesOn.{FeaturesOn}
 
@@ -52,6 +52,10 @@ pub record AreKnown (asked : List (Option Condition)) (chosen : List Bool) (node
 pub record IsOf (f : FeaturesOn) (language : Language) (modules : Forest Source) : Type 0 where
   pub tells : TellsOn language modules (is_in f.on.items)
   pub asked : AreAsked f.conditions.items language modules
+
+-- whether all that a row asks holds, by what is held
+abbrev pub stands_by : FeaturesOn → Forest Source → Bool
+stands_by f below = all_asked f.conditions.items (is_in f.on.items) below
 
 -- a row that stands below a statement of a set
 abbrev pub IsRowOf : Forest Source → Forest Source → Type 0

@@ -1,5 +1,5 @@
 -- The identities of a set, from the rows of its statements.
-use Rattle.std.proofs.Common.{◌≡◌, ℕ, zero, suc, ◌+◌, ◌<◌, ◌&&◌, ℤ, pos, Bool, true, false, cond, List, [], ◌∷◌, ◌++◌, length, get_or, take, map, filter, Option, Some, None, refl, sym, ap, ap₂, ◌∙◌, arith, subst}
+use Rattle.std.proofs.Common.{◌≡◌, ℕ, zero, suc, ◌+◌, ◌<◌, ◌&&◌, ℤ, pos, Bool, true, false, cond, List, [], ◌∷◌, ◌++◌, length, get_or, take, drop, map, filter, Option, Some, None, refl, sym, ap, ap₂, ◌∙◌, arith, subst}
 use mathlib.Core.Path.{fun_ext}
 use Rattle.std.specs.Prelude.{int_lt, option_map, unwrap_or, slice_get, slice_set}
 use Rattle.std.specs.List.{flat_map, list_all, list_any}
@@ -10,7 +10,7 @@ use Rattle.std.specs.declared.alloc.Global.{Global}
 use Rattle.std.specs.declared.rc.Rc.{Rc}
 use Rattle.std.specs.declared.string.String.{String}
 use Rattle.std.proofs.lemmas.Grind.{flat_map-append}
-use Rattle.std.proofs.lemmas.List.{append_assoc, append-nil, length-map, map-append}
+use Rattle.std.proofs.lemmas.List.{append_assoc, append-nil, drop_more, length-map, map-append}
 use Rattle.std.proofs.lemmas.List.Folds.{list_all-append}
 use Rattle.std.proofs.lemmas.Option.{slice_get-map}
 use Rattle.yspec.specs.Forest.{Forest, end, node, row, preorder}
@@ -19,10 +19,11 @@ use Rattle.yspec.specs.types.Identities.{identity_name}
 use Rattle.yspec.specs.types.Names.{Assigned}
 use Rattle.yspec.specs.linking.Circles.{definition_edges}
 use Rattle.yspec.specs.linking.Graph.{Edge}
-use Rattle.yspec.specs.linking.Identities.{assigned_identity, identities_of, is_identity, module_name, numbers_derived}
+use Rattle.yspec.specs.linking.Identities.{assigned_identity, identities_of, is_identity, module_name}
 use Rattle.yspec.specs.linking.Keyword.{identity_word, type_word}
 use Rattle.yspec.specs.linking.Scopes.{Placed, placed, statements_of}
 use Rattle.yspec.specs.linking.Source.{Source, is_source_of, argument_in}
+use Rattle.yspec_wide.specs.Types.{numbers_kept}
 use Rattle.ybase_graph.specs.Derivation.{derives}
 use Rattle.ybase_preorder.specs.Layout.{numbered_by, labels_by, forest_of}
 use Rattle.ybase_preorder.specs.declared.slot.Slot.{Slot}
@@ -30,27 +31,32 @@ use Rattle.ybase_preorder.proofs.LabelLemmas.{preorder_by}
 use Rattle.ylink_grammar.specs.declared.source.Source as held
 use Rattle.ylink_grammar.specs.SourceView.{source_view}
 use Rattle.ylink_types.specs.DerivedView.{base_by, type_bases, Ascend, derived_among, set_at, AreSets}
-use Rattle.ylink_types.specs.IdentityView.{home_view, listed, identity_view, number_of, name_among, assigned_by}
+use Rattle.ylink_types.specs.IdentityView.{home_view, listed, listed_in, identity_view, is_kept, number_of, name_among, assigned_by}
 use Rattle.ylink_types.specs.declared.identities.Identity.{Identity}
 use Rattle.ylink_types.proofs.NumberLemmas.{ascend_from, ascend_before, both_kept, kept_ascend}
 
+abbrev Listed : Type 0
+Listed = ℕ × ℕ × Text × Bool
+
 -- ---- statements of a row, one after another
 
-module _ {A : Type 0} (h : Source → List A) (s : Source) (below after before : Forest Source) (first : before ≡ node s below after) where
-  pub next_listed : (so_far mid more whole : List A) → mid ≡ so_far ++ h s → more ≡ mid ++ flat_map h (preorder below)
-      → so_far ++ flat_map h (preorder before) ≡ whole → more ++ flat_map h (preorder after) ≡ whole
-  next_listed so_far mid more whole own under made =
-      let inner = flat_map h (preorder below) in
-      let rest = flat_map h (preorder after) in
+module _ (kept : Forest Source → Bool) where
+  pub next_listed : (s : Source) (below after before : Forest Source) → before ≡ node s below after
+      → (so_far mid more whole : List Listed) → mid ≡ so_far ++ listed kept s below → more ≡ mid ++ listed_in kept below
+      → so_far ++ listed_in kept before ≡ whole → more ++ listed_in kept after ≡ whole
+  unfolding listed_in
+  next_listed s below after before first so_far mid more whole own under made =
+      let inner = listed_in kept below in
+      let rest = listed_in kept after in
       ap (λ l. l ++ rest) (under ∙ ap (λ l. l ++ inner) own)
-      ∙ (append_assoc (so_far ++ h s) inner rest
-      ∙ (append_assoc so_far (h s) (inner ++ rest)
-      ∙ (ap (λ l. so_far ++ (h s ++ l)) (sym (flat_map-append h (preorder below) (preorder after)))
-      ∙ (sym (ap (λ f. so_far ++ flat_map h (preorder f)) first) ∙ made))))
+      ∙ (append_assoc (so_far ++ listed kept s below) inner rest
+      ∙ (append_assoc so_far (listed kept s below) (inner ++ rest)
+      ∙ (sym (ap (λ f. so_far ++ listed_in kept f) first) ∙ made)))
 
-pub all_listed : {A : Type 0} (h : Source → List A) (left : Forest Source) (so_far whole : List A) → left ≡ end
-    → so_far ++ flat_map h (preorder left) ≡ whole → so_far ≡ whole
-all_listed h left so_far whole ended made = sym (ap (λ f. so_far ++ flat_map h (preorder f)) ended ∙ append-nil so_far) ∙ made
+  pub all_listed : (left : Forest Source) (so_far whole : List Listed) → left ≡ end
+      → so_far ++ listed_in kept left ≡ whole → so_far ≡ whole
+  unfolding listed_in
+  all_listed left so_far whole ended made = sym (ap (λ f. so_far ++ listed_in kept f) ended ∙ append-nil so_far) ∙ made
 
 -- ---- bases of types, one statement after another
 
@@ -74,38 +80,79 @@ module _ (named : ℕ → Option ℕ) (in_type : Bool) where
 
 -- ---- what is listed of a set
 
-abbrev Listed : Type 0
-Listed = ℕ × ℕ × Text
-
 abbrev listed_number : Listed → ℕ
 listed_number l = l.0
 
-abbrev listed_by : Placed → Listed
-listed_by p = (p.source.number, p.source.home, argument_in p.source)
+abbrev listed_kept : Listed → Bool
+listed_kept l = l.3
 
-sources_placed : (ancestors : List (Source × Forest Source)) (f : Forest Source) → map (λ (p : Placed). p.source) (placed ancestors f) ≡ preorder f
-unfolding placed
-sources_placed ancestors end = refl
-sources_placed ancestors (node s below after) =
-    ap (λ (l : List Source). s ∷ l)
-    (map-append (λ (p : Placed). p.source) (placed ((s, below) ∷ ancestors) below) (placed ancestors after)
-    ∙ ap₂ (λ a b. a ++ b) (sources_placed ((s, below) ∷ ancestors) below) (sources_placed ancestors after))
-
-listed_among : (ps : List Placed) → flat_map listed (map (λ (p : Placed). p.source) ps) ≡ map listed_by (filter is_identity ps)
-listed_among [] = refl
-listed_among (p ∷ ps) = by (is_source_of identity_word p.source) (listed_among ps)
+filter_append : {A : Type 0} (p : A → Bool) (xs ys : List A) → filter p (xs ++ ys) ≡ filter p xs ++ filter p ys
+filter_append p [] ys = refl
+filter_append {A} p (x ∷ xs) ys = by (p x) (filter_append p xs ys)
   where
-    by : (b : Bool) → flat_map listed (map (λ (p : Placed). p.source) ps) ≡ map listed_by (filter is_identity ps)
-        → cond b (listed_by p ∷ []) [] ++ flat_map listed (map (λ (p : Placed). p.source) ps) ≡ map listed_by (cond b (p ∷ filter is_identity ps) (filter is_identity ps))
-    by true rest = ap (λ (l : List Listed). listed_by p ∷ l) rest
+    by : (b : Bool) → filter p (xs ++ ys) ≡ filter p xs ++ filter p ys
+        → cond b (x ∷ filter p (xs ++ ys)) (filter p (xs ++ ys)) ≡ cond b (x ∷ filter p xs) (filter p xs) ++ filter p ys
+    by true rest = ap (λ (l : List A). x ∷ l) rest
     by false rest = rest
 
-all_of_set : (set : Forest Source) → flat_map listed (preorder set) ≡ map listed_by (identities_of set)
-all_of_set set = ap (flat_map listed) (sym (sources_placed [] set)) ∙ listed_among (statements_of set)
+-- the number of an identity
+abbrev own_number : Source → List ℕ
+own_number s = cond (is_source_of identity_word s) (s.number ∷ []) []
+
+module _ (kept : Forest Source → Bool) where
+  abbrev listed_by : Placed → Listed
+  listed_by p = (p.source.number, p.source.home, argument_in p.source, kept p.below)
+
+  listed_among : (ancestors : List (Source × Forest Source)) (f : Forest Source) → listed_in kept f ≡ map listed_by (filter is_identity (placed ancestors f))
+  unfolding placed listed_in
+  listed_among ancestors end = refl
+  listed_among ancestors (node s below after) = by (is_source_of identity_word s)
+      (ap₂ (λ (a b : List Listed). a ++ b) (listed_among ((s, below) ∷ ancestors) below) (listed_among ancestors after)
+      ∙ (sym (map-append listed_by (filter is_identity inner) (filter is_identity behind))
+      ∙ ap (map listed_by) (sym (filter_append is_identity inner behind))))
+    where
+      inner : List Placed
+      inner = placed ((s, below) ∷ ancestors) below
+
+      behind : List Placed
+      behind = placed ancestors after
+
+      by : (b : Bool) → listed_in kept below ++ listed_in kept after ≡ map listed_by (filter is_identity (inner ++ behind))
+          → cond b ((s.number, s.home, argument_in s, kept below) ∷ []) [] ++ (listed_in kept below ++ listed_in kept after)
+          ≡ map listed_by (cond b (record { source = s; below = below; ancestors = ancestors } ∷ filter is_identity (inner ++ behind)) (filter is_identity (inner ++ behind)))
+      by true rest = ap (λ (l : List Listed). (s.number, s.home, argument_in s, kept below) ∷ l) rest
+      by false rest = rest
+
+  all_of_set : (set : Forest Source) → listed_in kept set ≡ map listed_by (identities_of set)
+  all_of_set set = listed_among [] set
+
+  -- their numbers alone
+  numbers_in : (f : Forest Source) → map listed_number (listed_in kept f) ≡ flat_map own_number (preorder f)
+  unfolding listed_in
+  numbers_in end = refl
+  numbers_in (node s below after) =
+      map-append listed_number (listed kept s below) (listed_in kept below ++ listed_in kept after)
+      ∙ ap₂ (λ (a b : List ℕ). a ++ b) (by (is_source_of identity_word s))
+      (map-append listed_number (listed_in kept below) (listed_in kept after)
+      ∙ (ap₂ (λ (a b : List ℕ). a ++ b) (numbers_in below) (numbers_in after)
+      ∙ sym (flat_map-append own_number (preorder below) (preorder after))))
+    where
+      by : (b : Bool) → map listed_number (cond b ((s.number, s.home, argument_in s, kept below) ∷ []) []) ≡ cond b (s.number ∷ []) []
+      by true = refl
+      by false = refl
 
 map_twice : {A B C : Type 0} (f : B → C) (g : A → B) (xs : List A) → map f (map g xs) ≡ map (λ x. f (g x)) xs
 map_twice f g [] = refl
 map_twice {A} {B} {C} f g (x ∷ xs) = ap (λ (l : List C). f (g x) ∷ l) (map_twice f g xs)
+
+map_kept : {A B C : Type 0} (f : B → C) (p : B → Bool) (g : A → B) (xs : List A) → map f (filter p (map g xs)) ≡ map (λ x. f (g x)) (filter (λ x. p (g x)) xs)
+map_kept f p g [] = refl
+map_kept {A} {B} {C} f p g (x ∷ xs) = by (p (g x)) (map_kept f p g xs)
+  where
+    by : (b : Bool) → map f (filter p (map g xs)) ≡ map (λ x. f (g x)) (filter (λ x. p (g x)) xs)
+        → map f (cond b (g x ∷ filter p (map g xs)) (filter p (map g xs))) ≡ map (λ x. f (g x)) (cond b (x ∷ filter (λ x. p (g x)) xs) (filter (λ x. p (g x)) xs))
+    by true rest = ap (λ (l : List C). f (g x) ∷ l) rest
+    by false rest = rest
 
 abbrev assigned_of : List Text → Listed → Assigned
 assigned_of names l = record { name = identity_name (name_among names l.1) l.2; number = pos l.0 }
@@ -118,24 +165,25 @@ module _ (set : Forest Source) where
       by None = refl
       by (Some s) = refl
 
-  assigned_so : (ps : List Placed) → map (λ p. assigned_of (map argument_in (row set)) (listed_by p)) ps ≡ map (assigned_identity set) ps
+module _ (kept : Forest Source → Bool) (set : Forest Source) where
+  assigned_so : (ps : List Placed) → map (λ p. assigned_of (map argument_in (row set)) (listed_by kept p)) ps ≡ map (assigned_identity set) ps
   assigned_so [] = refl
   assigned_so (p ∷ ps) =
       ap₂ (λ (name : Text) (l : List Assigned). record { name = identity_name name (argument_in p.source); number = pos p.source.number } ∷ l)
-      (named_so p.source.home) (assigned_so ps)
+      (named_so set p.source.home) (assigned_so ps)
 
-module _ (set : Forest Source) (made : List Identity) (is : map identity_view made ≡ flat_map listed (preorder set)) where
-  pub numbers_listed : map number_of made ≡ map (λ (p : Placed). p.source.number) (identities_of set)
-  numbers_listed =
-      sym (map_twice listed_number identity_view made)
-      ∙ (ap (map listed_number) (is ∙ all_of_set set) ∙ map_twice listed_number listed_by (identities_of set))
+  module _ (made : List Identity) (is : map identity_view made ≡ listed_in kept set) where
+    pub numbers_listed : map number_of (filter is_kept made) ≡ map (λ (p : Placed). p.source.number) (filter (λ (p : Placed). kept p.below) (identities_of set))
+    numbers_listed =
+        sym (map_kept listed_number listed_kept identity_view made)
+        ∙ (ap (λ l. map listed_number (filter listed_kept l)) (is ∙ all_of_set kept set) ∙ map_kept listed_number listed_kept (listed_by kept) (identities_of set))
 
-  pub names_listed : (names : List Text) → names ≡ map argument_in (row set) → map (assigned_by names) made ≡ map (assigned_identity set) (identities_of set)
-  names_listed names homes =
-      ap (λ ns. map (assigned_by ns) made) homes
-      ∙ (sym (map_twice (assigned_of (map argument_in (row set))) identity_view made)
-      ∙ (ap (map (assigned_of (map argument_in (row set)))) (is ∙ all_of_set set)
-      ∙ (map_twice (assigned_of (map argument_in (row set))) listed_by (identities_of set) ∙ assigned_so set (identities_of set))))
+    pub names_listed : (names : List Text) → names ≡ map argument_in (row set) → map (assigned_by names) made ≡ map (assigned_identity set) (identities_of set)
+    names_listed names homes =
+        ap (λ ns. map (assigned_by ns) made) homes
+        ∙ (sym (map_twice (assigned_of (map argument_in (row set))) identity_view made)
+        ∙ (ap (map (assigned_of (map argument_in (row set)))) (is ∙ all_of_set kept set)
+        ∙ (map_twice (assigned_of (map argument_in (row set))) (listed_by kept) (identities_of set) ∙ assigned_so (identities_of set))))
 
 -- the name of a module that is held
 pub module_named : (set : Forest Source) (names : List Text) (n : ℕ) → names ≡ map argument_in (row set) → name_among names n ≡ module_name set n
@@ -149,36 +197,79 @@ module _ (set : Forest Source) (homes : List (Rc (String Global) Global)) (are :
 
 -- ---- their numbers ascend
 
-ascend_listed : (k : ℕ) (slots : List (Slot held.Source)) → Ascend k (map listed_number (flat_map listed (labels_by source_view k slots)))
+ascend_listed : (k : ℕ) (slots : List (Slot held.Source)) → Ascend k (flat_map own_number (labels_by source_view k slots))
 ascend_listed k [] = tt
 ascend_listed k (r ∷ slots) = by (is_source_of identity_word (source_view k r.label)) (ascend_listed (k + 1) slots)
   where
-    by : (b : Bool) → Ascend (k + 1) (map listed_number (flat_map listed (labels_by source_view (k + 1) slots)))
-        → Ascend k (map listed_number (cond b ((k, (source_view k r.label).home, argument_in (source_view k r.label)) ∷ []) [] ++ flat_map listed (labels_by source_view (k + 1) slots)))
-    by true rest = (omega arith, ascend_from (k + 1) (suc k) (map listed_number (flat_map listed (labels_by source_view (k + 1) slots))) (omega arith) rest)
-    by false rest = ascend_from (k + 1) k (map listed_number (flat_map listed (labels_by source_view (k + 1) slots))) (omega arith) rest
+    others : List ℕ
+    others = flat_map own_number (labels_by source_view (k + 1) slots)
 
-pub numbers_ascend : (slots : List (Slot held.Source)) (made : List Identity)
-    → map identity_view made ≡ flat_map listed (preorder (numbered_by source_view 0 (forest_of slots))) → Ascend 0 (map number_of made)
-numbers_ascend slots made is =
+    by : (b : Bool) → Ascend (k + 1) others → Ascend k (cond b (k ∷ []) [] ++ others)
+    by true rest = (omega arith, ascend_from (k + 1) (suc k) others (omega arith) rest)
+    by false rest = ascend_from (k + 1) k others (omega arith) rest
+
+pub numbers_ascend : (kept : Forest Source → Bool) (slots : List (Slot held.Source)) (made : List Identity)
+    → map identity_view made ≡ listed_in kept (numbered_by source_view 0 (forest_of slots)) → Ascend 0 (map number_of made)
+numbers_ascend kept slots made is =
     subst (Ascend 0) (sym (sym (map_twice listed_number identity_view made)
-    ∙ ap (map listed_number) (is ∙ ap (flat_map listed) (preorder_by source_view slots)))) (ascend_listed 0 slots)
+    ∙ (ap (map listed_number) is ∙ (numbers_in kept (numbered_by source_view 0 (forest_of slots))
+    ∙ ap (flat_map own_number) (preorder_by source_view slots))))) (ascend_listed 0 slots)
+
+-- and those of some
+pub some_ascend : (low : ℕ) (made : List Identity) → Ascend low (map number_of made) → Ascend low (map number_of (filter is_kept made))
+some_ascend low [] all = tt
+some_ascend low (i ∷ made) all = by i.is_kept (some_ascend (suc i.number) made all.1)
+  where
+    by : (b : Bool) → Ascend (suc i.number) (map number_of (filter is_kept made)) → Ascend low (map number_of (cond b (i ∷ filter is_kept made) (filter is_kept made)))
+    by true rest = (all.0, rest)
+    by false rest = ascend_from (suc i.number) low (map number_of (filter is_kept made)) (let a = all.0 in omega (arith, a)) rest
+
+-- the number of one more of those that are kept
+pub next_number : (identities : List Identity) (i : ℕ) (d : Identity) (so_far after whole : List ℕ) → i < length identities
+    → after ≡ so_far ++ cond (is_kept (get_or identities i d)) (number_of (get_or identities i d) ∷ []) []
+    → so_far ++ map number_of (filter is_kept (drop i identities)) ≡ whole → after ++ map number_of (filter is_kept (drop (i + 1) identities)) ≡ whole
+next_number identities i d so_far after whole within added made =
+    ap (λ l. l ++ map number_of (filter is_kept rest)) added
+    ∙ (append_assoc so_far (cond (is_kept x) (number_of x ∷ []) []) (map number_of (filter is_kept rest))
+    ∙ (ap (λ l. so_far ++ l) (by (is_kept x))
+    ∙ (sym (ap (λ l. so_far ++ map number_of (filter is_kept l)) (drop_more identities i d within)) ∙ made)))
+  where
+    x : Identity
+    x = get_or identities i d
+
+    rest : List Identity
+    rest = drop (i + 1) identities
+
+    by : (b : Bool) → cond b (number_of x ∷ []) [] ++ map number_of (filter is_kept rest) ≡ map number_of (cond b (x ∷ filter is_kept rest) (filter is_kept rest))
+    by true = refl
+    by false = refl
 
 -- ---- derivation
 
-module _ (set : Forest Source) (numbers : List ℕ) (are : numbers ≡ map (λ (p : Placed). p.source.number) (identities_of set)) where
-  kept_by : (q : ℕ → Bool) (ps : List Placed) → map (λ (p : Placed). pos p.source.number) (filter (λ (p : Placed). q p.source.number) ps)
-      ≡ map pos (filter q (map (λ (p : Placed). p.source.number) ps))
+module _ (kept : Forest Source → Bool) (set : Forest Source) (numbers : List ℕ)
+    (are : numbers ≡ map (λ (p : Placed). p.source.number) (filter (λ (p : Placed). kept p.below) (identities_of set))) where
+  kept_by : (q : ℕ → Bool) (ps : List Placed) → map (λ (p : Placed). pos p.source.number) (filter (λ (p : Placed). kept p.below && q p.source.number) ps)
+      ≡ map pos (filter q (map (λ (p : Placed). p.source.number) (filter (λ (p : Placed). kept p.below) ps)))
   kept_by q [] = refl
-  kept_by q (p ∷ ps) = by (q p.source.number) (kept_by q ps)
+  kept_by q (p ∷ ps) = by (kept p.below) (q p.source.number) refl (kept_by q ps)
     where
-      by : (b : Bool) → map (λ (p : Placed). pos p.source.number) (filter (λ (p : Placed). q p.source.number) ps) ≡ map pos (filter q (map (λ (p : Placed). p.source.number) ps))
-          → map (λ (p : Placed). pos p.source.number) (cond b (p ∷ filter (λ (p : Placed). q p.source.number) ps) (filter (λ (p : Placed). q p.source.number) ps))
-          ≡ map pos (cond b (p.source.number ∷ filter q (map (λ (p : Placed). p.source.number) ps)) (filter q (map (λ (p : Placed). p.source.number) ps)))
-      by true rest = ap (λ (l : List ℤ). pos p.source.number ∷ l) rest
-      by false rest = rest
+      both : List Placed
+      both = filter (λ (p : Placed). kept p.below && q p.source.number) ps
 
-  pub derived_so : (bases : List ℕ) → derived_among (definition_edges set) numbers bases ≡ numbers_derived set bases
+      first : List ℕ
+      first = map (λ (p : Placed). p.source.number) (filter (λ (p : Placed). kept p.below) ps)
+
+      by : (b c : Bool) → q p.source.number ≡ c → map (λ (p : Placed). pos p.source.number) both ≡ map pos (filter q first)
+          → map (λ (p : Placed). pos p.source.number) (cond (b && q p.source.number) (p ∷ both) both)
+          ≡ map pos (filter q (map (λ (p : Placed). p.source.number) (cond b (p ∷ filter (λ (p : Placed). kept p.below) ps) (filter (λ (p : Placed). kept p.below) ps))))
+      by true true is rest = ap (λ c. map (λ (p : Placed). pos p.source.number) (cond c (p ∷ both) both)) is
+          ∙ (ap (λ (l : List ℤ). pos p.source.number ∷ l) rest
+          ∙ sym (ap (λ c. map pos (cond c (p.source.number ∷ filter q first) (filter q first))) is))
+      by true false is rest = ap (λ c. map (λ (p : Placed). pos p.source.number) (cond c (p ∷ both) both)) is
+          ∙ (rest ∙ sym (ap (λ c. map pos (cond c (p.source.number ∷ filter q first) (filter q first))) is))
+      by false c is rest = rest
+
+  pub derived_so : (bases : List ℕ) → derived_among (definition_edges set) numbers bases ≡ numbers_kept kept set bases
   derived_so bases =
       ap (λ ns. derived_among (definition_edges set) ns bases) are
       ∙ sym (kept_by (λ n. list_all (derives (definition_edges set) n) bases) (identities_of set))
@@ -206,26 +297,27 @@ all_numbers [] = refl
 all_numbers (n ∷ ns) = ap (λ (l : List ℕ). n ∷ l) (all_numbers ns)
 
 -- the same of a set
-module _ (set : Forest Source) (numbers : List ℕ) (are : numbers ≡ map (λ (p : Placed). p.source.number) (identities_of set)) where
+module _ (kept : Forest Source → Bool) (set : Forest Source) (numbers : List ℕ)
+    (are : numbers ≡ map (λ (p : Placed). p.source.number) (filter (λ (p : Placed). kept p.below) (identities_of set))) where
   abbrev pub derived_numbers : List ℕ → List ℕ
   derived_numbers bases = filter (λ n. list_all (derives (definition_edges set) n) bases) numbers
 
-  pub next_kept : (bases : List ℕ) (base : ℕ) (more : List ℕ) (other : List ℤ) → more ≡ bases ++ base ∷ [] → other ≡ numbers_derived set (base ∷ [])
+  pub next_kept : (bases : List ℕ) (base : ℕ) (more : List ℕ) (other : List ℤ) → more ≡ bases ++ base ∷ [] → other ≡ numbers_kept kept set (base ∷ [])
       → filter (λ n. list_any (int_eq (pos n)) other) (derived_numbers bases) ≡ derived_numbers more
   next_kept bases base more other more_is other_is =
-      one_more (definition_edges set) numbers bases base other (other_is ∙ sym (derived_so set numbers are (base ∷ [])))
+      one_more (definition_edges set) numbers bases base other (other_is ∙ sym (derived_so kept set numbers are (base ∷ [])))
       ∙ ap derived_numbers (sym more_is)
 
-  pub first_kept : (base : ℕ) (one : List ℤ) → one ≡ numbers_derived set (base ∷ [])
+  pub first_kept : (base : ℕ) (one : List ℤ) → one ≡ numbers_kept kept set (base ∷ [])
       → filter (λ n. list_any (int_eq (pos n)) one) numbers ≡ derived_numbers (base ∷ [])
   first_kept base one one_is =
       ap (λ (ns : List ℕ). filter (λ n. list_any (int_eq (pos n)) one) ns) (sym (all_numbers numbers)) ∙ next_kept [] base (base ∷ []) one refl one_is
 
-  pub all_derived : (bases kept : List ℕ) (keys : List ℤ) → Ascend 0 numbers → (Ascend 0 kept → keys ≡ map pos kept) → kept ≡ derived_numbers bases
-      → keys ≡ numbers_derived set bases
-  all_derived bases kept keys ascend put is =
+  pub all_derived : (bases held : List ℕ) (keys : List ℤ) → Ascend 0 numbers → (Ascend 0 held → keys ≡ map pos held) → held ≡ derived_numbers bases
+      → keys ≡ numbers_kept kept set bases
+  all_derived bases held keys ascend put is =
       put (subst (Ascend 0) (sym is) (kept_ascend (λ n. list_all (derives (definition_edges set) n) bases) 0 numbers ascend))
-      ∙ (ap (map pos) is ∙ derived_so set numbers are bases)
+      ∙ (ap (map pos) is ∙ derived_so kept set numbers are bases)
 
 -- ---- sets by number
 

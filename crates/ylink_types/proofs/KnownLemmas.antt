@@ -6,12 +6,14 @@ use Rattle.std.specs.Option.{option_map_or}
 use Rattle.std.proofs.lemmas.List.Elements.{Contains-append_left, Contains-append_right}
 use Rattle.yspec.specs.Forest.{Forest, end, node, first_of}
 use Rattle.yspec.specs.linking.Circles.{referring, innermost, definition_edge, definition_edges}
-use Rattle.yspec.specs.linking.DerivedTypes.{Known, unknown, named, verdict_by, known_by, known_in_row, typedef_row}
+use Rattle.yspec.specs.linking.DerivedTypes.{Known, unknown, named, verdict_by, known_in_row, typedef_row}
 use Rattle.yspec.specs.linking.Keyword.{same_keyword, type_word, typedef_word, default_word}
 use Rattle.yspec.specs.linking.Scopes.{Placed, placed, statements_of, statement_at, meaning, kind_named}
 use Rattle.yspec.specs.linking.Source.{Source, Stated, is_source_of, found_with, stated_with}
-use Rattle.yspec.specs.linking.TypeStatements.{wrong, verdict, verdicts, verdict_on, verdict_in_place, are_in_place, built_in_meant, derived}
+use Rattle.yspec.specs.linking.TypeStatements.{wrong, are_in_place, built_in_meant, derived}
 use Rattle.yspec.proofs.LinkingProofs.KeywordLemmas.{same_is}
+use Rattle.yspec_wide.specs.Types.{verdict_of, verdicts_of, verdict_on_of, verdict_in_place_of, known_of, known_in_row_of}
+use Rattle.ylink_values.proofs.AllKeptLemmas.{known_in_row_alike}
 use Rattle.ybase_graph.specs.Reaching.{HasEdge}
 use Rattle.ybase_preorder.proofs.NumberLemmas.{AreFrom, found_again, found_among}
 use Rattle.ylink_names.specs.ReferringView.{innermost_of}
@@ -20,34 +22,34 @@ use Rattle.ylink_names.proofs.PlacedLemmas.{number_of, edge_among, below_them}
 
 -- ---- verdicts
 
-module _ (modules : Forest Source) (f g : ℕ → Known) where
+module _ (kept : Forest Source → Bool) (modules : Forest Source) (f g : ℕ → Known) where
   -- they say the same of the `type` statements of a row, and of those below these
   abbrev pub Agree : Forest Source → Type 0
   Agree end = ⊤
   Agree (node s below after) = (is_source_of type_word s ≡ true → (f s.number ≡ g s.number) × Agree below) × Agree after
 
-  same_verdicts : (row : Forest Source) → Agree row → verdicts modules (verdict_by f) row ≡ verdicts modules (verdict_by g) row
-  unfolding verdicts
+  same_verdicts : (row : Forest Source) → Agree row → verdicts_of kept modules (verdict_by f) row ≡ verdicts_of kept modules (verdict_by g) row
+  unfolding verdicts_of
   same_verdicts end a = refl
   same_verdicts (node s below after) a = by (is_source_of type_word s) refl (λ own. same_verdicts below own) (same_verdicts after a.1)
     where
       by : (b : Bool) → is_source_of type_word s ≡ b
-          → (Agree below → verdicts modules (verdict_by f) below ≡ verdicts modules (verdict_by g) below)
-          → verdicts modules (verdict_by f) after ≡ verdicts modules (verdict_by g) after
-          → cond b (verdict modules (verdict_by f) true s below (verdicts modules (verdict_by f) below) ∷ verdicts modules (verdict_by f) after) (verdicts modules (verdict_by f) after)
-          ≡ cond b (verdict modules (verdict_by g) true s below (verdicts modules (verdict_by g) below) ∷ verdicts modules (verdict_by g) after) (verdicts modules (verdict_by g) after)
+          → (Agree below → verdicts_of kept modules (verdict_by f) below ≡ verdicts_of kept modules (verdict_by g) below)
+          → verdicts_of kept modules (verdict_by f) after ≡ verdicts_of kept modules (verdict_by g) after
+          → cond b (verdict_of kept modules (verdict_by f) true s below (verdicts_of kept modules (verdict_by f) below) ∷ verdicts_of kept modules (verdict_by f) after) (verdicts_of kept modules (verdict_by f) after)
+          ≡ cond b (verdict_of kept modules (verdict_by g) true s below (verdicts_of kept modules (verdict_by g) below) ∷ verdicts_of kept modules (verdict_by g) after) (verdicts_of kept modules (verdict_by g) after)
       by true is inner rest =
           let own = a.0 is in
           ap₂ (λ v vs. v ∷ vs)
-          (ap₂ (λ (k : Known) vs. option_map_or (λ type. cond (are_in_place type below) (verdict_in_place modules true s type below vs) wrong)
+          (ap₂ (λ (k : Known) vs. option_map_or (λ type. cond (are_in_place type below) (verdict_in_place_of kept modules true s type below vs) wrong)
           (built_in_meant modules s) (derived true below k.verdict)) own.0 (inner own.1))
           rest
       by false is inner rest = rest
 
   pub same_verdict : (is_member : Bool) (s : Source) (below : Forest Source) → f s.number ≡ g s.number → Agree below
-      → verdict_on modules (verdict_by f) is_member s below ≡ verdict_on modules (verdict_by g) is_member s below
+      → verdict_on_of kept modules (verdict_by f) is_member s below ≡ verdict_on_of kept modules (verdict_by g) is_member s below
   same_verdict is_member s below own inner =
-      ap₂ (λ (k : Known) vs. option_map_or (λ type. cond (are_in_place type below) (verdict_in_place modules is_member s type below vs) wrong)
+      ap₂ (λ (k : Known) vs. option_map_or (λ type. cond (are_in_place type below) (verdict_in_place_of kept modules is_member s type below vs) wrong)
       (built_in_meant modules s) (derived is_member below k.verdict)) own (same_verdicts below inner)
 
   pub agree_all : ((n : ℕ) → f n ≡ g n) → (row : Forest Source) → Agree row
@@ -65,11 +67,11 @@ module _ (modules : Forest Source) (f g : ℕ → Known) where
       by true is e rest = let same : (s, below) ≡ t = cc in subst (λ (u : Source × Forest Source). (f u.0.number ≡ g u.0.number) × Agree u.1) same (a.0 is)
       by false is e rest = rest e
 
-  pub same_in_row : (row : Forest Source) → Agree row → known_in_row modules f row ≡ known_in_row modules g row
+  pub same_in_row : (row : Forest Source) → Agree row → known_in_row_of kept modules f row ≡ known_in_row_of kept modules g row
   same_in_row row a = by (found_with type_word row) refl
     where
       by : (o : Option (Source × Forest Source)) → found_with type_word row ≡ o
-          → option_map_or (known_by modules f row) o unknown ≡ option_map_or (known_by modules g row) o unknown
+          → option_map_or (known_of kept modules f row) o unknown ≡ option_map_or (known_of kept modules g row) o unknown
       by None e = refl
       by (Some t) e =
           let same = agree_found row a t e in
@@ -102,7 +104,7 @@ module _ (modules : Forest Source) (f g : ℕ → Known) where
 -- ---- a set of modules
 
 -- whose statements have the numbers from 0 on
-module _ (set : Forest Source) (numbered : AreFrom number_of 0 (statements_of set)) where
+module _ (kept : Forest Source → Bool) (set : Forest Source) (numbered : AreFrom number_of 0 (statements_of set)) where
   module _ (known_here known_there : ℕ → Known) (d : ℕ) (same : (e : ℕ) → HasEdge (definition_edges set) d e → known_here e ≡ known_there e) where
     -- of a statement in the typedef
     same_named : (p : Placed) → Contains (statements_of set) p → referring p ≡ Some d → named set known_here p.source.number ≡ named set known_there p.source.number
@@ -120,13 +122,13 @@ module _ (set : Forest Source) (numbered : AreFrom number_of 0 (statements_of se
         by (Some x) e = same x.number (edge_among (definition_edge set) (statements_of set) p d x.number at
             (ap₂ (λ m r. option_and_then (λ (y : Source). option_map (λ (a : ℕ). record { source = a; target = y.number }) r) m) e refers))
 
-    pub same_known : option_map_or (known_in_row set (named set known_here)) (typedef_row set d) unknown
-        ≡ option_map_or (known_in_row set (named set known_there)) (typedef_row set d) unknown
-    same_known = by (statement_at set d) refl
+    pub same_known_of : option_map_or (known_in_row_of kept set (named set known_here)) (typedef_row set d) unknown
+        ≡ option_map_or (known_in_row_of kept set (named set known_there)) (typedef_row set d) unknown
+    same_known_of = by (statement_at set d) refl
       where
         by : (o : Option Placed) → statement_at set d ≡ o
-            → option_map_or (known_in_row set (named set known_here)) (option_and_then (λ p. cond (is_source_of typedef_word p.source) (Some p.below) None) o) unknown
-            ≡ option_map_or (known_in_row set (named set known_there)) (option_and_then (λ p. cond (is_source_of typedef_word p.source) (Some p.below) None) o) unknown
+            → option_map_or (known_in_row_of kept set (named set known_here)) (option_and_then (λ p. cond (is_source_of typedef_word p.source) (Some p.below) None) o) unknown
+            ≡ option_map_or (known_in_row_of kept set (named set known_there)) (option_and_then (λ p. cond (is_source_of typedef_word p.source) (Some p.below) None) o) unknown
         by None e = refl
         by (Some p) e = is (is_source_of typedef_word p.source) refl
           where
@@ -134,11 +136,22 @@ module _ (set : Forest Source) (numbered : AreFrom number_of 0 (statements_of se
             at = found_among number_of d p (statements_of set) e
 
             is : (b : Bool) → is_source_of typedef_word p.source ≡ b
-                → option_map_or (known_in_row set (named set known_here)) (cond b (Some p.below) None) unknown
-                ≡ option_map_or (known_in_row set (named set known_there)) (cond b (Some p.below) None) unknown
+                → option_map_or (known_in_row_of kept set (named set known_here)) (cond b (Some p.below) None) unknown
+                ≡ option_map_or (known_in_row_of kept set (named set known_there)) (cond b (Some p.below) None) unknown
             is false other = refl
-            is true typedef = same_in_row set (named set known_here) (named set known_there) p.below
-                (agree_below set (named set known_here) (named set known_there) d ((p.source, p.below) ∷ p.ancestors) p.below
+            is true typedef = same_in_row kept set (named set known_here) (named set known_there) p.below
+                (agree_below kept set (named set known_here) (named set known_there) d ((p.source, p.below) ∷ p.ancestors) p.below
                 (ap (λ b. option_map (λ (a : Source × Forest Source). a.0.number) (cond b (Some (p.source, p.below)) (find (λ (a : Source × Forest Source). is_source_of typedef_word a.0) p.ancestors))) typedef
                 ∙ ap (λ n. Some n) at.1)
                 (λ q inside is_type refers. same_named q (below_them [] set p q at.0 inside) refers))
+
+-- where all names are kept
+pub same_known : (set : Forest Source) → AreFrom number_of 0 (statements_of set) → (known_here known_there : ℕ → Known) (d : ℕ)
+    → ((e : ℕ) → HasEdge (definition_edges set) d e → known_here e ≡ known_there e)
+    → option_map_or (known_in_row set (named set known_here)) (typedef_row set d) unknown
+    ≡ option_map_or (known_in_row set (named set known_there)) (typedef_row set d) unknown
+same_known set numbered known_here known_there d same =
+    let of = λ (in_row : Forest Source → Known). option_map_or in_row (typedef_row set d) unknown in
+    sym (ap of (known_in_row_alike set (named set known_here)))
+    ∙ (same_known_of (λ own. true) set numbered known_here known_there d same
+    ∙ ap of (known_in_row_alike set (named set known_there)))

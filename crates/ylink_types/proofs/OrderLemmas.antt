@@ -12,7 +12,8 @@ use Rattle.std.proofs.lemmas.List.FromFn.{length-range_with_len, get_or-range_wi
 use Rattle.std.proofs.lemmas.List.Sorted.{All-permutation, Contains-permutation, length_permutation}
 use Rattle.yspec.specs.Forest.{Forest, size}
 use Rattle.yspec.specs.linking.Circles.{circle_break, definition_circles, definition_edge, definition_edges}
-use Rattle.yspec.specs.linking.DerivedTypes.{Known, unknown, number_named, named, known_named, known_in_row, known_within, typedef_row}
+use Rattle.yspec.specs.linking.DerivedTypes.{Known, unknown, number_named, named, typedef_row}
+use Rattle.yspec_wide.specs.Types.{known_in_row_of, known_named_of, known_within_of}
 use Rattle.yspec.specs.linking.Graph as graph
 use Rattle.yspec.specs.linking.Graph.{is_on_circle}
 use Rattle.yspec.specs.linking.Scopes.{Placed, meaning, statements_of, statement_at}
@@ -30,7 +31,7 @@ use Rattle.ylink_names.specs.Ordered.{IsNamed, AreInOrder}
 use Rattle.ylink_names.proofs.NumberedLemmas.{length_placed}
 use Rattle.ylink_types.specs.TypedefView.{known_at, known_held, row_at, AreRows}
 use Rattle.ylink_types.specs.declared.typedefs.Known as known_in_code
-use Rattle.ylink_types.proofs.KnownLemmas.{same_known}
+use Rattle.ylink_types.proofs.KnownLemmas.{same_known_of}
 use Rattle.ylink_names.proofs.OrderedLemmas.{edge_named, place_of}
 use Rattle.ylink_names.proofs.PlacedLemmas.{are_from, among_them, number_named_at}
 use Rattle.ylink_types.proofs.WithinLemmas.{meant_within}
@@ -51,50 +52,50 @@ any_at e (x ∷ xs) (suc i) within is = by (e == x) (any_at e xs i (omega (arith
     by false rest = rest
 
 -- of the first typedefs in an order it is known what they mean in the end
-abbrev pub IsLearned : Forest held.Source → List ℕ → (ℕ → Known) → ℕ → Type 0
-IsLearned f nodes table i = (j : ℕ) → j < i → j < length nodes
-    → table (get_or nodes j 0) ≡ known_within (numbered_by source_view 0 f) (size (numbered_by source_view 0 f)) (get_or nodes j 0)
+abbrev pub IsLearned : (Forest Source → Bool) → Forest held.Source → List ℕ → (ℕ → Known) → ℕ → Type 0
+IsLearned kept f nodes table i = (j : ℕ) → j < i → j < length nodes
+    → table (get_or nodes j 0) ≡ known_within_of kept (numbered_by source_view 0 f) (size (numbered_by source_view 0 f)) (get_or nodes j 0)
 
 module _ (f : Forest held.Source) where
   abbrev set : Forest Source
   set = numbered_by source_view 0 f
 
-  abbrev finally : ℕ → Known
-  finally = known_within set (size set)
-
   same_size : size set ≡ size f
   same_size = size-by source_view 0 f
 
-  module _ (nodes : List ℕ) (order : AreInOrder nodes set) where
+  module _ (kept : Forest Source → Bool) (nodes : List ℕ) (order : AreInOrder nodes set) where
+    abbrev finally : ℕ → Known
+    finally = known_within_of kept set (size set)
+
     -- with as many steps as stand before a typedef, and one more, all is known of it
-    stable : (n i : ℕ) → i < n → i < length nodes → known_within set (suc n) (get_or nodes i 0) ≡ known_within set n (get_or nodes i 0)
-    unfolding known_within
+    stable : (n i : ℕ) → i < n → i < length nodes → known_within_of kept set (suc n) (get_or nodes i 0) ≡ known_within_of kept set n (get_or nodes i 0)
+    unfolding known_within_of
     stable zero i below within = absurd (omega (arith, below))
     stable (suc m) i below within =
-        same_known set (are_from [] 0 f) (known_within set (suc m)) (known_within set m) (get_or nodes i 0) (λ e edge.
+        same_known_of kept set (are_from [] 0 f) (known_within_of kept set (suc m)) (known_within_of kept set m) (get_or nodes i 0) (λ e edge.
         let at = place_of nodes set order e (edge_named f (get_or nodes i 0) e edge) in
         let inside = at.1 in
         let before = order.behind (get_or nodes i 0) e edge i at.0 within inside refl at.2 in
-        subst (λ d. known_within set (suc m) d ≡ known_within set m d) at.2 (stable m at.0 (omega (arith, before, below)) inside))
+        subst (λ d. known_within_of kept set (suc m) d ≡ known_within_of kept set m d) at.2 (stable m at.0 (omega (arith, before, below)) inside))
 
-    learned_own : (table : ℕ → Known) (i : ℕ) → IsLearned f nodes table i → i < length nodes
-        → option_map_or (known_in_row set (named set table)) (typedef_row set (get_or nodes i 0)) unknown ≡ finally (get_or nodes i 0)
-    unfolding known_within
+    learned_own : (table : ℕ → Known) (i : ℕ) → IsLearned kept f nodes table i → i < length nodes
+        → option_map_or (known_in_row_of kept set (named set table)) (typedef_row set (get_or nodes i 0)) unknown ≡ finally (get_or nodes i 0)
+    unfolding known_within_of
     learned_own table i so_far within =
-        same_known set (are_from [] 0 f) table finally (get_or nodes i 0) (λ e edge.
+        same_known_of kept set (are_from [] 0 f) table finally (get_or nodes i 0) (λ e edge.
         let at = place_of nodes set order e (edge_named f (get_or nodes i 0) e edge) in
         let inside = at.1 in
         let before = order.behind (get_or nodes i 0) e edge i at.0 within inside refl at.2 in
         subst (λ d. table d ≡ finally d) at.2 (so_far at.0 before inside))
         ∙ stable (size set) i (let few = order.count in omega (arith, within, few)) within
 
-    pub learned_next : (table more : ℕ → Known) (i : ℕ) → IsLearned f nodes table i → i < length nodes
-        → ((e : ℕ) → more e ≡ (if e == get_or nodes i 0 then option_map_or (known_in_row set (named set table)) (typedef_row set (get_or nodes i 0)) unknown else table e))
-        → IsLearned f nodes more (i + 1)
+    pub learned_next : (table more : ℕ → Known) (i : ℕ) → IsLearned kept f nodes table i → i < length nodes
+        → ((e : ℕ) → more e ≡ (if e == get_or nodes i 0 then option_map_or (known_in_row_of kept set (named set table)) (typedef_row set (get_or nodes i 0)) unknown else table e))
+        → IsLearned kept f nodes more (i + 1)
     learned_next table more i so_far within set_to j below inside = set_to (get_or nodes j 0) ∙ by (get_or nodes j 0 == get_or nodes i 0) refl
       where
         own : Known
-        own = option_map_or (known_in_row set (named set table)) (typedef_row set (get_or nodes i 0)) unknown
+        own = option_map_or (known_in_row_of kept set (named set table)) (typedef_row set (get_or nodes i 0)) unknown
 
         earlier : (get_or nodes j 0 == get_or nodes i 0) ≡ false → j < i
         earlier other = less (i == j) refl
@@ -111,7 +112,7 @@ module _ (f : Forest held.Source) where
         by false is = so_far j (earlier is) inside
 
     -- and in the end of all that statements name
-    pub learned_all : (table : ℕ → Known) → IsLearned f nodes table (length nodes) → (number : ℕ) → named set table number ≡ known_named set number
+    pub learned_all : (table : ℕ → Known) → IsLearned kept f nodes table (length nodes) → (number : ℕ) → named set table number ≡ known_named_of kept set number
     learned_all table so_far number = by (number_named set number) refl
       where
         by : (o : Option ℕ) → number_named set number ≡ o → option_map_or table o unknown ≡ option_map_or finally o unknown

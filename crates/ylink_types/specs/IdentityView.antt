@@ -1,10 +1,10 @@
 -- What is kept of the identities of a set, as the specification's.
-use Rattle.std.specs.Prelude.{◌≡◌, ℕ, pos, List, [], ◌∷◌, map, slice_get, unwrap_or, if◌then◌else◌}
+use Rattle.std.specs.Prelude.{◌≡◌, ◌++◌, ℕ, pos, Bool, List, [], ◌∷◌, filter, map, slice_get, unwrap_or, if◌then◌else◌}
 use Rattle.std.specs.String.{string_bytes}
 use Rattle.std.specs.declared.alloc.Global.{Global}
 use Rattle.std.specs.declared.rc.Rc.{Rc}
 use Rattle.std.specs.declared.string.String.{String}
-use Rattle.yspec.specs.Forest.{Forest, row}
+use Rattle.yspec.specs.Forest.{Forest, end, node, row}
 use Rattle.yspec.specs.text.Text.{Text}
 use Rattle.yspec.specs.types.Identities.{identity_name}
 use Rattle.yspec.specs.types.Names.{Assigned}
@@ -20,12 +20,20 @@ use Rattle.ylink_types.specs.declared.identities.Identities.{Identities}
 
 -- ---- identities, one by one
 
--- a statement that is an identity, by its number, that of its module and its name
-abbrev pub listed : Source → List (ℕ × ℕ × Text)
-listed s = if is_source_of identity_word s then (s.number, s.home, argument_in s) ∷ [] else []
+-- a statement that is an identity, by its number, that of its module, its name, and whether it is kept
+abbrev pub listed : (Forest Source → Bool) → Source → Forest Source → List (ℕ × ℕ × Text × Bool)
+listed kept s below = if is_source_of identity_word s then (s.number, s.home, argument_in s, kept below) ∷ [] else []
 
-abbrev pub identity_view : Identity → ℕ × ℕ × Text
-identity_view i = (i.number, i.home, i.name.now)
+-- those of a row, and below it
+unfoldable pub listed_in : (Forest Source → Bool) → Forest Source → List (ℕ × ℕ × Text × Bool)
+listed_in kept end = []
+listed_in kept (node s below after) = listed kept s below ++ (listed_in kept below ++ listed_in kept after)
+
+abbrev pub identity_view : Identity → ℕ × ℕ × Text × Bool
+identity_view i = (i.number, i.home, i.name.now, i.is_kept)
+
+abbrev pub is_kept : Identity → Bool
+is_kept i = i.is_kept
 
 abbrev pub number_of : Identity → ℕ
 number_of i = i.number
@@ -43,9 +51,9 @@ abbrev pub assigned_by : List Text → Identity → Assigned
 assigned_by names i = record { name = identity_name (name_among names i.home) i.name.now; number = pos i.number }
 
 -- they are those of a set
-pub record IsOf (i : Identities) (modules : Forest Source) : Type 0 where
+pub record IsOf (kept : Forest Source → Bool) (i : Identities) (modules : Forest Source) : Type 0 where
   pub names : i.names.value ≡ map (assigned_identity modules) (identities_of modules)
-  pub numbers : i.numbers.items ≡ map (λ p. p.source.number) (identities_of modules)
+  pub numbers : i.numbers.items ≡ map (λ p. p.source.number) (filter (λ p. kept p.below) (identities_of modules))
   pub ascend : Ascend 0 i.numbers.items
   pub homes : map home_view i.homes.items ≡ map argument_in (row modules)
   pub edges : map edge_view i.edges.items ≡ definition_edges modules

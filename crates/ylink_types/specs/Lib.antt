@@ -1,4 +1,4 @@
-pub mod KindView
+pub use Rattle.ylink_values.specs.KeptView
 pub mod TypeView
 pub mod TypedefView
 pub mod DerivedView

@@ -1,5 +1,5 @@
 -- What is known of typedefs, as the specification's.
-use Rattle.std.specs.Prelude.{◌≡◌, ℕ, List, Option, Some, None, option_map, option_and_then, slice_get, if◌then◌else◌, map}
+use Rattle.std.specs.Prelude.{◌≡◌, ℕ, Bool, List, Option, Some, None, option_map, option_and_then, slice_get, if◌then◌else◌, map}
 use Rattle.std.specs.Global.{Box}
 use Rattle.std.specs.Option.{option_map_or}
 use Rattle.yspec.specs.Forest.{Forest}
@@ -8,6 +8,7 @@ use Rattle.yspec.specs.linking.Source.{Source, is_source_of}
 use Rattle.yspec.specs.linking.Scopes.{Placed, statements_of, number_named}
 use Rattle.yspec.specs.linking.TypeStatements.{Verdict}
 use Rattle.yspec.specs.linking.DerivedTypes as spec
+use Rattle.yspec_wide.specs.Types.{known_named_of}
 use Rattle.ybase_preorder.specs.View.{row_by}
 use Rattle.ybase_preorder.specs.declared.siblings.Siblings.{Siblings}
 use Rattle.ylink_grammar.specs.SourceView.{source_view, stated_view}
@@ -39,14 +40,18 @@ names_in t number = option_map_or (known_at t.known.items) (meaning_at t.meaning
 abbrev pub verdicts_in : Typedefs → ℕ → Verdict
 verdicts_in t = spec.verdict_by (names_in t)
 
--- they are the typedefs of a set
+-- they are the typedefs of a set, over the names of values that are kept
+abbrev pub AreOf : (Forest Source → Bool) → Typedefs → Forest Source → Type 0
+AreOf kept t modules = (number : ℕ) → names_in t number ≡ known_named_of kept modules number
+
+-- or over all names
 abbrev pub IsOf : Typedefs → Forest Source → Type 0
 IsOf t modules = (number : ℕ) → names_in t number ≡ spec.known_named modules number
 
 -- they rest on what names of a set mean, and on its identities
-pub record RestsOn (t : Typedefs) (modules : Forest Source) : Type 0 where
+pub record RestsOn (kept : Forest Source → Bool) (t : Typedefs) (modules : Forest Source) : Type 0 where
   pub named : (number : ℕ) → number_named modules number ≡ meaning_at t.meanings.items number
-  pub identities : identity.IsOf t.identities modules
+  pub identities : identity.IsOf kept t.identities modules
 
 -- ---- their rows
 

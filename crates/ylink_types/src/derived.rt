@@ -194,7 +194,11 @@ fn holds(set: &BTreeSet<i64>, number: u32) -> bool
 }
 
 /// Adds a number to some where it is to be there.
-fn push_number(numbers: &mut Vec<u32>, number: u32, is_there: bool) -> Result<(), AllocError>
+pub(crate) fn push_number(
+    numbers: &mut Vec<u32>,
+    number: u32,
+    is_there: bool,
+) -> Result<(), AllocError>
     ensures { OnOk result (numbers.new.items
         ≡ numbers.old.items ++ (if is_there then number ∷ [] else [])) }
 {

@@ -1,17 +1,17 @@
 //! The identities of a set of modules, and which derive from which (RFC 7950, 7.18 and 9.10).
 
-ghost use Rattle.std.specs.Prelude.{◌≡◌, ◌++◌, ◌∷◌, [], pos, int_lt, true, IfOk, OnOk, map, option_map, slice_get};
-ghost use Rattle.std.specs.List.{flat_map, list_all};
-ghost use Rattle.yspec.specs.Forest.{preorder, row};
+ghost use Rattle.std.specs.Prelude.{◌≡◌, ◌++◌, ◌∷◌, [], pos, int_lt, true, IfOk, OnOk, filter, map, option_map, slice_get};
+ghost use Rattle.std.specs.List.{list_all};
+ghost use Rattle.yspec.specs.Forest.{row};
 ghost use Rattle.yspec.specs.linking.Source.{argument_in};
 ghost use Rattle.ybase_preorder.specs.View.{row_by, label_by};
 ghost use Rattle.ylink_grammar.specs.LinkView.{view};
 ghost use Rattle.ylink_grammar.specs.SourceView.{source_view};
 ghost use Rattle.ylink_types.specs.DerivedView.{Ascend};
-ghost use Rattle.ylink_types.specs.IdentityView.{assigned_by, home_view, identity_view, listed, name_among, number_of};
+ghost use Rattle.ylink_types.specs.IdentityView.{assigned_by, home_view, identity_view, is_kept, listed, listed_in, name_among, number_of};
+ghost use Rattle.ylink_values.specs.KeptView.{kept_view};
 
-use crate::derived::{Derived, derived_among, held_in, set_held, set_of, sets_of};
-use crate::limit::accepted_type;
+use crate::derived::{Derived, derived_among, held_in, push_number, set_held, set_of, sets_of};
 use std::alloc::{AllocError, Global};
 use std::rc::Rc;
 use ybase_graph::{Derivations, Edge};
@@ -19,14 +19,16 @@ use ybase_preorder::{Node, Siblings};
 use ybase_words::Keyword;
 use ylink_grammar::{Source, Sources, argument_of};
 use ylink_names::definition_edges_of;
+use ylink_values::{Kept, accepted_type};
 use ytype::{Names, YType, identity_name};
 
-/// An identity: the numbers of its statement and of its module, and its name.
+/// An identity: the numbers of its statement and of its module, its name, and whether it is kept.
 #[derive(Clone, Copy)]
 struct Identity<'t> {
     number: u32,
     home: usize,
     name: &'t str,
+    is_kept: bool,
 }
 
 /// The identities of a set of modules, as the types over them have them.
@@ -34,13 +36,13 @@ struct Identity<'t> {
 pub struct Identities {
     // By name, with that of the module before it.
     names: Rc<Names>,
-    // The numbers of their statements, ascending.
+    // The numbers of the statements of those that are kept, ascending.
     numbers: Vec<u32>,
     // The name of each module.
     homes: Vec<Rc<String>>,
     // Which definitions refer to which.
     edges: Vec<Edge>,
-    // Those that derive from an identity, by its number, where a type names it as a base.
+    // Those of them that derive from an identity, by its number, where a type names it as a base.
     derived: Vec<Option<Derived>>,
 }
 
@@ -58,17 +60,20 @@ fn homes_of(alloc: Global, sources: &Sources<'_>) -> Result<Vec<Rc<String>>, All
 
 /// Adds a statement to the identities so far, where it is one.
 fn add_identity<'t>(
+    kept: Kept<'_>,
     statement: Node<'_, Source<'t>>,
     made: &mut Vec<Identity<'t>>,
 ) -> Result<(), AllocError>
     ensures { OnOk result (map identity_view made.new.items
-        ≡ map identity_view made.old.items ++ listed (label_by source_view statement.entry)) }
+        ≡ map identity_view made.old.items ++ listed (kept_view kept.entry)
+        (label_by source_view statement.entry) (row_by source_view statement.entry.children)) }
 {
     if Keyword::Identity.is(statement.label().keyword) {
         made.push(Identity {
             number: statement.number(),
             home: statement.label().home,
             name: argument_of(statement),
+            is_kept: kept.keeps(statement.children()),
         })?;
     }
     Ok(())
@@ -76,37 +81,42 @@ fn add_identity<'t>(
 
 /// Adds the identities among the statements of a row, and below it.
 fn add_identities<'t>(
+    kept: Kept<'_>,
     statements: Siblings<'_, Source<'t>>,
     made: &mut Vec<Identity<'t>>,
 ) -> Result<(), AllocError>
     ensures { OnOk result (map identity_view made.new.items ≡ map identity_view made.old.items
-        ++ flat_map listed (preorder (row_by source_view statements.entry))) }
+        ++ listed_in (kept_view kept.entry) (row_by source_view statements.entry)) }
 {
     for statement in statements {
-        add_identity(statement, made)?;
-        add_identities(statement.children(), made)?;
+        add_identity(kept, statement, made)?;
+        add_identities(kept, statement.children(), made)?;
     }
     Ok(())
 }
 
 /// The identities of a set, in order.
-fn identities_of<'t>(alloc: Global, sources: &Sources<'t>) -> Result<Vec<Identity<'t>>, AllocError>
+fn identities_of<'t>(
+    alloc: Global,
+    sources: &Sources<'t>,
+    kept: Kept<'_>,
+) -> Result<Vec<Identity<'t>>, AllocError>
     ensures listed { IfOk result (λ made. map identity_view made.items
-        ≡ flat_map listed (preorder (view sources.now))) }
+        ≡ listed_in (kept_view kept.entry) (view sources.now)) }
     ensures ascend { IfOk result (λ made. Ascend 0 (map number_of made.items)) }
 {
     let mut made = Vec::new(alloc);
-    add_identities(sources.modules(), &mut made)?;
+    add_identities(kept, sources.modules(), &mut made)?;
     Ok(made)
 }
 
-/// Their numbers.
+/// The numbers of those that are kept.
 fn numbers_of(alloc: Global, identities: &[Identity<'_>]) -> Result<Vec<u32>, AllocError>
-    ensures { IfOk result (λ numbers. numbers.items ≡ map number_of identities.now) }
+    ensures { IfOk result (λ numbers. numbers.items ≡ map number_of (filter is_kept identities.now)) }
 {
     let mut numbers = Vec::with_capacity(alloc, identities.len())?;
     for identity in identities {
-        numbers.push(identity.number)?;
+        push_number(&mut numbers, identity.number, identity.is_kept)?;
     }
     Ok(numbers)
 }
@@ -156,33 +166,37 @@ fn names_of(
 }
 
 impl Identities {
-    ghost use Rattle.std.specs.Prelude.{◌≡◌, ◌∷◌, [], IfOk};
+    ghost use Rattle.std.specs.Prelude.{◌≡◌, ◌∷◌, [], Bool, IfOk};
     ghost use Rattle.std.specs.Option.{option_map_or};
     ghost use Rattle.yspec.specs.Forest.{Forest};
     ghost use Rattle.yspec.specs.linking.Circles.{definition_circles};
     ghost use Rattle.yspec.specs.linking.Identities as spec;
     ghost use Rattle.yspec.specs.linking.Source as sources;
     ghost use Rattle.yspec.specs.linking.TypeStatements as types;
+    ghost use Rattle.yspec_wide.specs.Types as wide;
     ghost use Rattle.ylink_grammar.specs.LinkView.{view};
     ghost use Rattle.ylink_names.specs.MeaningView.{AreMeanings};
     ghost use Rattle.ylink_names.specs.ReferringView.{AreReferring};
     ghost use Rattle.ylink_types.specs.IdentityView.{IsOf, home_view};
+    ghost use Rattle.ylink_values.specs.KeptView.{kept_view};
 
-    /// The identities of a set, given the innermost definition around each statement and what each means. No definition of
+    /// The identities of a set, given which are kept, the innermost definition around each statement and what each means. No definition of
     /// the set refers to itself.
     pub fn of(
         alloc: Global,
         sources: &Sources<'_>,
+        kept: Kept<'_>,
         holders: &[Option<u32>],
         meanings: &[Option<u32>],
     ) -> Result<Identities, AllocError>
         requires held { AreReferring holders.now (view sources.now) }
         requires meant { AreMeanings meanings.now (view sources.now) }
         requires straight { definition_circles (view sources.now) ≡ [] }
-        ensures { IfOk result (λ identities. IsOf identities (view sources.now)) }
+        ensures { IfOk result (λ identities.
+            IsOf (kept_view kept.entry) identities (view sources.now)) }
     {
         let homes = homes_of(alloc, sources)?;
-        let identities = identities_of(alloc, sources)?;
+        let identities = identities_of(alloc, sources, kept)?;
         let names = names_of(alloc, &homes, &identities)?;
         let numbers = numbers_of(alloc, &identities)?;
         let edges = definition_edges_of(alloc, holders, meanings)?;
@@ -198,7 +212,8 @@ impl Identities {
 
     /// The name of the module of a number.
     fn home(&self, alloc: Global, home: usize) -> Result<Rc<String>, AllocError>
-        ensures { (modules : Forest sources.Source) → IsOf self.now modules
+        ensures { (kept : Forest sources.Source → Bool)
+            (modules : Forest sources.Source) → IsOf kept self.now modules
             → IfOk result (λ name. home_view name ≡ spec.module_name modules home) }
     {
         match home_held(&self.homes, home) {
@@ -207,10 +222,11 @@ impl Identities {
         }
     }
 
-    /// Those that derive from an identity, by their numbers.
+    /// Those that are kept and derive from an identity, by their numbers.
     fn derived_from(&self, alloc: Global, base: u32) -> Result<Derived, AllocError>
-        ensures { (modules : Forest sources.Source) → IsOf self.now modules
-            → IfOk result (λ set. set.value.keys ≡ spec.numbers_derived modules (base ∷ [])) }
+        ensures { (kept : Forest sources.Source → Bool)
+            (modules : Forest sources.Source) → IsOf kept self.now modules
+            → IfOk result (λ set. set.value.keys ≡ wide.numbers_kept kept modules (base ∷ [])) }
     {
         if let Some(derived) = set_held(&self.derived, base) {
             return Ok(derived.clone()?);
@@ -219,16 +235,17 @@ impl Identities {
         derived_among(alloc, &derivations, &self.numbers, base)
     }
 
-    /// Those that derive from all of some, where there are any, by their numbers.
+    /// Those that are kept and derive from all of some, where there are any, by their numbers.
     fn derived_from_all(
         &self,
         alloc: Global,
         first: u32,
         others: &[u32],
     ) -> Result<Derived, AllocError>
-        ensures { (modules : Forest sources.Source) → IsOf self.now modules
+        ensures { (kept : Forest sources.Source → Bool)
+            (modules : Forest sources.Source) → IsOf kept self.now modules
             → IfOk result (λ set. set.value.keys
-            ≡ spec.numbers_derived modules (first ∷ others.now)) }
+            ≡ wide.numbers_kept kept modules (first ∷ others.now)) }
     {
         let derived = self.derived_from(alloc, first)?;
         if others.is_empty() {
@@ -249,9 +266,10 @@ impl Identities {
         home: usize,
         bases: &[u32],
     ) -> Result<Option<YType>, AllocError>
-        ensures { (modules : Forest sources.Source) → IsOf self.now modules
+        ensures { (kept : Forest sources.Source → Bool)
+            (modules : Forest sources.Source) → IsOf kept self.now modules
             → IfOk result (λ made. option_map_or (λ t. types.means (types.own t)) made types.wrong
-            ≡ types.identity_verdict modules home bases.now) }
+            ≡ wide.identity_verdict_of kept modules home bases.now) }
     {
         let Some((first, others)) = bases.split_first() else {
             return Ok(None);

@@ -3,11 +3,10 @@
 
 mod derived;
 mod identities;
-mod limit;
-mod naming;
 mod typedefs;
 mod types;
 
 pub use identities::Identities;
 pub use typedefs::Typedefs;
 pub use types::{Meant, Verdict, judge_type};
+pub use ylink_values::Kept;

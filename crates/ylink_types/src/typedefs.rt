@@ -14,6 +14,7 @@ use ybase_preorder::{Node, Siblings};
 use ybase_words::Keyword;
 use ylink_grammar::{Source, Sources, Stated, first_with, found_with};
 use ylink_names::meaning_at;
+use ylink_values::Kept;
 
 /// What is known of a typedef.
 #[derive(Drop)]
@@ -106,13 +107,15 @@ impl<'t> Typedefs<'t> {
     ghost use Rattle.std.specs.Prelude.{◌≡◌, ◌==◌, ◌<◌, ℕ, IfOk, OnOk, length, option_map, if◌then◌else◌};
     ghost use Rattle.std.specs.Option.{option_map_or};
     ghost use Rattle.yspec.specs.linking.DerivedTypes as spec;
+    ghost use Rattle.yspec_wide.specs.Types as wide;
     ghost use Rattle.ybase_preorder.specs.View.{row_by};
     ghost use Rattle.ylink_grammar.specs.LinkView.{view};
     ghost use Rattle.ylink_grammar.specs.SourceView.{node_view, source_view, stated_view};
     ghost use Rattle.ylink_names.specs.MeaningView.{meaning_at, AreMeanings};
     ghost use Rattle.ylink_names.specs.Ordered.{AreInOrder};
     ghost use Rattle.ylink_types.specs.IdentityView as identity;
-    ghost use Rattle.ylink_types.specs.TypedefView.{known_at, known_held, known_view, meanings_in, names_in, IsOf, RestsOn};
+    ghost use Rattle.ylink_values.specs.KeptView.{kept_view};
+    ghost use Rattle.ylink_types.specs.TypedefView.{known_at, known_held, known_view, meanings_in, names_in, AreOf, RestsOn};
 
     /// The number of the definition that each statement names.
     pub fn meanings(&self) -> &[Option<u32>]
@@ -161,14 +164,16 @@ impl<'t> Typedefs<'t> {
         &self,
         alloc: Global,
         sources: &Sources<'t>,
+        kept: Kept<'_>,
         row: Siblings<'_, Source<'t>>,
         type_statement: Node<'_, Source<'t>>,
     ) -> Result<Known<'t>, AllocError>
-        requires { RestsOn self.now (view sources.now) }
-        ensures { IfOk result (λ known. known_view known ≡ spec.known_by (view sources.now)
-            (names_in self.now) (row_by source_view row.entry) (node_view type_statement.entry)) }
+        requires { RestsOn (kept_view kept) self.now (view sources.now) }
+        ensures { IfOk result (λ known. known_view known
+            ≡ wide.known_of (kept_view kept.entry) (view sources.now) (names_in self.now)
+            (row_by source_view row.entry) (node_view type_statement.entry)) }
     {
-        let verdict = verdict_on(alloc, sources, self, false, type_statement)?;
+        let verdict = verdict_on(alloc, sources, self, kept, false, type_statement)?;
         let default = match first_with(Keyword::Default, row) {
             Some(statement) => Some(statement.label().stated()),
             None => self.default_named(type_statement.number()),
@@ -181,11 +186,13 @@ impl<'t> Typedefs<'t> {
         &self,
         alloc: Global,
         sources: &Sources<'t>,
+        kept: Kept<'_>,
         row: Option<Siblings<'_, Source<'t>>>,
     ) -> Result<Option<Box<Known<'t>>>, AllocError>
-        requires { RestsOn self.now (view sources.now) }
+        requires { RestsOn (kept_view kept) self.now (view sources.now) }
         ensures { IfOk result (λ known. known_held known
-            ≡ option_map_or (spec.known_in_row (view sources.now) (names_in self.now))
+            ≡ option_map_or
+            (wide.known_in_row_of (kept_view kept.entry) (view sources.now) (names_in self.now))
             (option_map (row_by source_view) row.entry) spec.unknown) }
     {
         let Some(row) = row else {
@@ -193,7 +200,7 @@ impl<'t> Typedefs<'t> {
         };
         match found_with(Keyword::Type, row) {
             Some(found) => {
-                let known = self.known_by(alloc, sources, row, found)?;
+                let known = self.known_by(alloc, sources, kept, row, found)?;
                 Ok(Some(Box::new(alloc, known)?))
             }
             None => Ok(None),
@@ -205,42 +212,46 @@ impl<'t> Typedefs<'t> {
         &mut self,
         alloc: Global,
         sources: &Sources<'t>,
+        kept: Kept<'_>,
         number: usize,
         row: Option<Siblings<'_, Source<'t>>>,
     ) -> Result<(), AllocError>
-        requires { RestsOn self.now (view sources.now) }
+        requires { RestsOn (kept_view kept) self.now (view sources.now) }
         ensures meanings { self.new.meanings ≡ self.old.meanings }
         ensures identities { self.new.identities ≡ self.old.identities }
         ensures count { OnOk result (length self.new.known.items ≡ length self.old.known.items) }
         ensures known { (e : ℕ) → OnOk result (number < length self.old.known.items
             → known_at self.new.known.items e ≡ (if e == number then option_map_or
-            (spec.known_in_row (view sources.now) (names_in self.old))
+            (wide.known_in_row_of (kept_view kept.entry) (view sources.now) (names_in self.old))
             (option_map (row_by source_view) row.entry) spec.unknown
             else known_at self.old.known.items e)) }
     {
-        let known = self.known_in(alloc, sources, row)?;
+        let known = self.known_in(alloc, sources, kept, row)?;
         if let Some(place) = self.known.get_mut(number) {
             *place = known;
         }
         Ok(())
     }
 
-    /// The typedefs of a set, given what each statement means, the identities, and an order in which each typedef stands behind
-    /// those that it names.
+    /// The typedefs of a set, given which names of values are kept, what each statement means, the identities, and an order in
+    /// which each typedef stands behind those that it names.
     pub fn of(
         alloc: Global,
         sources: &Sources<'t>,
+        kept: Kept<'_>,
         meanings: Vec<Option<u32>>,
         identities: Identities,
         order: &[usize],
     ) -> Result<Typedefs<'t>, AllocError>
         requires meant { AreMeanings meanings.items (view sources.now) }
-        requires identities { identity.IsOf identities (view sources.now) }
+        requires identities { identity.IsOf (kept_view kept) identities (view sources.now) }
         requires ordered { AreInOrder order.now (view sources.now) }
-        ensures known { IfOk result (λ typedefs. IsOf typedefs (view sources.now)) }
+        ensures known { IfOk result (λ typedefs.
+            AreOf (kept_view kept.entry) typedefs (view sources.now)) }
         ensures meanings { IfOk result
             (λ typedefs. AreMeanings (meanings_in typedefs) (view sources.now)) }
-        ensures rests { IfOk result (λ typedefs. RestsOn typedefs (view sources.now)) }
+        ensures rests { IfOk result (λ typedefs.
+            RestsOn (kept_view kept.entry) typedefs (view sources.now)) }
     {
         if order.is_empty() {
             let known = Vec::new(alloc);
@@ -250,24 +261,27 @@ impl<'t> Typedefs<'t> {
                 identities,
             });
         }
-        Typedefs::learned(alloc, sources, meanings, identities, order)
+        Typedefs::learned(alloc, sources, kept, meanings, identities, order)
     }
 
     /// The same, each learned in its turn.
     fn learned(
         alloc: Global,
         sources: &Sources<'t>,
+        kept: Kept<'_>,
         meanings: Vec<Option<u32>>,
         identities: Identities,
         order: &[usize],
     ) -> Result<Typedefs<'t>, AllocError>
         requires meant { AreMeanings meanings.items (view sources.now) }
-        requires identities { identity.IsOf identities (view sources.now) }
+        requires identities { identity.IsOf (kept_view kept) identities (view sources.now) }
         requires ordered { AreInOrder order.now (view sources.now) }
-        ensures known { IfOk result (λ typedefs. IsOf typedefs (view sources.now)) }
+        ensures known { IfOk result (λ typedefs.
+            AreOf (kept_view kept.entry) typedefs (view sources.now)) }
         ensures meanings { IfOk result
             (λ typedefs. AreMeanings (meanings_in typedefs) (view sources.now)) }
-        ensures rests { IfOk result (λ typedefs. RestsOn typedefs (view sources.now)) }
+        ensures rests { IfOk result (λ typedefs.
+            RestsOn (kept_view kept.entry) typedefs (view sources.now)) }
     {
         let rows = typedef_rows(alloc, sources)?;
         let known = none_known(alloc, rows.len())?;
@@ -277,7 +291,7 @@ impl<'t> Typedefs<'t> {
             identities,
         };
         for number in order {
-            typedefs.learn(alloc, sources, *number, row_of(&rows, *number))?;
+            typedefs.learn(alloc, sources, kept, *number, row_of(&rows, *number))?;
         }
         Ok(typedefs)
     }

@@ -1,6 +1,6 @@
 //! What `type` statements name and mean (RFC 7950, 7.4 and 9).
 
-ghost use Rattle.std.specs.Prelude.{◌≡◌, IfOk, false, true, None, map, nat_lt, option_map, option_and_then};
+ghost use Rattle.std.specs.Prelude.{◌≡◌, Bool, IfOk, false, true, None, map, nat_lt, option_map, option_and_then};
 ghost use Rattle.std.specs.Option.{option_map_or};
 ghost use Rattle.yspec.specs.Forest.{Forest, row};
 ghost use Rattle.yspec.specs.linking.Arguments.{fraction_digits_of, leafref_path_of};
@@ -8,6 +8,7 @@ ghost use Rattle.yspec.specs.linking.Identities.{bases_in};
 ghost use Rattle.yspec.specs.linking.Keyword as word;
 ghost use Rattle.yspec.specs.linking.Source as sources;
 ghost use Rattle.yspec.specs.linking.TypeStatements as spec;
+ghost use Rattle.yspec_wide.specs.Types as wide;
 ghost use Rattle.ybase_preorder.specs.View.{row_by, label_by};
 ghost use Rattle.ybase_words.specs.KeywordView.{keyword_view};
 ghost use Rattle.ylink_grammar.specs.LinkView.{view};
@@ -16,18 +17,20 @@ ghost use Rattle.ylink_grammar.specs.SourceView.{source_view};
 ghost use Rattle.ybase_words.specs.BuiltInView.{built_in_view};
 ghost use Rattle.yspec.specs.linking.DerivedTypes.{unknown};
 ghost use Rattle.yspec.specs.types.Restriction.{member_count};
+ghost use Rattle.ylink_values.specs.KeptView.{kept_view};
 ghost use Rattle.ylink_types.specs.TypeView.{judged_union, meant_view, verdict_view};
 ghost use Rattle.ylink_types.specs.TypedefView.{known_view, verdicts_in, RestsOn};
 
 use crate::derived::bases_in;
-use crate::limit::{accepted_type, measured_type, narrowed_type, ranged_type};
-use crate::naming::{bits, enumeration};
 use crate::typedefs::{Known, Typedefs};
 use std::alloc::{AllocError, Global};
 use ybase_preorder::{Node, Siblings};
 use ybase_words::{BuiltIn, Keyword};
 use ylink_arguments::{Name, fraction_digits, leafref_path};
 use ylink_grammar::{Source, Sources, argument_of, argument_with};
+use ylink_values::{
+    Kept, NamingKind, accepted_type, measured_type, named_type, narrowed_type, ranged_type,
+};
 use ytype::{FractionDigits, YType};
 
 /// What a `type` statement means.
@@ -119,11 +122,12 @@ fn decimal(alloc: Global, below: Siblings<'_, Source<'_>>) -> Result<Option<YTyp
 /// A type that is no union, no leafref and no identityref.
 fn single_type(
     alloc: Global,
+    kept: Kept<'_>,
     type_name: BuiltIn,
     below: Siblings<'_, Source<'_>>,
 ) -> Result<Option<YType>, AllocError>
-    ensures { IfOk result (λ type. type
-        ≡ spec.single_type (built_in_view type_name) (row_by source_view below.entry)) }
+    ensures { IfOk result (λ type. type ≡ wide.single_type_of (kept_view kept.entry)
+        (built_in_view type_name) (row_by source_view below.entry)) }
 {
     match type_name {
         BuiltIn::Int8 => ranged_type(alloc, below, YType::int8(alloc)),
@@ -138,8 +142,8 @@ fn single_type(
         BuiltIn::String => measured_type(alloc, below, YType::string(alloc)),
         BuiltIn::Boolean => accepted_type(YType::boolean(alloc)),
         BuiltIn::Empty => accepted_type(YType::empty(alloc)),
-        BuiltIn::Enumeration => enumeration(alloc, below),
-        BuiltIn::Bits => bits(alloc, below),
+        BuiltIn::Enumeration => named_type(alloc, kept, NamingKind::Enum, below),
+        BuiltIn::Bits => named_type(alloc, kept, NamingKind::Bit, below),
         BuiltIn::Union | BuiltIn::Leafref | BuiltIn::Identityref => Ok(None),
     }
 }
@@ -266,8 +270,9 @@ fn identity_verdict<'t>(
     typedefs: &Typedefs<'t>,
     statement: Node<'_, Source<'t>>,
 ) -> Result<Verdict<'t>, AllocError>
-    ensures { (modules : Forest sources.Source) → RestsOn typedefs.now modules
-        → IfOk result (λ verdict. verdict_view verdict ≡ spec.identity_verdict modules
+    ensures { (kept : Forest sources.Source → Bool) (modules : Forest sources.Source)
+        → RestsOn kept typedefs.now modules
+        → IfOk result (λ verdict. verdict_view verdict ≡ wide.identity_verdict_of kept modules
         statement.entry.label.now.home
         (bases_in modules (row_by source_view statement.entry.children))) }
 {
@@ -282,14 +287,16 @@ fn identity_verdict<'t>(
 fn verdict_in_place<'t>(
     alloc: Global,
     typedefs: &Typedefs<'t>,
+    kept: Kept<'_>,
     is_member: bool,
     type_name: BuiltIn,
     statement: Node<'_, Source<'t>>,
     members: Vec<Verdict<'t>>,
 ) -> Result<Verdict<'t>, AllocError>
-    ensures { (modules : Forest sources.Source) → RestsOn typedefs.now modules
+    ensures { (modules : Forest sources.Source) → RestsOn (kept_view kept.entry) typedefs.now modules
         → IfOk result (λ verdict. verdict_view verdict
-        ≡ spec.verdict_in_place modules is_member (label_by source_view statement.entry)
+        ≡ wide.verdict_in_place_of (kept_view kept.entry) modules is_member
+        (label_by source_view statement.entry)
         (built_in_view type_name) (row_by source_view statement.entry.children)
         (map verdict_view members.entry.items)) }
 {
@@ -298,7 +305,7 @@ fn verdict_in_place<'t>(
         BuiltIn::Leafref => leafref_verdict(alloc, is_member, statement),
         BuiltIn::Identityref => identity_verdict(alloc, typedefs, statement),
         _ => Ok(own_or(
-            single_type(alloc, type_name, statement.children())?,
+            single_type(alloc, kept, type_name, statement.children())?,
             Verdict::Wrong,
         )),
     }
@@ -378,18 +385,20 @@ fn derived<'t>(
     }
 }
 
-/// The verdict on a `type` statement of a set, given those on the `type` statements below it.
+/// The verdict on a `type` statement of a set, given which names of values are kept, and those on the `type` statements below
+/// it.
 pub fn judge_type<'t>(
     alloc: Global,
     sources: &Sources<'t>,
     typedefs: &Typedefs<'t>,
+    kept: Kept<'_>,
     is_member: bool,
     statement: Node<'_, Source<'t>>,
     members: Vec<Verdict<'t>>,
 ) -> Result<Verdict<'t>, AllocError>
-    requires { RestsOn typedefs.now (view sources.now) }
+    requires { RestsOn (kept_view kept) typedefs.now (view sources.now) }
     ensures { IfOk result (λ verdict. verdict_view verdict
-        ≡ spec.verdict (view sources.now) (verdicts_in typedefs.now) is_member
+        ≡ wide.verdict_of (kept_view kept.entry) (view sources.now) (verdicts_in typedefs.now) is_member
         (label_by source_view statement.entry) (row_by source_view statement.entry.children)
         (map verdict_view members.entry.items)) }
 {
@@ -400,7 +409,9 @@ pub fn judge_type<'t>(
     if !are_in_place(type_name, statement.children()) {
         return Ok(Verdict::Wrong);
     }
-    verdict_in_place(alloc, typedefs, is_member, type_name, statement, members)
+    verdict_in_place(
+        alloc, typedefs, kept, is_member, type_name, statement, members,
+    )
 }
 
 /// The verdicts on the members of a union that stand in a row of a set.
@@ -408,19 +419,20 @@ fn member_verdicts<'t>(
     alloc: Global,
     sources: &Sources<'t>,
     typedefs: &Typedefs<'t>,
+    kept: Kept<'_>,
     statements: Siblings<'_, Source<'t>>,
 ) -> Result<Vec<Verdict<'t>>, AllocError>
-    requires { RestsOn typedefs.now (view sources.now) }
-    ensures { IfOk result (λ found. map verdict_view found.items ≡ spec.verdicts
-        (view sources.now) (verdicts_in typedefs.now) (row_by source_view statements.entry)) }
+    requires { RestsOn (kept_view kept) typedefs.now (view sources.now) }
+    ensures { IfOk result (λ found. map verdict_view found.items ≡ wide.verdicts_of
+        (kept_view kept.entry) (view sources.now) (verdicts_in typedefs.now) (row_by source_view statements.entry)) }
 {
     let mut found = Vec::new(alloc);
     for statement in statements {
         if !Keyword::Type.is(statement.label().keyword) {
             continue;
         }
-        let members = member_verdicts(alloc, sources, typedefs, statement.children())?;
-        let judged = judge_type(alloc, sources, typedefs, true, statement, members)?;
+        let members = member_verdicts(alloc, sources, typedefs, kept, statement.children())?;
+        let judged = judge_type(alloc, sources, typedefs, kept, true, statement, members)?;
         found.push(judged)?;
     }
     Ok(found)
@@ -431,16 +443,19 @@ pub(crate) fn verdict_on<'t>(
     alloc: Global,
     sources: &Sources<'t>,
     typedefs: &Typedefs<'t>,
+    kept: Kept<'_>,
     is_member: bool,
     statement: Node<'_, Source<'t>>,
 ) -> Result<Verdict<'t>, AllocError>
-    requires { RestsOn typedefs.now (view sources.now) }
+    requires { RestsOn (kept_view kept) typedefs.now (view sources.now) }
     ensures { IfOk result (λ verdict. verdict_view verdict
-        ≡ spec.verdict_on (view sources.now) (verdicts_in typedefs.now) is_member
+        ≡ wide.verdict_on_of (kept_view kept.entry) (view sources.now) (verdicts_in typedefs.now) is_member
         (label_by source_view statement.entry) (row_by source_view statement.entry.children)) }
 {
-    let members = member_verdicts(alloc, sources, typedefs, statement.children())?;
-    judge_type(alloc, sources, typedefs, is_member, statement, members)
+    let members = member_verdicts(alloc, sources, typedefs, kept, statement.children())?;
+    judge_type(
+        alloc, sources, typedefs, kept, is_member, statement, members,
+    )
 }
 
 impl<'t> Meant<'t> {

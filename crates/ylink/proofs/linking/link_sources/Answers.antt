@@ -1,8 +1,10 @@
-use Rattle.std.proofs.Common.{sym, ap, subst, ◌∙◌}
+use Rattle.std.proofs.Common.{ℕ, sym, ap, subst, ◌∙◌}
 use Rattle.ytext.specs.View.{modules_view}
 use Rattle.yspec.specs.Results.{Fails}
 use Rattle.yspec_wide.specs.Compiling.{linked_in}
 use Rattle.ylink_grammar.specs.LanguageView.{language_view}
+use Rattle.yspec.specs.linking.DerivedTypes.{Known}
+use Rattle.ylink_values.proofs.AllKeptLemmas.{known_named_alike}
 use Rattle.ylink_grammar.specs.LinkView as statements
 use Rattle.ylink.specs.Told.{seen, told_by, break_view}
 use Rattle.ylink.proofs.LinkingLemmas.{in_names, in_meanings, no_circles}
@@ -36,3 +38,8 @@ order_of-requires-clause-straight c =
 pub of-requires-3-clause-straight : goal.of-requires-3-clause-straight
 of-requires-3-clause-straight c =
     no_circles (language_view c.args.language.now) (statements.view c.args.sources) (sym (ap seen c.in_default-2.is) ∙ c.in_ok-found-2.ensures)
+
+-- all names are kept
+pub link_types-requires-clause-named : goal.link_types-requires-clause-named
+link_types-requires-clause-named c number =
+    c.in_ok-typedefs.ensures.known number ∙ ap (λ (known : ℕ → Known). known number) (known_named_alike (statements.view c.args.sources))

@@ -6,6 +6,8 @@ use Rattle.yspec.specs.linking.Keyword.{same_keyword, type_word}
 use Rattle.yspec.specs.linking.Scopes.{placed}
 use Rattle.yspec.specs.linking.Source.{Source}
 use Rattle.yspec.specs.linking.TypeStatements.{Verdict, verdict, verdicts, verdict_on}
+use Rattle.yspec_wide.specs.Types.{verdict_of}
+use Rattle.ylink_values.proofs.AllKeptLemmas.{verdict_alike}
 use Rattle.ybase_preorder.specs.View.{row_by, label_by}
 use Rattle.ybase_preorder.proofs.RowLemmas.{takes_by, takes_none_by}
 use Rattle.ybase_words.specs.KeywordView.{keyword_view}
@@ -13,6 +15,7 @@ use Rattle.ylink_grammar.specs.LinkView.{view}
 use Rattle.ylink_grammar.specs.SourceView.{source_view}
 use Rattle.ylink_names.specs.ScopeView.{placed_at}
 use Rattle.ylink_names.proofs.MeaningLemmas.{next_meant, all_meant}
+use Rattle.ylink_values.specs.KeptView.{all_kept}
 use Rattle.ylink_types.specs.TypeView.{verdict_view}
 use Rattle.ylink_types.specs.TypedefView.{verdicts_in}
 use Rattle.ylink.specs.VerdictView.{judged, held_view, members_in, members_below, table_view}
@@ -94,7 +97,8 @@ loop-statement-preserved t c =
     ∙ ap (λ n. verdicts modules named (row_by source_view n)) c.children-below.ensures) in
     let v : Verdict = verdict modules named c.args.in_union s below (verdicts modules named below) in
     let judged_so : verdict_view c.in_ok-verdict.verdict ≡ v =
-    c.in_ok-verdict.ensures ∙ ap (verdict modules named c.args.in_union s below) members in
+    c.in_ok-verdict.ensures ∙ (ap (verdict_of all_kept modules named c.args.in_union s below) members
+    ∙ verdict_alike modules named c.args.in_union s below (verdicts modules named below)) in
     let new = table_view c.set_verdict.new.table.items in
     let count : c.len-number.result ≡ length so_far = c.len-number.ensures ∙ (c.loop-statement.table.ok.0 ∙ sym (length-map c.loop-statement.table.items held_view)) in
     record {

@@ -1,10 +1,10 @@
 use Rattle.std.proofs.Common.{ap, ◌∙◌, arith, map, ◌++◌}
-use Rattle.std.specs.List.{flat_map}
-use Rattle.yspec.specs.Forest.{size, preorder}
+use Rattle.yspec.specs.Forest.{size}
 use Rattle.ybase_preorder.specs.View.{row_by, label_by}
 use Rattle.ybase_preorder.proofs.RowLemmas.{takes_by, takes_none_by}
 use Rattle.ylink_grammar.specs.SourceView.{source_view}
-use Rattle.ylink_types.specs.IdentityView.{identity_view, listed}
+use Rattle.ylink_types.specs.IdentityView.{identity_view, listed_in}
+use Rattle.ylink_values.specs.KeptView.{kept_view}
 use Rattle.ylink_types.proofs.IdentityLemmas.{next_listed, all_listed}
 use Rattle.ylink_types.proofs.identities.+add_identities.Goals as goal
 
@@ -21,9 +21,9 @@ loop-statement-preserved t c =
       more = tt;
       ends = tt;
       smaller = omega (arith, sized, c.loop-statement.invariant.smaller);
-      made = next_listed listed s below after (row_by source_view before) first (map identity_view c.loop-statement.made.items)
+      made = next_listed (kept_view c.args.kept) s below after (row_by source_view before) first (map identity_view c.loop-statement.made.items)
           (map identity_view c.add_identity.new.made.items) (map identity_view c.add_identities.new.made.items) _ c.in_ok-add_identity.ensures
-          (c.in_ok-add_identities.ensures ∙ ap (λ n. map identity_view c.add_identity.new.made.items ++ flat_map listed (preorder (row_by source_view n))) c.children.ensures)
+          (c.in_ok-add_identities.ensures ∙ ap (λ n. map identity_view c.add_identity.new.made.items ++ listed_in (kept_view c.args.kept) (row_by source_view n)) c.children.ensures)
           c.loop-statement.invariant.made;
     }
 
@@ -31,4 +31,4 @@ pub returns : goal.returns
 returns t c =
     let before = c.loop-statement.statement-iterator in
     let ended = (takes_none_by source_view before c.next.new.self c.in-None.ensures.steps).0 in
-    all_listed listed (row_by source_view before) (map identity_view c.loop-statement.made.items) _ ended c.loop-statement.invariant.made
+    all_listed (kept_view c.args.kept) (row_by source_view before) (map identity_view c.loop-statement.made.items) _ ended c.loop-statement.invariant.made

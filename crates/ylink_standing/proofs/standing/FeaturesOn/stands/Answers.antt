@@ -8,8 +8,13 @@ use Rattle.ylink_standing.proofs.OrderLemmas.{tells_standing}
 use Rattle.ylink_standing.proofs.RowLemmas.{row_says}
 use Rattle.ylink_standing.proofs.standing.FeaturesOn.stands.Goals as goal
 
-pub returns : goal.returns
-returns c language modules is stands_there =
+pub returns-clause-asked : goal.returns-clause-asked
+returns-clause-asked c =
+    c.all_hold.ensures
+    ∙ ap₂ (λ xs ys. all_asked xs (is_in ys) (row_by source_view c.args.below)) c.as_slice.ensures.value c.as_slice-2.ensures.value
+
+pub returns-clause-stands : goal.returns-clause-stands
+returns-clause-stands c language modules is stands_there =
     let asked = c.args.self.now.conditions.items in
     let on = is_in c.args.self.now.on.items in
     let below = row_by source_view c.args.below in

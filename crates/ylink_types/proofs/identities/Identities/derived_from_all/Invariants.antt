@@ -1,4 +1,4 @@
-use Rattle.std.proofs.Common.{◌≡◌, ◌∷◌, filter, take}
+use Rattle.std.proofs.Common.{◌≡◌, ◌∷◌, Bool, filter, take}
 use Rattle.std.specs.List.{list_all}
 use Rattle.yspec.specs.Forest.{Forest}
 use Rattle.yspec.specs.linking.Circles.{definition_edges}
@@ -9,5 +9,5 @@ use Rattle.ylink_types.proofs.identities.Identities.derived_from_all.Given as go
 
 -- those that derive from all bases so far
 abbrev pub invariant-loop-base : goal.invariant-loop-base
-invariant-loop-base l = (modules : Forest Source) → IsOf l.self modules → l.numbers.items
+invariant-loop-base l = (kept : Forest Source → Bool) (modules : Forest Source) → IsOf kept l.self modules → l.numbers.items
     ≡ filter (λ n. list_all (derives (definition_edges modules) n) (l.first ∷ take l.base-index l.others)) l.self.numbers.items

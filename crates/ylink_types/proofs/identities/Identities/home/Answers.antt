@@ -6,7 +6,7 @@ use Rattle.ylink_types.proofs.IdentityLemmas.{home_named}
 use Rattle.ylink_types.proofs.identities.Identities.home.Goals as goal
 
 pub returns-in_ok-clone-in-Some : goal.returns-in_ok-clone-in-Some
-returns-in_ok-clone-in-Some c modules is =
+returns-in_ok-clone-in-Some c kept modules is =
     let homes = c.args.self.now.homes.items in
     let held : Some c.in-Some.name.now ≡ slice_get homes c.args.home =
     sym (ap (option_map (λ h. h.now)) c.in-Some.is) ∙ (c.home_held.ensures ∙ ap (λ l. slice_get l c.args.home) c.deref.ensures.value) in
@@ -14,7 +14,7 @@ returns-in_ok-clone-in-Some c modules is =
     cloned ∙ home_named modules homes is.homes c.args.home (Some c.in-Some.name.now) held
 
 pub returns-in_ok-new-in-None : goal.returns-in_ok-new-in-None
-returns-in_ok-new-in-None c modules is =
+returns-in_ok-new-in-None c kept modules is =
     let homes = c.args.self.now.homes.items in
     let held : None ≡ slice_get homes c.args.home =
     sym (ap (option_map (λ h. h.now)) c.in-None.is) ∙ (c.home_held.ensures ∙ ap (λ l. slice_get l c.args.home) c.deref.ensures.value) in

@@ -2,13 +2,15 @@ use Rattle.std.proofs.Common.{◌≡◌, ◌<◌, ◌≤◌, rules, length, get_
 use Rattle.std.specs.Prelude.{◌==◌, option_map, option_and_then, slice_get, if◌then◌else◌}
 use Rattle.std.specs.Option.{option_map_or}
 use mathlib.Core.Path.{fun_ext}
-use Rattle.yspec.specs.linking.DerivedTypes.{unknown, named, known_in_row, typedef_row}
+use Rattle.yspec.specs.linking.DerivedTypes.{unknown, named, typedef_row}
+use Rattle.yspec_wide.specs.Types.{known_in_row_of}
 use Rattle.ybase_preorder.specs.View.{forest_in, row_by}
 use Rattle.ylink_grammar.specs.LinkView.{view}
 use Rattle.ylink_grammar.specs.SourceView.{source_view}
 use Rattle.ylink_names.proofs.PlacedLemmas.{number_named_at}
 use Rattle.ylink_names.specs.MeaningView.{meaning_at}
 use Rattle.ylink_types.specs.IdentityView as identity
+use Rattle.ylink_values.specs.KeptView.{kept_view}
 use Rattle.ylink_types.specs.TypedefView.{known_at, names_in}
 use Rattle.ylink_types.proofs.OrderLemmas.{learned_next, learned_all, rows_count}
 use Rattle.ylink_types.proofs.RowLemmas.{row_found}
@@ -45,12 +47,12 @@ loop-number-preserved c =
       meant = ap (λ v. v.items) c.in_ok-learn.ensures.meanings ∙ c.loop-number.invariant.meant;
       rests = record {
         named = λ n. c.loop-number.invariant.rests.named n ∙ sym (ap (λ v. meaning_at v.items n) c.in_ok-learn.ensures.meanings);
-        identities = subst (λ i. identity.IsOf i set) (sym c.in_ok-learn.ensures.identities) c.loop-number.invariant.rests.identities;
+        identities = subst (λ i. identity.IsOf (kept_view c.args.kept) i set) (sym c.in_ok-learn.ensures.identities) c.loop-number.invariant.rests.identities;
       };
       count = c.in_ok-learn.ensures.count ∙ c.loop-number.invariant.count;
-      known = learned_next f nodes c.requires.ordered table (known_at c.learn.new.self.known.items) i c.loop-number.invariant.known within
+      known = learned_next f (kept_view c.args.kept) nodes c.requires.ordered table (known_at c.learn.new.self.known.items) i c.loop-number.invariant.known within
           (λ e. c.in_ok-learn.ensures.known e inside
-          ∙ ap₂ (λ ns r. if e == number then option_map_or (known_in_row set ns) r unknown else table e) names row);
+          ∙ ap₂ (λ ns r. if e == number then option_map_or (known_in_row_of (kept_view c.args.kept) set ns) r unknown else table e) names row);
     }
 
 pub learn-requires : goal.learn-requires
@@ -70,4 +72,4 @@ returns-clause-known c number =
     let table = known_at typedefs.known.items in
     let ended : length nodes ≤ c.loop-number.number-index = first_of (search rules, omega arith) in
     ap (λ o. option_map_or table o unknown) (sym (number_named_at f typedefs.meanings.items c.loop-number.invariant.meant number))
-    ∙ learned_all f nodes c.requires.ordered table (λ j before inside. c.loop-number.invariant.known j (omega (arith, before, ended)) inside) number
+    ∙ learned_all f (kept_view c.args.kept) nodes c.requires.ordered table (λ j before inside. c.loop-number.invariant.known j (omega (arith, before, ended)) inside) number

@@ -13,7 +13,7 @@ ghost use Rattle.ytype_numbers.specs.View.{restriction_of, text_of};
 ghost use Rattle.ytype_numbers.specs.Words.{narrow_refusal, same};
 ghost use Rattle.ybase_preorder.specs.View.{row_by, label_by};
 ghost use Rattle.ylink_grammar.specs.SourceView.{node_view, source_view};
-ghost use Rattle.ylink_types.specs.KindView.{word_of, restriction_by};
+ghost use Rattle.ylink_values.specs.KindView.{word_of, restriction_by};
 
 use std::alloc::{AllocError, Global};
 use ybase_preorder::{Node, Siblings};
@@ -35,7 +35,7 @@ impl SpanRestriction {
     ghost use Rattle.std.specs.Prelude.{◌≡◌};
     ghost use Rattle.ytype_numbers.specs.View.{restriction_of};
     ghost use Rattle.ybase_words.specs.KeywordView.{keyword_view};
-    ghost use Rattle.ylink_types.specs.KindView.{word_of, restriction_by};
+    ghost use Rattle.ylink_values.specs.KindView.{word_of, restriction_by};
 
     /// The keyword of the statement that states one.
     fn keyword(self) -> Keyword
@@ -123,7 +123,7 @@ fn restriction_stated(
 }
 
 /// A type that was made, or none where it was refused.
-pub(crate) fn accepted_type(made: Result<YType, NarrowFault>) -> Result<Option<YType>, AllocError>
+pub fn accepted_type(made: Result<YType, NarrowFault>) -> Result<Option<YType>, AllocError>
     ensures { (answer : Option YangType) → Gives same narrow_refusal made (ok_or answer tt)
         → IfOk result (λ type. type ≡ answer) }
 {
@@ -166,7 +166,7 @@ fn restricted_type(
 }
 
 /// What the range of a row makes of a type.
-pub(crate) fn ranged_type(
+pub fn ranged_type(
     alloc: Global,
     below: Siblings<'_, Source<'_>>,
     outer: Result<YType, NarrowFault>,
@@ -178,7 +178,7 @@ pub(crate) fn ranged_type(
 }
 
 /// What the length of a row makes of a type.
-pub(crate) fn measured_type(
+pub fn measured_type(
     alloc: Global,
     below: Siblings<'_, Source<'_>>,
     outer: Result<YType, NarrowFault>,
@@ -190,7 +190,7 @@ pub(crate) fn measured_type(
 }
 
 /// What a statement makes of a type where it is a restriction that the type may bear.
-pub(crate) fn narrowed_type(
+pub fn narrowed_type(
     alloc: Global,
     outer: YType,
     statement: Node<'_, Source<'_>>,

@@ -2,8 +2,8 @@ use Rattle.std.proofs.Common.{◌≡◌, ◌++◌}
 use Rattle.yspec.specs.linking.TypeStatements.{namings}
 use Rattle.ybase_preorder.specs.View.{row_by}
 use Rattle.ylink_grammar.specs.SourceView.{source_view}
-use Rattle.ylink_types.specs.KindView.{naming_word, number_by}
-use Rattle.ylink_types.proofs.naming.namings.Given as goal
+use Rattle.ylink_values.specs.KindView.{naming_word, number_by}
+use Rattle.ylink_values.proofs.naming.namings.Given as goal
 
 abbrev pub invariant-loop-statement : goal.invariant-loop-statement
 invariant-loop-statement l = record {

@@ -5,9 +5,9 @@ use Rattle.ybase_preorder.specs.View.{row_by, label_by}
 use Rattle.ybase_preorder.proofs.RowLemmas.{takes_by, takes_none_by}
 use Rattle.ybase_words.specs.KeywordView.{keyword_view}
 use Rattle.ylink_grammar.specs.SourceView.{source_view}
-use Rattle.ylink_types.specs.KindView.{naming_word, number_by}
-use Rattle.ylink_types.proofs.TypeLemmas.{next_naming, no_naming, all_namings}
-use Rattle.ylink_types.proofs.naming.namings.Goals as goal
+use Rattle.ylink_values.specs.KindView.{naming_word, number_by}
+use Rattle.ylink_values.proofs.NamingLemmas.{next_naming, no_naming, all_namings}
+use Rattle.ylink_values.proofs.naming.namings.Goals as goal
 
 pub loop-statement-preserved-then-not-is : goal.loop-statement-preserved-then-not-is
 loop-statement-preserved-then-not-is c =

@@ -1,0 +1,2 @@
+pub mod AllKeptLemmas
+pub mod NamingLemmas

@@ -1,0 +1,2 @@
+pub mod KeptView
+pub mod KindView

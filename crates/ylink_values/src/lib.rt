@@ -1,0 +1,11 @@
+//! The values that types have: ranges and lengths that restrict them, and the names that enumerations and bits have
+//! (RFC 7950, 9.2.4, 9.4.4, 9.6.4 and 9.7.4).
+#![tactic(auto)]
+
+mod kept;
+mod limit;
+mod naming;
+
+pub use kept::Kept;
+pub use limit::{accepted_type, measured_type, narrowed_type, ranged_type};
+pub use naming::{NamingKind, named_type};
