@@ -54,8 +54,8 @@ pub record IsOf (f : FeaturesOn) (language : Language) (modules : Forest Source)
   pub asked : AreAsked f.conditions.items language modules
 
 -- whether all that a row asks holds, by what is held
-abbrev pub stands_by : FeaturesOn → Forest Source → Bool
-stands_by f below = all_asked f.conditions.items (is_in f.on.items) below
+abbrev pub row_stands : FeaturesOn → Forest Source → Bool
+row_stands f below = all_asked f.conditions.items (is_in f.on.items) below
 
 -- a row that stands below a statement of a set
 abbrev pub IsRowOf : Forest Source → Forest Source → Type 0

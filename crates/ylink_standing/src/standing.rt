@@ -142,7 +142,7 @@ impl FeaturesOn {
     ghost use Rattle.ylink_features.specs.FeatureView.{AreFeaturesOf};
     ghost use Rattle.ylink_features.specs.VersionView.{AreVersionsOf};
     ghost use Rattle.yspec_wide.specs.Sources.{is_feature};
-    ghost use Rattle.ylink_standing.specs.StandingView.{AreAsked, AreChosen, IsOf, IsRowOf, feature_at, stands_by};
+    ghost use Rattle.ylink_standing.specs.StandingView.{AreAsked, AreChosen, IsOf, IsRowOf, feature_at, row_stands};
 
     /// The features of a set that are on in a language, given what prefixes stand for (RFC 7950, 7.20.1). Under the core there
     /// are none.
@@ -238,7 +238,7 @@ impl FeaturesOn {
 
     /// Whether a statement stands, by the row below it (RFC 7950, 7.20.2).
     pub fn stands(&self, below: Siblings<'_, Source<'_>>) -> bool
-        ensures asked { result ≡ stands_by self.now (row_by source_view below.entry) }
+        ensures asked { result ≡ row_stands self.now (row_by source_view below.entry) }
         ensures stands { (language : languages.Language) (modules : Forest spec_source.Source)
             → IsOf self.now language modules → IsRowOf modules (row_by source_view below.entry)
             → result ≡ spec.stands language modules (row_by source_view below.entry) }

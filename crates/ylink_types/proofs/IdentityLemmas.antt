@@ -21,7 +21,7 @@ use Rattle.yspec.specs.linking.Circles.{definition_edges}
 use Rattle.yspec.specs.linking.Graph.{Edge}
 use Rattle.yspec.specs.linking.Identities.{assigned_identity, identities_of, is_identity, module_name}
 use Rattle.yspec.specs.linking.Keyword.{identity_word, type_word}
-use Rattle.yspec.specs.linking.Scopes.{Placed, placed, statements_of}
+use Rattle.yspec.specs.linking.Scopes.{Placed, placed}
 use Rattle.yspec.specs.linking.Source.{Source, is_source_of, argument_in}
 use Rattle.yspec_wide.specs.Types.{numbers_kept}
 use Rattle.ybase_graph.specs.Derivation.{derives}

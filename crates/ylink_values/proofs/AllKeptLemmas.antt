@@ -14,8 +14,8 @@ use Rattle.yspec.specs.types.Types.{enumeration_base, bits_base, plain}
 use Rattle.yspec.specs.linking.Keyword.{Keyword}
 use Rattle.yspec.specs.linking.Keyword as word
 use Rattle.yspec.specs.linking.Source.{Source, is_source_of, argument_in, found_with, stated_with}
-use Rattle.yspec.specs.linking.Identities.{module_name, bases_in}
-use Rattle.yspec.specs.linking.TypeStatements.{BuiltIn, integer, decimal64, string, boolean, empty, enumeration, bits, union, leafref, identityref, Meant, own, Verdict, means, wrong, built_in_meant, are_in_place, of_names, namings, value_stated, position_stated, single_type, identity_verdict, verdict_in_place, derived, verdict, verdicts, verdict_on}
+use Rattle.yspec.specs.linking.Identities.{bases_in}
+use Rattle.yspec.specs.linking.TypeStatements.{BuiltIn, integer, decimal64, string, boolean, empty, enumeration, bits, union, leafref, identityref, own, Verdict, means, wrong, built_in_meant, are_in_place, of_names, namings, value_stated, position_stated, single_type, identity_verdict, verdict_in_place, derived, verdict, verdicts, verdict_on}
 use Rattle.yspec.specs.linking.DerivedTypes.{Known, unknown, named, verdict_by, typedef_row, known_by, known_in_row, known_within, known_named}
 use Rattle.yspec_wide.specs.Types as wide
 

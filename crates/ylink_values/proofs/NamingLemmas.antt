@@ -10,12 +10,12 @@ use Rattle.std.proofs.lemmas.List.{append-nil}
 use Rattle.std.proofs.lemmas.Slice.Eq.{bytes_eq-Decides}
 use Rattle.yspec.specs.Forest.{Forest, end, node}
 use Rattle.yspec.specs.text.Text.{Text, is_text}
-use Rattle.yspec.specs.types.Names.{Naming, Assigned, enum_names, bit_names, enum_numbers, bit_positions, number_of, placed, is_like, is_new, assigned_from, is_enum_name, are_enum_names}
+use Rattle.yspec.specs.types.Names.{Naming, Assigned, enum_names, enum_numbers, bit_positions, number_of, placed, is_like, is_new, assigned_from, is_enum_name, are_enum_names}
 use Rattle.yspec.specs.types.Ranges.{Part, lies_in}
-use Rattle.yspec.specs.types.Types.{Base, YangType, plain}
+use Rattle.yspec.specs.types.Types.{Base, plain}
 use Rattle.yspec.specs.linking.Keyword.{Keyword, enum_word, bit_word}
 use Rattle.yspec.specs.linking.Source.{Source, is_source_of, argument_in}
-use Rattle.yspec.specs.linking.TypeStatements.{BuiltIn, enumeration, bits, namings, of_names, value_stated, position_stated}
+use Rattle.yspec.specs.linking.TypeStatements.{enumeration, bits, namings, of_names, value_stated, position_stated}
 use Rattle.yspec.proofs.BasicLemmas.{same_text, other_text, texts_differ}
 use Rattle.yspec_wide.specs.Types as wide
 use Rattle.yspec_wide.specs.Types.{names_kept}

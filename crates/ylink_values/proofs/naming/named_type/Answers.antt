@@ -5,7 +5,7 @@ use Rattle.yspec.specs.types.Types.{plain}
 use Rattle.ybase_preorder.specs.View.{row_by}
 use Rattle.ylink_grammar.specs.SourceView.{source_view}
 use Rattle.ylink_values.specs.KeptView.{kept_view}
-use Rattle.ylink_values.specs.KindView.{are_kept, base_of, names_by, naming_word}
+use Rattle.ylink_values.specs.KindView.{base_of, names_by}
 use Rattle.ylink_values.proofs.NamingLemmas.{all_named, some_named}
 use Rattle.ylink_values.proofs.naming.named_type.Goals as goal
 

@@ -12,7 +12,7 @@ returns-then-not-stands c language modules is rows =
     let row = c.row-item.result in
     let falls : c.stands.result ≡ false = first_of (search rules, cc) in
     one_fails (λ r. stands language modules (row_by source_view r)) c.args.rows.now i row _ (omega arith) c.row-item.is
-    (sym (c.stands.ensures language modules is (subst (λ r. IsRowOf modules (row_by source_view r)) (sym c.row-item.is) (rows i row (omega arith)))) ∙ falls)
+    (sym (c.stands.ensures.stands language modules is (subst (λ r. IsRowOf modules (row_by source_view r)) (sym c.row-item.is) (rows i row (omega arith)))) ∙ falls)
     (c.loop-row.invariant language modules is rows)
 
 pub loop-row-preserved : goal.loop-row-preserved
@@ -21,7 +21,7 @@ loop-row-preserved c language modules is rows =
     let row = c.row-item.result in
     let holds : c.stands.result ≡ true = first_of (search rules, cc) in
     one_passes (λ r. stands language modules (row_by source_view r)) c.args.rows.now i row _ (omega arith) c.row-item.is
-    (sym (c.stands.ensures language modules is (subst (λ r. IsRowOf modules (row_by source_view r)) (sym c.row-item.is) (rows i row (omega arith)))) ∙ holds)
+    (sym (c.stands.ensures.stands language modules is (subst (λ r. IsRowOf modules (row_by source_view r)) (sym c.row-item.is) (rows i row (omega arith)))) ∙ holds)
     (c.loop-row.invariant language modules is rows)
 
 pub returns : goal.returns
