@@ -1,7 +1,9 @@
 pub mod AskedLemmas
 pub mod ConditionLemmas
 pub mod FeatureLemmas
+pub mod ImportingLemmas
 pub mod LostLemmas
 pub mod TakenLemmas
 pub mod VersionLemmas
+pub mod WalkedLemmas
 pub mod WithinLemmas
