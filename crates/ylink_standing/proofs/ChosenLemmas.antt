@@ -4,14 +4,14 @@ use Rattle.std.specs.Prelude.{◌&&◌, ◌||◌, slice_get, unwrap_or}
 use Rattle.std.specs.Borrow.{Bor}
 use Rattle.std.specs.BTreeMap.{BTreeMap, UpdatesBy}
 use Rattle.std.specs.Cmp.Lexicographic.{slice_cmp, nat_list_eq_equiv}
-use Rattle.std.specs.List.{Contains, list_any}
+use Rattle.std.specs.List.{list_any}
 use Rattle.std.specs.Option.{option_map_or}
 use Rattle.std.specs.Ordering.{nat_cmp}
 use Rattle.std.proofs.lemmas.List.{at_drop_more}
 use Rattle.std.proofs.lemmas.Option.{slice_get-map}
 use Rattle.yspec.specs.Forest.{Forest, first_of, row}
 use Rattle.yspec.specs.linking.Identities.{module_name}
-use Rattle.yspec.specs.linking.Scopes.{Placed, statements_of}
+use Rattle.yspec.specs.linking.Scopes.{Placed}
 use Rattle.yspec.specs.linking.Source.{Source, argument_in}
 use Rattle.yspec.specs.text.Text.{Text, is_text}
 use Rattle.yspec_wide.specs.Language.{Choosing, Language, core, rfc, is_chosen, is_chosen_of}
@@ -24,7 +24,7 @@ use Rattle.ylink_names.proofs.BelowLemmas.{source_at}
 use Rattle.ylink_names.proofs.FirstNamedLemmas.{value_at, one_more}
 use Rattle.ylink_names.proofs.PlacedLemmas.{stands_at}
 use Rattle.ylink_standing.specs.ChosenView.{name_among, is_chosen_by}
-use Rattle.ylink_standing.specs.StandingView.{feature_at, AreChosen}
+use Rattle.ylink_standing.specs.StandingView.{AreChosen}
 
 -- ---- names, one after another
 

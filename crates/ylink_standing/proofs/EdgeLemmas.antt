@@ -9,9 +9,9 @@ use Rattle.std.proofs.lemmas.List.Folds.{list_any-append}
 use Rattle.yspec.specs.Forest.{Forest}
 use Rattle.yspec.specs.linking.Arguments.{Name}
 use Rattle.yspec.specs.linking.Graph.{Edge, is_on_circle}
-use Rattle.yspec.specs.linking.Scopes.{Placed, placed, statements_of}
+use Rattle.yspec.specs.linking.Scopes.{Placed, statements_of}
 use Rattle.yspec.specs.linking.Source.{Source}
-use Rattle.yspec.specs.schema.Breaks.{Break, broken}
+use Rattle.yspec.specs.schema.Breaks.{Break}
 use Rattle.yspec.proofs.LinkingProofs.BreakLemmas.{none_first, none_second, unbroken}
 use Rattle.yspec_wide.specs.Language.{Language}
 use Rattle.yspec_wide.specs.Features.{Feature, feature_named, names_asked, is_lost, edge_to, feature_above, feature_edges_at, feature_edges, condition_break, condition_breaks}

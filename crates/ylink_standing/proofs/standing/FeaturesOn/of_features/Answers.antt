@@ -1,4 +1,4 @@
-use Rattle.std.proofs.Common.{List, length, map, sym, ap, subst, ◌∙◌}
+use Rattle.std.proofs.Common.{length, map, sym, ap, subst, ◌∙◌}
 use Rattle.ybase_graph.specs.Edges.{AreWithin, edge_view}
 use Rattle.ybase_preorder.specs.View.{slots_in}
 use Rattle.ylink_grammar.specs.LanguageView.{language_view}
