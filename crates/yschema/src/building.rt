@@ -35,7 +35,9 @@ use std::alloc::{AllocError, Global};
 use ybase_preorder::Node;
 use ybase_words::Keyword;
 use ylink::{CompileFault, Linked, link};
-use ylink_grammar::{BrokenRule, CompileCode, Source, argument_of, argument_with, broken};
+use ylink_grammar::{
+    BrokenRule, CompileCode, Language, Source, argument_of, argument_with, broken,
+};
 use yschema_augment::augmented;
 use yschema_expand::{Groupings, Named, NodeTable, augments_of};
 use yschema_model::{Schema, SchemaModule};
@@ -67,7 +69,13 @@ fn compile_linked<'t>(
     requires links { spec.linked (modules_view modules.now) ≡ Ok (statements.view linked.now) }
     ensures { Gives view told_by result (compiled (modules_view modules.now)) }
 {
-    let named = Named::new(linked.sources(), linked.prefixes(), linked.meanings());
+    let language = Language::Core;
+    let named = Named::new(
+        &language,
+        linked.sources(),
+        linked.prefixes(),
+        linked.meanings(),
+    );
     let groupings = Groupings::of(alloc, &named, linked.order())?;
     let augments = augments_of(alloc, &named)?;
     if let Some(found) = broken_count_rule(modules, &named, &groupings, &augments) {

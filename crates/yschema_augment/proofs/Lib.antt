@@ -1,3 +1,4 @@
+pub mod CoreLemmas
 pub mod HangingLemmas
 pub mod PathLemmas
 pub mod SearchLemmas

@@ -26,7 +26,7 @@ use Rattle.yschema_expand.specs.NodeView.{numbered_part, part_view}
 use Rattle.yschema_augment.specs.Arranging.{own_rows, rows_of}
 use Rattle.yschema_expand.specs.NumberedView.{rows_between, with_number, Numbered}
 use Rattle.yschema_augment.specs.Asking.{AreNames}
-use Rattle.yschema_expand.specs.Bodies.{bodies_of, body_of, starts_from}
+use Rattle.yschema_augment.specs.Bodies.{bodies_of, body_of, starts_from}
 use Rattle.yschema_augment.specs.Hanging.{numbered, plain, times}
 use Rattle.yschema_augment.specs.Picking.{is_waiting, source_at, nothing}
 use Rattle.yschema_augment.specs.Resolving.{AreApart, Stands}

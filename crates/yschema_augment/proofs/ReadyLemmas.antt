@@ -15,7 +15,7 @@ use Rattle.yschema_augment.specs.Hanging.{put, times, plain, inner, marked_by, l
 use Rattle.yschema_expand.specs.NumberedView.{Numbered}
 use Rattle.yschema_augment.specs.Searching.{Lookup, target_in, Agrees, AgreesAll, looked_behind}
 use Rattle.yschema_augment.specs.Arranging.{taken_for}
-use Rattle.yschema_expand.specs.Bodies.{body_of}
+use Rattle.yschema_augment.specs.Bodies.{body_of}
 use Rattle.yschema_augment.specs.Resolving.{may_hold, is_found, hung_by, row_for, Stands, AreApart}
 use Rattle.yschema_augment.proofs.HangingLemmas.{Nodes}
 use Rattle.yschema_augment.proofs.PathLemmas.{part_plain, changed_plain}

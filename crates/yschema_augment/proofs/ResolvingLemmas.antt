@@ -15,7 +15,7 @@ use Rattle.yschema_augment.specs.Hanging.{hung, put, times, plain, marked_by, is
 use Rattle.yschema_expand.specs.NumberedView.{Numbered}
 use Rattle.yschema_augment.specs.Searching.{Lookup, first_in, target_in, Agrees, AgreesAll, looked_behind}
 use Rattle.yschema_augment.specs.Arranging.{rows_of, own_rows, taken_for, hung_view}
-use Rattle.yschema_expand.specs.Bodies.{body_of}
+use Rattle.yschema_augment.specs.Bodies.{body_of}
 use Rattle.yschema_augment.specs.Resolving.{may_hold, hung_by, row_for, Stands}
 use Rattle.yschema_augment.specs.Picking.{source_at, given_at, holds_at, refused_by, is_waiting, found_at, left_of, count_left, IsNext, NoneIs, Passes}
 use Rattle.ybase_index.specs.Index.{texts_of}

@@ -1,3 +1,4 @@
+pub mod Bodies
 pub mod Augmenting
 pub mod Hanging
 pub mod Searching

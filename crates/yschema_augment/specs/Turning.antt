@@ -7,7 +7,7 @@ use Rattle.yspec.specs.linking.Augments.{Augment, target_steps, is_ready, applie
 use Rattle.ybase_index.specs.Index.{texts_of}
 use Rattle.ybase_preorder.specs.declared.slot.Slot.{Slot}
 use Rattle.yschema_augment.specs.Arranging.{own_rows, rows_of, hung_view}
-use Rattle.yschema_expand.specs.Bodies.{body_of}
+use Rattle.yschema_augment.specs.Bodies.{body_of}
 use Rattle.yschema_augment.specs.Hanging.{hung, plain}
 use Rattle.yschema_expand.specs.NumberedView.{Numbered}
 use Rattle.yschema_augment.specs.Picking.{nothing, source_at, is_waiting, left_of, count_left, AllSettled}

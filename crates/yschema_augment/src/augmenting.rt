@@ -7,16 +7,17 @@ ghost use Rattle.yspec.specs.Forest.{join, size};
 ghost use Rattle.yspec.specs.linking.Augments as spec;
 ghost use Rattle.yspec.specs.linking.Expansion.{expanded_parts, unfit_breaks};
 ghost use Rattle.yspec.specs.schema.Breaks as breaks;
+ghost use Rattle.yspec_wide.specs.Language.{core};
 ghost use Rattle.ybase_preorder.specs.Layout.{places};
 ghost use Rattle.ylink_grammar.specs.BreakView.{seen};
 ghost use Rattle.ybase_index.specs.Index.{texts_of};
 ghost use Rattle.yschema_augment.specs.Arranging.{own_rows};
 ghost use Rattle.yschema_expand.specs.AugmentView.{augments_seen};
-ghost use Rattle.yschema_expand.specs.Bodies.{bodies_of, starts_from};
+ghost use Rattle.yschema_augment.specs.Bodies.{bodies_of, starts_from};
 ghost use Rattle.yschema_augment.specs.Augmenting.{breaks_of};
 ghost use Rattle.yschema_augment.specs.Hanging.{plain};
 ghost use Rattle.yschema_expand.specs.Knowing.{Knows};
-ghost use Rattle.yschema_expand.specs.NamedView.{modules_of};
+ghost use Rattle.yschema_expand.specs.NamedView.{language_of, modules_of};
 ghost use Rattle.yschema_augment.specs.Picking.{left_of};
 ghost use Rattle.yschema_expand.specs.TableView.{parts_in, slots_of};
 ghost use Rattle.yschema_augment.specs.Turning.{numbers_of, placed, Prepared};
@@ -93,14 +94,16 @@ fn numbers_of(alloc: Global, augments: &[Node<'_, Source<'_>>]) -> Result<Vec<u3
 }
 
 /// The nodes that all modules define, each `uses` replaced and each augment applied that finds its target, always the first
-/// that does by then; and the least of the refines that aren't fit and the augments that are left (C14).
+/// that does by then; and the least of the refines that aren't fit and the augments that are left (C14). Modules are those of
+/// the core.
 pub fn augmented<'a, 't>(
     alloc: Global,
     named: &'a Named<'a, 't>,
     groupings: &'a Groupings,
     augments: &[Node<'a, Source<'t>>],
 ) -> Result<Made<'a, 't>, AllocError>
-    requires known { Knows groupings.now (modules_of named.now) }
+    requires core { language_of named.now ≡ core }
+    requires known { Knows groupings.now (language_of named.now) (modules_of named.now) }
     requires augments { augments_seen augments.now ≡ spec.augments_of (modules_of named.now) }
     ensures nodes { IfOk result (λ made. parts_in made.table
         ≡ places None 0 (spec.augmented (modules_of named.entry.now)).0) }

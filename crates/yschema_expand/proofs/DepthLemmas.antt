@@ -4,10 +4,13 @@ use Rattle.std.proofs.lemmas.Bool.{and_parts}
 use Rattle.yspec.specs.Forest.{Forest, end, node}
 use Rattle.yspec.specs.linking.Source.{Source}
 use Rattle.yspec.specs.linking.Parts.{Part}
-use Rattle.yspec.specs.linking.Expansion.{Grouping, is_uses, row_used, replaced, stands_for, refine_breaks, unfit_in, unfit_for}
+use Rattle.yspec.specs.linking.Expansion.{Grouping, is_uses, row_used, replaced, unfit_in}
 use Rattle.yspec.specs.linking.Rewriting.{all_uses, ends_within}
 use Rattle.yspec.specs.schema.Breaks.{Break}
-use Rattle.yspec.proofs.LinkingProofs.ExpansionLemmas.{agree, one_deeper}
+use Rattle.yspec.proofs.LinkingProofs.ExpansionLemmas.{agree}
+use Rattle.yspec_wide.specs.Expansion.{stands_for_in, refine_breaks_in, unfit_for_in}
+use Rattle.yspec_wide.specs.Language.{Language}
+use Rattle.yschema_expand.proofs.LanguageLemmas.{one_deeper}
 
 -- ---- two meanings that agree where they are asked
 
@@ -67,16 +70,16 @@ module _ (modules : Forest Source) (groupings : List Grouping) where
   ends_deeper (suc depth) u ends =
       weaker_test (ends_within modules groupings depth) (ends_within modules groupings (suc depth)) (ends_deeper depth) (row_used modules groupings u) ends
 
-  module _ (owner : ℕ) where
+  module _ (language : Language) (owner : ℕ) where
     unfit_deeper : (depth : ℕ) (u : Part) → ends_within modules groupings depth u ≡ true
-        → unfit_for modules groupings owner depth u ≡ unfit_for modules groupings owner (suc depth) u
-    unfolding unfit_for ends_within
+        → unfit_for_in language modules groupings owner depth u ≡ unfit_for_in language modules groupings owner (suc depth) u
+    unfolding unfit_for_in ends_within
     unfit_deeper zero u ends = absurd cc
-    unfit_deeper (suc depth) u ends = ap₂ (λ x y. x ++ refine_breaks modules owner u.own y)
-        (agree_breaks (ends_within modules groupings depth) (unfit_for modules groupings owner depth) (unfit_for modules groupings owner (suc depth))
+    unfit_deeper (suc depth) u ends = ap₂ (λ x y. x ++ refine_breaks_in language modules owner u.own y)
+        (agree_breaks (ends_within modules groupings depth) (unfit_for_in language modules groupings owner depth) (unfit_for_in language modules groupings owner (suc depth))
         (unfit_deeper depth) (row_used modules groupings u) ends)
-        (agree (ends_within modules groupings depth) (stands_for modules groupings owner depth) (stands_for modules groupings owner (suc depth))
-        (one_deeper modules groupings owner depth) owner (row_used modules groupings u) ends)
+        (agree (ends_within modules groupings depth) (stands_for_in language modules groupings owner depth) (stands_for_in language modules groupings owner (suc depth))
+        (one_deeper language modules groupings owner depth) owner (row_used modules groupings u) ends)
 
   all_deeper : (more depth : ℕ) (f : Forest Part) → all_uses (ends_within modules groupings depth) f ≡ true
       → all_uses (ends_within modules groupings (deeper more depth)) f ≡ true
@@ -91,33 +94,33 @@ module _ (modules : Forest Source) (groupings : List Grouping) where
       let same : deeper (there - here) here ≡ there = is_sum (there - here) here ∙ omega (arith, less) in
       subst (λ d. all_uses (ends_within modules groupings d) f ≡ true) same (all_deeper (there - here) here f all)
 
-  nodes_deeper : (owner more depth : ℕ) (f : Forest Part) → all_uses (ends_within modules groupings depth) f ≡ true
-      → replaced (stands_for modules groupings owner depth) owner f ≡ replaced (stands_for modules groupings owner (deeper more depth)) owner f
-  nodes_deeper owner zero depth f all = refl
-  nodes_deeper owner (suc more) depth f all = nodes_deeper owner more depth f all
-      ∙ agree (ends_within modules groupings (deeper more depth)) (stands_for modules groupings owner (deeper more depth)) (stands_for modules groupings owner (suc (deeper more depth)))
-      (one_deeper modules groupings owner (deeper more depth)) owner f (all_deeper more depth f all)
+  nodes_deeper : (language : Language) (owner more depth : ℕ) (f : Forest Part) → all_uses (ends_within modules groupings depth) f ≡ true
+      → replaced (stands_for_in language modules groupings owner depth) owner f ≡ replaced (stands_for_in language modules groupings owner (deeper more depth)) owner f
+  nodes_deeper language owner zero depth f all = refl
+  nodes_deeper language owner (suc more) depth f all = nodes_deeper language owner more depth f all
+      ∙ agree (ends_within modules groupings (deeper more depth)) (stands_for_in language modules groupings owner (deeper more depth)) (stands_for_in language modules groupings owner (suc (deeper more depth)))
+      (one_deeper language modules groupings owner (deeper more depth)) owner f (all_deeper more depth f all)
 
-  breaks_deeper : (owner more depth : ℕ) (f : Forest Part) → all_uses (ends_within modules groupings depth) f ≡ true
-      → unfit_in (unfit_for modules groupings owner depth) f ≡ unfit_in (unfit_for modules groupings owner (deeper more depth)) f
-  breaks_deeper owner zero depth f all = refl
-  breaks_deeper owner (suc more) depth f all = breaks_deeper owner more depth f all
-      ∙ agree_breaks (ends_within modules groupings (deeper more depth)) (unfit_for modules groupings owner (deeper more depth)) (unfit_for modules groupings owner (suc (deeper more depth)))
-      (unfit_deeper owner (deeper more depth)) f (all_deeper more depth f all)
+  breaks_deeper : (language : Language) (owner more depth : ℕ) (f : Forest Part) → all_uses (ends_within modules groupings depth) f ≡ true
+      → unfit_in (unfit_for_in language modules groupings owner depth) f ≡ unfit_in (unfit_for_in language modules groupings owner (deeper more depth)) f
+  breaks_deeper language owner zero depth f all = refl
+  breaks_deeper language owner (suc more) depth f all = breaks_deeper language owner more depth f all
+      ∙ agree_breaks (ends_within modules groupings (deeper more depth)) (unfit_for_in language modules groupings owner (deeper more depth)) (unfit_for_in language modules groupings owner (suc (deeper more depth)))
+      (unfit_deeper language owner (deeper more depth)) f (all_deeper more depth f all)
 
   -- two numbers that are both enough
-  pub same_nodes : (owner here there : ℕ) (f : Forest Part) → all_uses (ends_within modules groupings here) f ≡ true
+  pub same_nodes : (language : Language) (owner here there : ℕ) (f : Forest Part) → all_uses (ends_within modules groupings here) f ≡ true
       → all_uses (ends_within modules groupings there) f ≡ true
-      → replaced (stands_for modules groupings owner here) owner f ≡ replaced (stands_for modules groupings owner there) owner f
-  same_nodes owner here there f first second =
+      → replaced (stands_for_in language modules groupings owner here) owner f ≡ replaced (stands_for_in language modules groupings owner there) owner f
+  same_nodes language owner here there f first second =
       let same = same_depth here there in
-      nodes_deeper owner there here f first
-      ∙ (ap (λ d. replaced (stands_for modules groupings owner d) owner f) same ∙ sym (nodes_deeper owner here there f second))
+      nodes_deeper language owner there here f first
+      ∙ (ap (λ d. replaced (stands_for_in language modules groupings owner d) owner f) same ∙ sym (nodes_deeper language owner here there f second))
 
-  pub same_breaks : (owner here there : ℕ) (f : Forest Part) → all_uses (ends_within modules groupings here) f ≡ true
+  pub same_breaks : (language : Language) (owner here there : ℕ) (f : Forest Part) → all_uses (ends_within modules groupings here) f ≡ true
       → all_uses (ends_within modules groupings there) f ≡ true
-      → unfit_in (unfit_for modules groupings owner here) f ≡ unfit_in (unfit_for modules groupings owner there) f
-  same_breaks owner here there f first second =
+      → unfit_in (unfit_for_in language modules groupings owner here) f ≡ unfit_in (unfit_for_in language modules groupings owner there) f
+  same_breaks language owner here there f first second =
       let same = same_depth here there in
-      breaks_deeper owner there here f first
-      ∙ (ap (λ d. unfit_in (unfit_for modules groupings owner d) f) same ∙ sym (breaks_deeper owner here there f second))
+      breaks_deeper language owner there here f first
+      ∙ (ap (λ d. unfit_in (unfit_for_in language modules groupings owner d) f) same ∙ sym (breaks_deeper language owner here there f second))

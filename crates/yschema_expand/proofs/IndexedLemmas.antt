@@ -10,8 +10,10 @@ use Rattle.yspec.specs.Forest.{Forest, end, node, size, first_of}
 use Rattle.yspec.specs.linking.Source.{Source}
 use Rattle.yspec.specs.linking.Parts.{Part}
 use Rattle.yspec.specs.linking.Prefixes.{NodeName}
-use Rattle.yspec.specs.linking.Expansion.{is_step, may_bear}
+use Rattle.yspec.specs.linking.Expansion.{is_step}
 use Rattle.yspec.specs.linking.Planned.{same_number}
+use Rattle.yspec_wide.specs.Language.{Language}
+use Rattle.yspec_wide.specs.Expansion.{may_bear_in}
 use Rattle.ybase_preorder.specs.Layout.{Place, laid, places, seen}
 use Rattle.ybase_preorder.specs.declared.slot.Slot.{Slot}
 use Rattle.ybase_preorder.proofs.LayoutLemmas.{length-laid, length-places, length-seen}
@@ -100,16 +102,16 @@ module _ (slots : List (Slot ExpandedNode)) (first : ℕ) (earlier : List (Place
       ∙ (get_behind earlier (places parent first f) i (first + i) (ap (λ n. n + i) count) ∙ at)))) e
 
   -- the number at which it stands, where that may bear what a refine gives
-  pub fit_there : (steps : List NodeName) (given : Forest Source) (number : Option ℕ) → number ≡ option_map (λ x. x.number) (found_at steps first f)
-      → option_and_then (λ n. cond (option_map_or (λ p. may_bear p given) (part_in slots n) false) (Some n) None) number
-      ≡ fit_number given (found_at steps first f)
-  fit_there steps given number is = ap (option_and_then (λ n. cond (option_map_or (λ p. may_bear p given) (part_in slots n) false) (Some n) None)) is
+  pub fit_there : (language : Language) (steps : List NodeName) (given : Forest Source) (number : Option ℕ) → number ≡ option_map (λ x. x.number) (found_at steps first f)
+      → option_and_then (λ n. cond (option_map_or (λ p. may_bear_in language p given) (part_in slots n) false) (Some n) None) number
+      ≡ fit_number language given (found_at steps first f)
+  fit_there language steps given number is = ap (option_and_then (λ n. cond (option_map_or (λ p. may_bear_in language p given) (part_in slots n) false) (Some n) None)) is
       ∙ by (found_at steps first f) (part_there steps)
     where
       by : (o : Option Found) → ((x : Found) → o ≡ Some x → part_in slots x.number ≡ Some x.part)
-          → option_and_then (λ n. cond (option_map_or (λ p. may_bear p given) (part_in slots n) false) (Some n) None) (option_map (λ x. x.number) o) ≡ fit_number given o
+          → option_and_then (λ n. cond (option_map_or (λ p. may_bear_in language p given) (part_in slots n) false) (Some n) None) (option_map (λ x. x.number) o) ≡ fit_number language given o
       by None each = refl
-      by (Some x) each = ap (λ p. cond {A = Option ℕ} (option_map_or (λ q. may_bear q given) p false) (Some x.number) None) (each x refl)
+      by (Some x) each = ap (λ p. cond {A = Option ℕ} (option_map_or (λ q. may_bear_in language q given) p false) (Some x.number) None) (each x refl)
 
 -- ---- an index
 
@@ -223,9 +225,9 @@ index_made slots rows first x first_is before rows_are parent_is look =
 
 -- ---- and after a refine
 
-module _ (given : Forest Source) where
+module _ (language : Language) (given : Forest Source) where
   kept_child : (n m k : ℕ) (above : Option ℕ) (name : NodeName) (ps : List (Place Part))
-      → first_child above name k (drop m (changed_place n (refined_part given) ps)) ≡ first_child above name k (drop m ps)
+      → first_child above name k (drop m (changed_place n (refined_part language given) ps)) ≡ first_child above name k (drop m ps)
   kept_child n m k above name [] = refl
   kept_child zero zero k above name (p ∷ ps) = refl
   kept_child zero (suc m) k above name (p ∷ ps) = refl
@@ -233,14 +235,14 @@ module _ (given : Forest Source) where
       ap (first_of (cond (same_number above p.parent && is_step name p.label) (Some k) None)) (kept_child n zero (k + 1) above name ps)
   kept_child (suc n) (suc m) k above name (p ∷ ps) = kept_child n m k above name ps
 
-  kept_parent : (n m : ℕ) (ps : List (Place Part)) → parent_of (drop m (changed_place n (refined_part given) ps)) ≡ parent_of (drop m ps)
+  kept_parent : (n m : ℕ) (ps : List (Place Part)) → parent_of (drop m (changed_place n (refined_part language given) ps)) ≡ parent_of (drop m ps)
   kept_parent n m [] = refl
   kept_parent zero zero (p ∷ ps) = refl
   kept_parent zero (suc m) (p ∷ ps) = refl
   kept_parent (suc n) zero (p ∷ ps) = refl
   kept_parent (suc n) (suc m) (p ∷ ps) = kept_parent n m ps
 
-  pub still : (n first : ℕ) (x : TargetIndex) (ps qs : List (Place Part)) → qs ≡ changed_place n (refined_part given) ps → Indexes first x ps → Indexes first x qs
+  pub still : (n first : ℕ) (x : TargetIndex) (ps qs : List (Place Part)) → qs ≡ changed_place n (refined_part language given) ps → Indexes first x ps → Indexes first x qs
   still n first x ps qs e is = record {
     first_is = is.first_is;
     before = is.before;

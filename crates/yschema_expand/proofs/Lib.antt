@@ -1,3 +1,6 @@
+pub mod LanguageLemmas
+pub mod KeepingLemmas
+pub mod ConditionLemmas
 pub mod GroupingLemmas
 pub mod UsedLemmas
 pub mod NodeLemmas

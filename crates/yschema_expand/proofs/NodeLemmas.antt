@@ -1,21 +1,16 @@
--- What nodes state after refines.
-use Rattle.std.proofs.Common.{◌≡◌, List, [], ◌∷◌, ◌++◌, map, refl, ap, ◌∙◌}
-use Rattle.std.proofs.lemmas.List.{map-append}
-use Rattle.yspec.specs.Forest.{Forest, join}
+-- What nodes state with all that they are given.
+use Rattle.std.proofs.Common.{◌≡◌, List, [], ◌∷◌, ◌++◌, refl, ap, ◌∙◌}
+use Rattle.yspec.specs.Forest.{Forest}
 use Rattle.yspec.specs.linking.Source.{Source}
 use Rattle.yspec.specs.linking.Parts.{Part}
-use Rattle.yspec.specs.linking.Expansion.{others}
-use Rattle.yschema_expand.specs.NodeView.{stated_after, with_rows}
-use Rattle.yschema_expand.specs.TableView.{refined_part}
+use Rattle.yschema_expand.specs.NodeView.{stated_after, stated_with, with_given}
+use Rattle.yschema_expand.specs.declared.given.Given.{Given}
 
-stated_last : (own : Forest Source) (rows : List (Forest Source)) (given : Forest Source)
-    → stated_after own (rows ++ given ∷ []) ≡ join (others given (stated_after own rows)) given
-stated_last own [] given = refl
-stated_last own (r ∷ rows) given = stated_last (join (others r own) r) rows given
+stated_last : (own : Forest Source) (given : List Given) (one : Given) → stated_after own (given ++ one ∷ []) ≡ stated_with one (stated_after own given)
+stated_last own [] one = refl
+stated_last own (g ∷ given) one = stated_last (stated_with g own) given one
 
--- one more refine
-pub refined_last : {R : Type 0} (see : R → Forest Source) (rows : List R) (given : R) (p : Part)
-    → with_rows (map see (rows ++ given ∷ [])) p ≡ refined_part (see given) (with_rows (map see rows) p)
-refined_last see rows given p =
-    ap (λ (own : Forest Source). record p { own = own })
-    (ap (stated_after p.own) (map-append see rows (given ∷ [])) ∙ stated_last p.own (map see rows) (see given))
+-- one more
+pub given_last : (given : List Given) (one : Given) (p : Part) (own : Forest Source) → stated_with one (stated_after p.own given) ≡ own
+    → with_given (given ++ one ∷ []) p ≡ record p { own = own }
+given_last given one p own is = ap (λ (o : Forest Source). record p { own = o }) (stated_last p.own given one ∙ is)

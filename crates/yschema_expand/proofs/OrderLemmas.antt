@@ -5,12 +5,14 @@ use Rattle.std.specs.Option.{option_map_or}
 use Rattle.std.proofs.lemmas.Bool.Decides.{Decides-eqb}
 use Rattle.yspec.specs.Forest.{Forest, end, size}
 use Rattle.yspec.specs.linking.DerivedTypes.{number_named}
-use Rattle.yspec.specs.linking.Expansion.{Grouping, groupings_of, row_in, row_used, replaced, stands_for}
+use Rattle.yspec.specs.linking.Expansion.{Grouping, groupings_of, row_in, row_used, replaced}
 use Rattle.yspec.specs.linking.NodeCounts.{counted, count_used, counts_within}
 use Rattle.yspec.specs.linking.Parts.{Part}
 use Rattle.yspec.specs.linking.Rewriting.{all_uses, ends_within, Ends}
 use Rattle.yspec.specs.linking.Source.{Source}
-use Rattle.yspec.proofs.LinkingProofs.ExpansionLemmas.{count_is_size, count_used_is_size, counted_is_size}
+use Rattle.yspec.proofs.LinkingProofs.ExpansionLemmas.{counted_is_size}
+use Rattle.yspec_wide.specs.Expansion.{stands_for_in}
+use Rattle.yspec_wide.specs.Language.{Language, core}
 use Rattle.ybase_preorder.specs.Layout.{numbered_by}
 use Rattle.ylink_grammar.specs.declared.source.Source as held
 use Rattle.ylink_grammar.specs.SourceView.{source_view}
@@ -20,6 +22,7 @@ use Rattle.ylink_names.proofs.OrderedLemmas.{edge_named, place_of}
 use Rattle.yschema_expand.specs.Walk.{nodes_for, AllEnd}
 use Rattle.yschema_expand.proofs.CountLemmas.{counted_capped}
 use Rattle.yschema_expand.proofs.DepthLemmas.{all_deeper_to, same_nodes}
+use Rattle.yschema_expand.proofs.LanguageLemmas.{count_is_size_in, count_used_is_size_in}
 use Rattle.yschema_expand.proofs.UsedLemmas.{OnSome, are_all, are_weaker, tested, all_used}
 use Rattle.yschema_expand.proofs.WalkLemmas.{all_pass}
 
@@ -52,15 +55,15 @@ module _ (f : Forest held.Source) where
   abbrev by_table : (ℕ → ℕ) → Part → ℕ
   by_table table u = option_map_or table (number_named set u.source.number) 0
 
-  pub total_size : (owner e : ℕ) → total e ≡ size (nodes_for set owner n (row e))
-  total_size owner e = counted_is_size owner meant (stands_for set groupings owner n) (count_is_size set groupings owner n) (row e)
+  pub total_size : (language : Language) (owner e : ℕ) → total e ≡ size (nodes_for language set owner n (row e))
+  total_size language owner e = counted_is_size owner meant (stands_for_in language set groupings owner n) (count_is_size_in language set groupings owner n) (row e)
 
   -- of what a `uses` stands for
   abbrev pub used : Part → ℕ
   used = count_used set (counts_within set groupings (suc n))
 
-  used_is : (u : Part) → used u ≡ size (nodes_for set 0 n (row_used set groupings u))
-  used_is u = count_used_is_size set groupings 0 n u
+  used_is : (u : Part) → used u ≡ size (nodes_for core set 0 n (row_used set groupings u))
+  used_is u = count_used_is_size_in core set groupings 0 n u
 
   -- what a table holds of what a `uses` names is what that has, up to the bound
   pub used_capped : (table : ℕ → ℕ) (u : Part) → OnSome (number_named set u.source.number) (λ e. min (table e) many ≡ min (total e) many)
@@ -69,9 +72,9 @@ module _ (f : Forest held.Source) where
   used_capped table u are = by (number_named set u.source.number) are ∙ ap (λ k. min k many) (sym (used_is u))
     where
       by : (o : Option ℕ) → OnSome o (λ e. min (table e) many ≡ min (total e) many)
-          → min (option_map_or table o 0) many ≡ min (size (nodes_for set 0 n (option_map_or row o end))) many
+          → min (option_map_or table o 0) many ≡ min (size (nodes_for core set 0 n (option_map_or row o end))) many
       by None is = refl
-      by (Some e) is = is ∙ ap (λ k. min k many) (total_size 0 e)
+      by (Some e) is = is ∙ ap (λ k. min k many) (total_size core 0 e)
 
   -- a row counted by a table of all that are named
   pub row_capped : (table : ℕ → ℕ) → ((e : ℕ) → IsNamed set e → table e ≡ min (total e) many) → (g : Forest Part)
@@ -130,8 +133,8 @@ module _ (f : Forest held.Source) where
     total_deeper : (i : ℕ) → i < length nodes → counted used (row (get_or nodes i 0)) ≡ total (get_or nodes i 0)
     total_deeper i within =
         let own = row (get_or nodes i 0) in
-        counted_is_size 0 used (stands_for set groupings 0 (suc n)) (count_is_size set groupings 0 (suc n)) own
-        ∙ (ap size (same_nodes set groupings 0 (suc n) n own (all_pass (ends_within set groupings (suc n)) straight own) (good_there i within)) ∙ sym (total_size 0 (get_or nodes i 0)))
+        counted_is_size 0 used (stands_for_in core set groupings 0 (suc n)) (count_is_size_in core set groupings 0 (suc n)) own
+        ∙ (ap size (same_nodes set groupings core 0 (suc n) n own (all_pass (ends_within set groupings (suc n)) straight own) (good_there i within)) ∙ sym (total_size core 0 (get_or nodes i 0)))
 
     counted_own : (table : ℕ → ℕ) (i : ℕ) → AreCounted nodes table i → i < length nodes
         → min (counted (by_table table) (row (get_or nodes i 0))) many ≡ min (total (get_or nodes i 0)) many

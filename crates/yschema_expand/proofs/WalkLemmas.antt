@@ -6,10 +6,11 @@ use Rattle.yspec.specs.Forest.{Forest, node, end, size, join}
 use Rattle.yspec.specs.linking.Keyword.{Keyword, same_keyword, case_word, uses_word, refine_word}
 use Rattle.yspec.specs.linking.Source.{Source, is_source_of}
 use Rattle.yspec.specs.linking.Parts.{Part, defines_node, own_of, part_of, as_cases, case_for, within}
-use Rattle.yspec.specs.linking.Expansion.{is_uses, laid, owned_by, replaced, unfit_in, stands_for, unfit_for, groupings_of, row_used, is_refine, is_fit, refine_steps, changed_at, overridden, after_refine, refined, refine_breaks}
+use Rattle.yspec.specs.linking.Expansion.{is_uses, laid, owned_by, replaced, unfit_in, groupings_of, row_used, is_refine, refine_steps, changed_at}
 use Rattle.yspec.specs.linking.Rewriting.{all_uses, ends_within}
 use Rattle.yspec.specs.schema.Breaks.{Break, broken, when, least_from}
 use Rattle.yspec.proofs.SchemaProofs.LeastLemmas.{least_of_both}
+use Rattle.yspec_wide.specs.Language.{Language}
 use Rattle.ybase_preorder.specs.Layout.{Place, places, opened, closed}
 use Rattle.ybase_preorder.specs.Layout.{numbered_by, forest_of}
 use Rattle.ybase_preorder.specs.Layout as layout
@@ -25,6 +26,8 @@ use Rattle.yschema_expand.specs.declared.expanding.Made.{Made}
 use Rattle.yschema_expand.specs.NodeView.{numbered_part, part_view}
 use Rattle.yschema_expand.specs.TableView.{slots_of, parts_in}
 use Rattle.yspec.proofs.LinkingProofs.KeywordLemmas.{same_is}
+use Rattle.yspec_wide.specs.Expansion.{conditioned, stands_for_in, unfit_for_in, is_fit_in, overridden_in, after_refine_in, refined_in, refine_breaks_in}
+use Rattle.yschema_expand.specs.Tasks.{changed_by}
 use Rattle.yschema_expand.specs.Walk.{chosen, is_laid, nodes_for, breaks_for, AllEnd, Adds, AddsParts}
 
 no_refine : (s : Source) → defines_node s.keyword ≡ true → is_refine s ≡ false
@@ -210,18 +213,18 @@ adds_none parent f bs m none untold = (
 
 -- ---- what comes of a row
 
-module _ (modules : Forest Source) (owner depth : ℕ) where
+module _ (language : Language) (modules : Forest Source) (owner depth : ℕ) where
   abbrev nodes : Forest Part → Forest Part
-  nodes = nodes_for modules owner depth
+  nodes = nodes_for language modules owner depth
 
   abbrev breaks : Forest Part → List Break
-  breaks = breaks_for modules owner depth
+  breaks = breaks_for language modules owner depth
 
   pub nodes_join : (f g : Forest Part) → nodes (join f g) ≡ join (nodes f) (nodes g)
-  nodes_join = replaced_join (stands_for modules (groupings_of modules) owner depth) owner
+  nodes_join = replaced_join (stands_for_in language modules (groupings_of modules) owner depth) owner
 
   pub breaks_join : (f g : Forest Part) → breaks (join f g) ≡ breaks f ++ breaks g
-  breaks_join = unfit_join (unfit_for modules (groupings_of modules) owner depth)
+  breaks_join = unfit_join (unfit_for_in language modules (groupings_of modules) owner depth)
 
   pub nodes_none : nodes end ≡ end
   unfolding replaced
@@ -233,33 +236,33 @@ module _ (modules : Forest Source) (owner depth : ℕ) where
 
   pub nodes_node : (p : Part) (below : Forest Part) → is_uses p ≡ false → nodes (node p below end) ≡ node (owned_by owner p) (nodes below) end
   unfolding replaced
-  nodes_node p below other = ap (λ b. cond b (join (stands_for modules (groupings_of modules) owner depth p) end) (node (owned_by owner p) (nodes below) end)) other
+  nodes_node p below other = ap (λ b. cond b (join (stands_for_in language modules (groupings_of modules) owner depth p) end) (node (owned_by owner p) (nodes below) end)) other
 
   pub breaks_node : (p : Part) (below : Forest Part) → is_uses p ≡ false → breaks (node p below end) ≡ breaks below
   unfolding unfit_in
-  breaks_node p below other = ap (λ b. cond b (unfit_for modules (groupings_of modules) owner depth p) (breaks below) ++ []) other ∙ append-nil (breaks below)
+  breaks_node p below other = ap (λ b. cond b (unfit_for_in language modules (groupings_of modules) owner depth p) (breaks below) ++ []) other ∙ append-nil (breaks below)
 
   join_end : (f : Forest Part) → join f end ≡ f
   join_end end = refl
   join_end (node p x y) = ap (node p x) (join_end y)
 
-  pub nodes_uses : (p : Part) → is_uses p ≡ true → nodes (node p end end) ≡ stands_for modules (groupings_of modules) owner depth p
+  pub nodes_uses : (p : Part) → is_uses p ≡ true → nodes (node p end end) ≡ stands_for_in language modules (groupings_of modules) owner depth p
   unfolding replaced
-  nodes_uses p is = ap (λ b. cond b (join (stands_for modules (groupings_of modules) owner depth p) end) (node (owned_by owner p) end end)) is
-      ∙ join_end (stands_for modules (groupings_of modules) owner depth p)
+  nodes_uses p is = ap (λ b. cond b (join (stands_for_in language modules (groupings_of modules) owner depth p) end) (node (owned_by owner p) end end)) is
+      ∙ join_end (stands_for_in language modules (groupings_of modules) owner depth p)
 
-  pub breaks_uses : (p : Part) → is_uses p ≡ true → breaks (node p end end) ≡ unfit_for modules (groupings_of modules) owner depth p
+  pub breaks_uses : (p : Part) → is_uses p ≡ true → breaks (node p end end) ≡ unfit_for_in language modules (groupings_of modules) owner depth p
   unfolding unfit_in
-  breaks_uses p is = ap (λ b. cond b (unfit_for modules (groupings_of modules) owner depth p) [] ++ []) is
-      ∙ append-nil (unfit_for modules (groupings_of modules) owner depth p)
+  breaks_uses p is = ap (λ b. cond b (unfit_for_in language modules (groupings_of modules) owner depth p) [] ++ []) is
+      ∙ append-nil (unfit_for_in language modules (groupings_of modules) owner depth p)
 
   -- ---- as it is added
 
-  pub adds_nothing : (parent : Option ℕ) (parts : Forest Part) (m : Made) → parts ≡ end → AddsParts modules parent owner depth parts m m
+  pub adds_nothing : (parent : Option ℕ) (parts : Forest Part) (m : Made) → parts ≡ end → AddsParts language modules parent owner depth parts m m
   adds_nothing parent parts m none = adds_none parent (nodes parts) (breaks parts) m (ap nodes none ∙ nodes_none) (ap breaks none ∙ breaks_none)
 
-  pub adds_both : (parent : Option ℕ) (f g : Forest Part) (a b c : Made) → AddsParts modules parent owner depth f a b → AddsParts modules parent owner depth g b c
-      → AddsParts modules parent owner depth (join f g) a c
+  pub adds_both : (parent : Option ℕ) (f g : Forest Part) (a b c : Made) → AddsParts language modules parent owner depth f a b → AddsParts language modules parent owner depth g b c
+      → AddsParts language modules parent owner depth (join f g) a c
   adds_both parent f g a b c first second =
       let both = adds_join parent (nodes f) (nodes g) (breaks f) (breaks g) a b c first second in (
         both.0 ∙ ap (λ h. parts_in a.table ++ places parent (length (slots_of a.table)) h) (sym (nodes_join f g)),
@@ -270,9 +273,9 @@ module _ (modules : Forest Source) (owner depth : ℕ) where
   pub adds_node : (parent : Option ℕ) (p : Part) (below : Forest Part) (l : ExpandedNode) (n : ℕ) (old mid full new : Made) → is_uses p ≡ false
       → part_view l ≡ owned_by owner p
       → layout.laid (slots_of mid.table) ≡ layout.laid (slots_of old.table) ++ opened parent l ∷ [] → n ≡ length (slots_of old.table) → mid.told ≡ old.told
-      → AddsParts modules (Some n) owner depth below mid full
+      → AddsParts language modules (Some n) owner depth below mid full
       → layout.laid (slots_of new.table) ≡ closed n (layout.laid (slots_of full.table)) → new.told ≡ full.told
-      → AddsParts modules parent owner depth (node p below end) old new
+      → AddsParts language modules parent owner depth (node p below end) old new
   adds_node parent p below l n old mid full new other label mid_is n_is mid_told full_is new_is new_told =
       let k = length (slots_of old.table) in
       let inner = nodes below in (
@@ -284,8 +287,9 @@ module _ (modules : Forest Source) (owner depth : ℕ) where
         ap seen new_told ∙ (full_is.1 ∙ (ap (λ o. least_from (seen o) (breaks below)) mid_told ∙ ap (least_from (seen old.told)) (sym (breaks_node p below other)))),
       )
 
-  -- ---- and no `uses` leads over too many
+-- ---- and no `uses` leads over too many
 
+module _ (modules : Forest Source) (owner depth : ℕ) where
   pub ends_join : (f g : Forest Part) → AllEnd modules depth (join f g) → AllEnd modules depth f × AllEnd modules depth g
   ends_join = all_join (ends_within modules (groupings_of modules) depth)
 
@@ -303,52 +307,53 @@ module _ (modules : Forest Source) (owner depth : ℕ) where
 
 -- ---- what a `uses` stands for
 
-module _ (modules : Forest Source) (owner : ℕ) where
-  own_refined : (below : Forest Source) (f : Forest Part) → refined modules owner (own_of below) f ≡ refined modules owner below f
-  unfolding refined
+module _ (language : Language) (modules : Forest Source) (owner : ℕ) where
+  own_refined : (below : Forest Source) (f : Forest Part) → refined_in language modules owner (own_of below) f ≡ refined_in language modules owner below f
+  unfolding refined_in
   own_refined end f = refl
-  own_refined (node s given after) f = by (defines_node s.keyword) refl (own_refined after f) (own_refined after (after_refine modules owner s given f))
+  own_refined (node s given after) f = by (defines_node s.keyword) refl (own_refined after f) (own_refined after (after_refine_in language modules owner s given f))
     where
-      by : (d : Bool) → defines_node s.keyword ≡ d → refined modules owner (own_of after) f ≡ refined modules owner after f
-          → refined modules owner (own_of after) (after_refine modules owner s given f) ≡ refined modules owner after (after_refine modules owner s given f)
-          → refined modules owner (cond d (own_of after) (node s given (own_of after))) f ≡ refined modules owner after (after_refine modules owner s given f)
-      by true is plain changed = plain ∙ ap (refined modules owner after) (sym (ap (λ b. cond (b && is_fit modules owner s given f) (changed_at (refine_steps modules owner s) (overridden given) f) f) (no_refine s is)))
+      by : (d : Bool) → defines_node s.keyword ≡ d → refined_in language modules owner (own_of after) f ≡ refined_in language modules owner after f
+          → refined_in language modules owner (own_of after) (after_refine_in language modules owner s given f) ≡ refined_in language modules owner after (after_refine_in language modules owner s given f)
+          → refined_in language modules owner (cond d (own_of after) (node s given (own_of after))) f ≡ refined_in language modules owner after (after_refine_in language modules owner s given f)
+      by true is plain changed = plain ∙ ap (refined_in language modules owner after) (sym (ap (λ b. cond (b && is_fit_in language modules owner s given f) (changed_at (refine_steps modules owner s) (overridden_in language given) f) f) (no_refine s is)))
       by false is plain changed = changed
 
-  own_told : (below : Forest Source) (f : Forest Part) → refine_breaks modules owner (own_of below) f ≡ refine_breaks modules owner below f
+  own_told : (below : Forest Source) (f : Forest Part) → refine_breaks_in language modules owner (own_of below) f ≡ refine_breaks_in language modules owner below f
   own_told end f = refl
-  own_told (node s given after) f = by (defines_node s.keyword) refl (own_told after f) (own_told after (after_refine modules owner s given f))
+  own_told (node s given after) f = by (defines_node s.keyword) refl (own_told after f) (own_told after (after_refine_in language modules owner s given f))
     where
-      by : (d : Bool) → defines_node s.keyword ≡ d → refine_breaks modules owner (own_of after) f ≡ refine_breaks modules owner after f
-          → refine_breaks modules owner (own_of after) (after_refine modules owner s given f) ≡ refine_breaks modules owner after (after_refine modules owner s given f)
-          → refine_breaks modules owner (cond d (own_of after) (node s given (own_of after))) f ≡ refine_breaks modules owner (node s given after) f
+      by : (d : Bool) → defines_node s.keyword ≡ d → refine_breaks_in language modules owner (own_of after) f ≡ refine_breaks_in language modules owner after f
+          → refine_breaks_in language modules owner (own_of after) (after_refine_in language modules owner s given f) ≡ refine_breaks_in language modules owner after (after_refine_in language modules owner s given f)
+          → refine_breaks_in language modules owner (cond d (own_of after) (node s given (own_of after))) f ≡ refine_breaks_in language modules owner (node s given after) f
       by true is plain changed = plain
-          ∙ (ap (refine_breaks modules owner after) (sym (ap (λ b. cond (b && is_fit modules owner s given f) (changed_at (refine_steps modules owner s) (overridden given) f) f) (no_refine s is)))
-          ∙ sym (ap (λ b. when (b && not (is_fit modules owner s given f)) (broken 14 s.home s.statement.line) ++ refine_breaks modules owner after (after_refine modules owner s given f)) (no_refine s is)))
-      by false is plain changed = ap (λ rest. when (is_refine s && not (is_fit modules owner s given f)) (broken 14 s.home s.statement.line) ++ rest) changed
+          ∙ (ap (refine_breaks_in language modules owner after) (sym (ap (λ b. cond (b && is_fit_in language modules owner s given f) (changed_at (refine_steps modules owner s) (overridden_in language given) f) f) (no_refine s is)))
+          ∙ sym (ap (λ b. when (b && not (is_fit_in language modules owner s given f)) (broken 14 s.home s.statement.line) ++ refine_breaks_in language modules owner after (after_refine_in language modules owner s given f)) (no_refine s is)))
+      by false is plain changed = ap (λ rest. when (is_refine s && not (is_fit_in language modules owner s given f)) (broken 14 s.home s.statement.line) ++ rest) changed
 
   module _ (s : Source) (below : Forest Source) where
     abbrev u : Part
     u = part_of s below
 
     abbrev inner : ℕ → Forest Part
-    inner depth = nodes_for modules owner depth (row_used modules (groupings_of modules) u)
+    inner depth = nodes_for language modules owner depth (row_used modules (groupings_of modules) u)
 
-    pub stands_so : (depth : ℕ) → (depth ≡ 0 → ⊥) → stands_for modules (groupings_of modules) owner depth u ≡ refined modules owner below (inner (depth - 1))
-    unfolding stands_for
+    pub stands_so : (depth : ℕ) → (depth ≡ 0 → ⊥)
+        → stands_for_in language modules (groupings_of modules) owner depth u ≡ changed_by language modules owner below (inner (depth - 1))
+    unfolding stands_for_in
     stands_so zero some = absurd (some refl)
     stands_so (suc depth) some =
         let less : suc depth - 1 ≡ depth = omega arith in
-        own_refined below (inner depth) ∙ ap (λ n. refined modules owner below (inner n)) (sym less)
+        ap (conditioned language u.own) (own_refined below (inner depth)) ∙ ap (λ n. changed_by language modules owner below (inner n)) (sym less)
 
-    pub unfit_so : (depth : ℕ) → (depth ≡ 0 → ⊥) → unfit_for modules (groupings_of modules) owner depth u
-        ≡ breaks_for modules owner (depth - 1) (row_used modules (groupings_of modules) u) ++ refine_breaks modules owner below (inner (depth - 1))
-    unfolding unfit_for
+    pub unfit_so : (depth : ℕ) → (depth ≡ 0 → ⊥) → unfit_for_in language modules (groupings_of modules) owner depth u
+        ≡ breaks_for language modules owner (depth - 1) (row_used modules (groupings_of modules) u) ++ refine_breaks_in language modules owner below (inner (depth - 1))
+    unfolding unfit_for_in
     unfit_so zero some = absurd (some refl)
     unfit_so (suc depth) some =
         let less : suc depth - 1 ≡ depth = omega arith in
-        ap (λ bs. breaks_for modules owner depth (row_used modules (groupings_of modules) u) ++ bs) (own_told below (inner depth))
-        ∙ ap (λ n. breaks_for modules owner n (row_used modules (groupings_of modules) u) ++ refine_breaks modules owner below (inner n)) (sym less)
+        ap (λ bs. breaks_for language modules owner depth (row_used modules (groupings_of modules) u) ++ bs) (own_told below (inner depth))
+        ∙ ap (λ n. breaks_for language modules owner n (row_used modules (groupings_of modules) u) ++ refine_breaks_in language modules owner below (inner n)) (sym less)
 
 pub ends_so : (modules : Forest Source) (u : Part) (depth : ℕ) → ends_within modules (groupings_of modules) depth u ≡ true
     → (depth ≡ 0 → ⊥) × AllEnd modules (depth - 1) (row_used modules (groupings_of modules) u)

@@ -8,6 +8,7 @@ use Rattle.yspec.specs.linking.Expansion.{groupings_of, row_in}
 use Rattle.yspec.specs.linking.NodeCounts.{GroupingCount, counted, count_used, counts_within}
 use Rattle.yspec.specs.linking.Rewriting.{Ends}
 use Rattle.yspec.specs.schema.Breaks.{Break, least_from}
+use Rattle.yspec_wide.specs.Language.{Language}
 use Rattle.ylink_names.specs.Ordered.{IsNamed}
 use Rattle.yschema_expand.specs.NamedView.{row_named}
 use Rattle.yschema_expand.specs.Walk.{nodes_for, breaks_for, AllEnd}
@@ -33,20 +34,20 @@ AreCounts counts modules = (e : ℕ) → IsNamed modules e → count_at counts e
     ≡ min (counted (count_used modules (counts_within modules (groupings_of modules) (size modules))) (row_in (groupings_of modules) e)) many
 
 -- and which refine is told in each that has none
-abbrev pub AreRefines : List (Option BrokenRule) → Forest Source → Type 0
-AreRefines refines modules = (e owner : ℕ) → IsNamed modules e
+abbrev pub AreRefines : List (Option BrokenRule) → Language → Forest Source → Type 0
+AreRefines refines language modules = (e owner : ℕ) → IsNamed modules e
     → counted (count_used modules (counts_within modules (groupings_of modules) (size modules))) (row_in (groupings_of modules) e) ≡ 0
-    → refine_at refines e ≡ least_from None (breaks_for modules owner (size modules) (row_in (groupings_of modules) e))
+    → refine_at refines e ≡ least_from None (breaks_for language modules owner (size modules) (row_in (groupings_of modules) e))
 
 -- Where a grouping has no nodes, none come of it, and the refines in it are known.
-abbrev pub KnowsEmpty : Groupings → Forest Source → Type 0
-KnowsEmpty g modules = (number owner depth : ℕ) → count_named g modules number ≡ 0 → AllEnd modules depth (row_named modules number)
-    → (nodes_for modules owner depth (row_named modules number) ≡ end)
-    × (refine_named g modules number ≡ least_from None (breaks_for modules owner depth (row_named modules number)))
+abbrev pub KnowsEmpty : Groupings → Language → Forest Source → Type 0
+KnowsEmpty g language modules = (number owner depth : ℕ) → count_named g modules number ≡ 0 → AllEnd modules depth (row_named modules number)
+    → (nodes_for language modules owner depth (row_named modules number) ≡ end)
+    × (refine_named g modules number ≡ least_from None (breaks_for language modules owner depth (row_named modules number)))
 
 -- No grouping leads to itself.
 abbrev pub AreStraight : Forest Source → Type 0
 AreStraight modules = Ends modules (groupings_of modules) (suc (size modules))
 
-abbrev pub Knows : Groupings → Forest Source → Type 0
-Knows g modules = AreStraight modules × KnowsEmpty g modules
+abbrev pub Knows : Groupings → Language → Forest Source → Type 0
+Knows g language modules = AreStraight modules × KnowsEmpty g language modules

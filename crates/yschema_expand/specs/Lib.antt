@@ -1,4 +1,5 @@
 pub mod NamedView
+pub mod Keeping
 pub mod AugmentView
 pub mod Bodies
 pub mod NodeView

@@ -8,10 +8,16 @@ use Rattle.yspec.specs.linking.DerivedTypes.{number_named}
 use Rattle.yspec.specs.linking.Expansion.{groupings_of, row_in}
 use Rattle.ybase_preorder.specs.View.{row_by}
 use Rattle.ybase_preorder.specs.declared.siblings.Siblings.{Siblings}
+use Rattle.yspec_wide.specs.Language.{Language}
+use Rattle.ylink_grammar.specs.LanguageView.{language_view}
 use Rattle.ylink_grammar.specs.LinkView.{view}
 use Rattle.ylink_grammar.specs.SourceView.{source_view}
 use Rattle.ylink_grammar.specs.declared.source.Source as held
 use Rattle.yschema_expand.specs.declared.named.Named.{Named}
+
+-- the language in which they are read
+abbrev pub language_of : Named → Language
+language_of n = language_view n.language.now
 
 abbrev pub modules_of : Named → Forest Source
 modules_of n = view n.sources.now

@@ -4,7 +4,9 @@ use Rattle.yspec.specs.Forest.{Forest, end, node, size}
 use Rattle.yspec.specs.linking.Source.{Source}
 use Rattle.yspec.specs.linking.Parts.{Part}
 use Rattle.yspec.specs.linking.Prefixes.{NodeName}
-use Rattle.yspec.specs.linking.Expansion.{is_step, may_bear, refine_steps}
+use Rattle.yspec.specs.linking.Expansion.{is_step, refine_steps}
+use Rattle.yspec_wide.specs.Language.{Language}
+use Rattle.yspec_wide.specs.Expansion.{may_bear_in}
 use Rattle.ybase_preorder.specs.View.{row_by, label_by}
 use Rattle.ybase_preorder.specs.declared.siblings.Node.{Node}
 use Rattle.yschema_expand.specs.declared.nodes.ExpandedNode.{ExpandedNode}
@@ -37,8 +39,10 @@ found_at (step ∷ next ∷ steps) number f =
     option_and_then (λ (x : Found). found_at (next ∷ steps) (x.number + 1) x.below) (found_in (is_step step) number f)
 
 -- the number of a refine's target among some nodes, where it may bear what the refine gives
-abbrev pub fit_number : Forest Source → Option Found → Option ℕ
-fit_number given found = option_and_then (λ (x : Found). if may_bear x.part given then Some x.number else None) found
+abbrev pub fit_number : Language → Forest Source → Option Found → Option ℕ
+fit_number language given found =
+    option_and_then (λ (x : Found). if may_bear_in language x.part given then Some x.number else None) found
 
-abbrev pub target_in : Forest Source → ℕ → Source → Forest Source → ℕ → Forest Part → Option ℕ
-target_in modules owner s given number f = fit_number given (found_at (refine_steps modules owner s) number f)
+abbrev pub target_in : Language → Forest Source → ℕ → Source → Forest Source → ℕ → Forest Part → Option ℕ
+target_in language modules owner s given number f =
+    fit_number language given (found_at (refine_steps modules owner s) number f)

@@ -2,8 +2,10 @@
 use Rattle.std.specs.Prelude.{◌≡◌, ◌+◌, ℕ, zero, suc, List, if◌then◌else◌}
 use Rattle.yspec.specs.Forest.{Forest, end, node, size}
 use Rattle.yspec.specs.linking.Source.{Source}
-use Rattle.yspec.specs.linking.Parts.{Part}
-use Rattle.yspec.specs.linking.Expansion.{groupings_of, is_uses, laid, refined, refine_breaks, row_used}
+use Rattle.yspec.specs.linking.Parts.{Part, own_of}
+use Rattle.yspec.specs.linking.Expansion.{groupings_of, is_uses, laid, row_used}
+use Rattle.yspec_wide.specs.Language.{Language}
+use Rattle.yspec_wide.specs.Expansion.{conditioned, refined_in, refine_breaks_in}
 use Rattle.ybase_preorder.specs.Layout.{closed}
 use Rattle.ybase_preorder.specs.Layout as layout
 use Rattle.ybase_preorder.specs.View.{row_by, row_view}
@@ -13,23 +15,28 @@ use Rattle.yschema_expand.specs.Turns.{Leaves}
 use Rattle.yschema_expand.specs.Walk.{chosen, AddsParts, AllEnd, Changes}
 use Rattle.yschema_expand.specs.declared.expanding.Made.{Made}
 use Rattle.yschema_expand.specs.declared.walking.Task.{Task}
-use Rattle.yschema_expand.specs.declared.walking.Task.TheVariants.{Add, Close, Refine}
+use Rattle.yschema_expand.specs.declared.walking.Task.TheVariants.{Add, Close, Change}
 
-abbrev pub Does : Forest Source → Task → Made → Made → Type 0
-Does modules (Add place in_choice statements) old new =
-    AddsParts modules place.parent place.owner place.depth (chosen in_choice (laid (row_by source_view statements))) old new
-Does modules (Close number) old new =
+-- the nodes that a `uses` stands for, given those of its grouping and what it states
+abbrev pub changed_by : Language → Forest Source → ℕ → Forest Source → Forest Part → Forest Part
+changed_by language modules owner own nodes =
+    conditioned language (own_of own) (refined_in language modules owner own nodes)
+
+abbrev pub Does : Language → Forest Source → Task → Made → Made → Type 0
+Does language modules (Add place in_choice statements) old new = AddsParts language modules place.parent place.owner place.depth
+    (chosen in_choice (laid (row_by source_view statements))) old new
+Does language modules (Close number) old new =
     (layout.laid (slots_of new.table) ≡ closed number (layout.laid (slots_of old.table))) × (new.told ≡ old.told)
-Does modules (Refine owner first statements) old new = (nodes : Forest Part)
-    → Changes first nodes (refined modules owner (row_by source_view statements) nodes)
-    (refine_breaks modules owner (row_by source_view statements) nodes) old new
+Does language modules (Change owner first statements) old new = (nodes : Forest Part)
+    → Changes first nodes (changed_by language modules owner (row_by source_view statements) nodes)
+    (refine_breaks_in language modules owner (row_by source_view statements) nodes) old new
 
 -- no `uses` of a task leads over more groupings than its place has
 abbrev pub TaskEnds : Forest Source → Task → Type 0
 TaskEnds modules (Add place in_choice statements) =
     AllEnd modules place.depth (chosen in_choice (laid (row_by source_view statements)))
 TaskEnds modules (Close number) = Unit {0}
-TaskEnds modules (Refine owner first statements) = Unit {0}
+TaskEnds modules (Change owner first statements) = Unit {0}
 
 -- ---- how many tasks come of one
 
@@ -51,8 +58,8 @@ abbrev pub toll : Forest Source → Task → ℕ
 toll modules (Add place in_choice statements) =
     toll_of modules place.depth (size (row_view statements)) (chosen in_choice (laid (row_by source_view statements)))
 toll modules (Close number) = 0
-toll modules (Refine owner first statements) = 0
+toll modules (Change owner first statements) = 0
 
 -- what a step leaves behind
-abbrev pub Leads : Forest Source → (Made → Made → Type 0) → ℕ → List Task → List Task → Made → Made → Type 0
-Leads modules = Leaves (Does modules) (toll modules) (TaskEnds modules)
+abbrev pub Leads : Language → Forest Source → (Made → Made → Type 0) → ℕ → List Task → List Task → Made → Made → Type 0
+Leads language modules = Leaves (Does language modules) (toll modules) (TaskEnds modules)

@@ -4,9 +4,11 @@ use Rattle.yspec.specs.Forest.{Forest}
 use Rattle.yspec.specs.linking.Keyword.{uses_word}
 use Rattle.yspec.specs.linking.Source.{Source, is_source_of}
 use Rattle.yspec.specs.linking.Parts.{Part, as_cases, defines_node}
-use Rattle.yspec.specs.linking.Expansion.{groupings_of, replaced, stands_for, unfit_in, unfit_for}
+use Rattle.yspec.specs.linking.Expansion.{groupings_of, replaced, unfit_in}
 use Rattle.yspec.specs.linking.Rewriting.{all_uses, ends_within}
 use Rattle.yspec.specs.schema.Breaks.{Break, least_from}
+use Rattle.yspec_wide.specs.Language.{Language}
+use Rattle.yspec_wide.specs.Expansion.{stands_for_in, unfit_for_in}
 use Rattle.ybase_preorder.specs.Layout.{Place, places}
 use Rattle.ylink_grammar.specs.BreakView.{seen}
 use Rattle.yschema_expand.specs.TableView.{slots_of, parts_in}
@@ -22,11 +24,13 @@ is_laid s = defines_node s.keyword || is_source_of uses_word s
 
 -- ---- for the module that uses them, by way of so many groupings at most
 
-abbrev pub nodes_for : Forest Source → ℕ → ℕ → Forest Part → Forest Part
-nodes_for modules owner depth parts = replaced (stands_for modules (groupings_of modules) owner depth) owner parts
+abbrev pub nodes_for : Language → Forest Source → ℕ → ℕ → Forest Part → Forest Part
+nodes_for language modules owner depth parts =
+    replaced (stands_for_in language modules (groupings_of modules) owner depth) owner parts
 
-abbrev pub breaks_for : Forest Source → ℕ → ℕ → Forest Part → List Break
-breaks_for modules owner depth parts = unfit_in (unfit_for modules (groupings_of modules) owner depth) parts
+abbrev pub breaks_for : Language → Forest Source → ℕ → ℕ → Forest Part → List Break
+breaks_for language modules owner depth parts =
+    unfit_in (unfit_for_in language modules (groupings_of modules) owner depth) parts
 
 -- no `uses` leads over more
 abbrev pub AllEnd : Forest Source → ℕ → Forest Part → Type 0
@@ -40,9 +44,9 @@ Adds parent nodes breaks old new =
     (parts_in new.table ≡ parts_in old.table ++ places parent (length (slots_of old.table)) nodes)
     × (seen new.told ≡ least_from (seen old.told) breaks)
 
-abbrev pub AddsParts : Forest Source → Option ℕ → ℕ → ℕ → Forest Part → Made → Made → Type 0
-AddsParts modules parent owner depth parts =
-    Adds parent (nodes_for modules owner depth parts) (breaks_for modules owner depth parts)
+abbrev pub AddsParts : Language → Forest Source → Option ℕ → ℕ → ℕ → Forest Part → Made → Made → Type 0
+AddsParts language modules parent owner depth parts =
+    Adds parent (nodes_for language modules owner depth parts) (breaks_for language modules owner depth parts)
 
 -- Where some nodes are the last ones of a table, from a number on, they become others, and the least of some breaks is told.
 abbrev pub Changes : ℕ → Forest Part → Forest Part → List Break → Made → Made → Type 0

@@ -1,11 +1,11 @@
 //! How `uses` are replaced by the nodes of their groupings (RFC 7950, 7.13).
 
 ghost use Rattle.std.specs.Prelude.{◌≡◌, IfOk, None};
-ghost use Rattle.yspec.specs.linking.Expansion.{expanded_parts, unfit_breaks};
+ghost use Rattle.yspec_wide.specs.Expansion.{expanded_parts_in, unfit_breaks_in};
 ghost use Rattle.yspec.specs.schema.Breaks.{least_from};
 ghost use Rattle.ybase_preorder.specs.Layout.{places};
 ghost use Rattle.ylink_grammar.specs.BreakView.{seen};
-ghost use Rattle.yschema_expand.specs.NamedView.{modules_of};
+ghost use Rattle.yschema_expand.specs.NamedView.{language_of, modules_of};
 ghost use Rattle.yschema_expand.specs.TableView.{parts_in};
 ghost use Rattle.yschema_expand.specs.Knowing.{Knows};
 
@@ -41,17 +41,18 @@ pub(crate) struct Place {
     pub depth: usize,
 }
 
-/// The nodes that all modules define, each `uses` replaced, and the least of the refines that aren't fit.
+/// The nodes that all modules define, each `uses` replaced and its conditions asked of what it brings, and the least of the
+/// refines that aren't fit.
 pub fn expanded<'a, 't>(
     alloc: Global,
     named: &'a Named<'a, 't>,
     groupings: &'a Groupings,
 ) -> Result<Made<'a, 't>, AllocError>
-    requires { Knows groupings.now (modules_of named.now) }
+    requires { Knows groupings.now (language_of named.now) (modules_of named.now) }
     ensures nodes { IfOk result (λ made. parts_in made.table
-        ≡ places None 0 (expanded_parts (modules_of named.entry.now))) }
+        ≡ places None 0 (expanded_parts_in (language_of named.entry.now) (modules_of named.entry.now))) }
     ensures told { IfOk result (λ made. seen made.told
-        ≡ least_from None (unfit_breaks (modules_of named.entry.now))) }
+        ≡ least_from None (unfit_breaks_in (language_of named.entry.now) (modules_of named.entry.now))) }
 {
     let context = Context { named, groupings };
     let sources = named.sources();

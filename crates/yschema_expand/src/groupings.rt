@@ -13,7 +13,7 @@ ghost use Rattle.ylink_grammar.specs.SourceView.{source_view};
 ghost use Rattle.yschema_expand.specs.Counting.{count_at, count_by, many, refine_at, refine_by, told_list, top_refines};
 ghost use Rattle.yschema_expand.specs.Knowing.{AreCounts, AreRefines};
 ghost use Rattle.ylink_names.specs.Ordered.{AreInOrder};
-ghost use Rattle.yschema_expand.specs.NamedView.{modules_of};
+ghost use Rattle.yschema_expand.specs.NamedView.{language_of, modules_of};
 
 use crate::counting::{capped, count_at, count_nodes};
 use crate::named::Named;
@@ -201,7 +201,7 @@ fn refines_of(
 ) -> Result<Vec<Option<BrokenRule>>, AllocError>
     requires order { AreInOrder order.now (modules_of named.now) }
     requires counts { AreCounts counts.now (modules_of named.now) }
-    ensures { IfOk result (λ refines. AreRefines refines.items (modules_of named.now)) }
+    ensures { IfOk result (λ refines. AreRefines refines.items (language_of named.now) (modules_of named.now)) }
 {
     let mut refines = none_told(alloc, named.sources().slots().len())?;
     for number in order {
@@ -221,7 +221,7 @@ impl Groupings {
     ghost use Rattle.yspec.specs.linking.Augments.{augments_of};
     ghost use Rattle.yspec.specs.linking.NodeCounts.{counted, counted_from, counted_in, node_count};
     ghost use Rattle.ylink_grammar.specs.BreakView.{seen};
-    ghost use Rattle.yschema_expand.specs.NamedView.{modules_of};
+    ghost use Rattle.yschema_expand.specs.NamedView.{language_of, modules_of};
     ghost use Rattle.yschema_expand.specs.Counting.{count_at, count_by, many, refine_at};
     ghost use Rattle.yschema_expand.specs.AugmentView.{augments_seen};
     ghost use Rattle.yschema_expand.specs.Knowing.{all_counts, count_named, refine_named, AreCounts, Knows};
@@ -234,7 +234,7 @@ impl Groupings {
         order: &[usize],
     ) -> Result<Groupings, AllocError>
         requires { AreInOrder order.now (modules_of named.now) }
-        ensures knows { IfOk result (λ g. Knows g (modules_of named.now)) }
+        ensures knows { IfOk result (λ g. Knows g (language_of named.now) (modules_of named.now)) }
         ensures counts { IfOk result (λ g. AreCounts g.counts.items (modules_of named.now)) }
     {
         let counts = counts_of(alloc, named, order)?;

@@ -3,8 +3,10 @@
 
 mod augments;
 mod bodies;
+mod conditions;
 mod counting;
 mod expanding;
+mod given;
 mod groupings;
 mod indexing;
 mod laying;

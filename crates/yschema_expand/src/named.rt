@@ -6,12 +6,13 @@ ghost use Rattle.ylink_names.specs.PrefixView.{IsOf};
 
 use ybase_preorder::Siblings;
 use ybase_words::Keyword;
-use ylink_grammar::{Source, Sources};
+use ylink_grammar::{Language, Source, Sources};
 use ylink_names::{Prefixes, meaning_at};
 
-/// The statements of a set of modules, with what prefixes stand for and which definition each statement names.
+/// The statements of a set of modules in a language, with what prefixes stand for and which definition each statement names.
 #[derive(Drop)]
 pub struct Named<'a, 't> {
+    language: &'a Language,
     sources: &'a Sources<'t>,
     prefixes: &'a Prefixes<'t>,
     meanings: &'a [Option<u32>],
@@ -25,26 +26,37 @@ impl<'a, 't> Named<'a, 't> {
     ghost use Rattle.yspec.specs.linking.DerivedTypes.{number_named};
     ghost use Rattle.yspec.specs.linking.Expansion.{groupings_of, laid, row_in};
     ghost use Rattle.ybase_preorder.specs.View.{row_view};
+    ghost use Rattle.ylink_grammar.specs.LanguageView.{language_view};
     ghost use Rattle.ylink_grammar.specs.LinkView.{view};
     ghost use Rattle.ylink_names.specs.MeaningView.{AreMeanings};
     ghost use Rattle.ylink_names.specs.PrefixView.{IsOf};
-    ghost use Rattle.yschema_expand.specs.NamedView.{modules_of, row_named, row_or_none};
+    ghost use Rattle.yschema_expand.specs.NamedView.{language_of, modules_of, row_named, row_or_none};
 
-    /// Those of a set, given what names in it mean.
+    /// Those of a set, given the language and what names in it mean.
     pub fn new(
+        language: &'a Language,
         sources: &'a Sources<'t>,
         prefixes: &'a Prefixes<'t>,
         meanings: &'a [Option<u32>],
     ) -> Named<'a, 't>
         requires prefixed { IsOf prefixes.now (view sources.now) }
         requires meant { AreMeanings meanings.now (view sources.now) }
-        ensures { modules_of result ≡ view sources.entry.now }
+        ensures language { language_of result ≡ language_view language.entry.now }
+        ensures modules { modules_of result ≡ view sources.entry.now }
     {
         Named {
+            language,
             sources,
             prefixes,
             meanings,
         }
+    }
+
+    /// The language in which they are read.
+    pub fn language(&self) -> &'a Language
+        ensures { language_view result.now ≡ language_of self.now }
+    {
+        self.language
     }
 
     /// The statements.

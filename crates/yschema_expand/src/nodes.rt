@@ -1,15 +1,16 @@
 //! Nodes that stand for statements.
 
+use crate::given::Given;
 use std::alloc::{AllocError, Global};
 use ybase_preorder::{Node, Siblings};
 use ybase_words::Keyword;
-use ylink_grammar::{BrokenRule, CompileCode, Source, argument_of, broken};
+use ylink_grammar::{BrokenRule, CompileCode, Language, Source, argument_of, broken};
 
 /// A node that a statement defines, or the case that a single node of a choice stands for (RFC 7950, 7.9.2), where a module
 /// uses it.
 #[derive(Drop)]
 pub struct ExpandedNode<'a, 't> {
-    // Its statement, wherever it stands. What it states of the node is changed by refines.
+    // Its statement, wherever it stands. What it states of the node is changed by what the node is given.
     source: Node<'a, Source<'t>>,
     // Whether it is the case that its statement stands for, and not the node itself.
     is_implied: bool,
@@ -17,8 +18,8 @@ pub struct ExpandedNode<'a, 't> {
     owner: usize,
     // The number of the augment that put it below its target.
     added_by: Option<u32>,
-    // What refines give it, one after another.
-    pub(crate) refines: Vec<Siblings<'a, Source<'t>>>,
+    // What refines and each `uses` give it, one after another.
+    pub(crate) given: Vec<Given<'a, 't>>,
 }
 
 impl<'a, 't> ExpandedNode<'a, 't> {
@@ -28,11 +29,12 @@ impl<'a, 't> ExpandedNode<'a, 't> {
     ghost use Rattle.ylink_grammar.specs.BreakView.{break_view, code_number};
     ghost use Rattle.ybase_preorder.specs.View.{row_by, label_by};
     ghost use Rattle.ybase_words.specs.KeywordView.{keyword_view};
+    ghost use Rattle.ylink_grammar.specs.LanguageView.{language_view};
     ghost use Rattle.ylink_grammar.specs.SourceView.{source_view};
     ghost use Rattle.yspec.specs.linking.Parts.{own_of};
     ghost use Rattle.yschema_expand.specs.NamedView.{row_or_none};
     ghost use Rattle.yschema_expand.specs.NodeView.{marked_with, part_for, part_view, plain_part};
-    ghost use Rattle.yschema_expand.specs.TableView.{refined_part};
+    ghost use Rattle.yschema_expand.specs.TableView.{conditioned_part, refined_part};
 
     /// The node that a statement defines, or the case that it stands for, in a module, before refines.
     pub(crate) fn new(
@@ -49,7 +51,7 @@ impl<'a, 't> ExpandedNode<'a, 't> {
             is_implied,
             owner,
             added_by: None,
-            refines: Vec::new(alloc),
+            given: Vec::new(alloc),
         }
     }
 
@@ -61,25 +63,45 @@ impl<'a, 't> ExpandedNode<'a, 't> {
     ) -> Result<ExpandedNode<'a, 't>, AllocError>
         ensures { IfOk result (λ made. part_view made ≡ marked_with added_by (part_view self.now)) }
     {
-        let mut refines = Vec::new(alloc);
-        for given in &self.refines {
-            refines.push(*given)?;
+        let mut given = Vec::new(alloc);
+        for one in &self.given {
+            given.push(*one)?;
         }
         Ok(ExpandedNode {
             source: self.source,
             is_implied: self.is_implied,
             owner: self.owner,
             added_by: added_by.or(self.added_by),
-            refines,
+            given,
         })
     }
 
-    /// Gives it a row of statements, which take the place of its own of the same kinds.
-    pub(crate) fn refine(&mut self, given: Siblings<'a, Source<'t>>) -> Result<(), AllocError>
+    /// Gives it the statements of a refine, which take the place of its own of the same kinds; conditions come to its own.
+    pub(crate) fn refine(
+        &mut self,
+        language: &Language,
+        row: Siblings<'a, Source<'t>>,
+    ) -> Result<(), AllocError>
         ensures { OnOk result (part_view self.new
-            ≡ refined_part (row_by source_view given.entry) (part_view self.old)) }
+            ≡ refined_part (language_view language.now) (row_by source_view row.entry) (part_view self.old)) }
     {
-        self.refines.push(given)?;
+        let given = Given::of_refine(language, row)?;
+        self.given.push(given)?;
+        Ok(())
+    }
+
+    /// Asks the conditions of a row of it besides its own.
+    pub(crate) fn condition(
+        &mut self,
+        language: &Language,
+        row: Siblings<'a, Source<'t>>,
+    ) -> Result<(), AllocError>
+        ensures { OnOk result (part_view self.new
+            ≡ conditioned_part (language_view language.now) (own_of (row_by source_view row.entry))
+            (part_view self.old)) }
+    {
+        let given = Given::of_conditions(language, row)?;
+        self.given.push(given)?;
         Ok(())
     }
 

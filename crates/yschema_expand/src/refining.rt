@@ -3,12 +3,14 @@
 ghost use Rattle.std.specs.Prelude.{◌≡◌, ◌++◌, ◌&&◌, ℕ, List, Option, Some, None, IfOk, IfSome, OnOk, false, length, not, option_and_then, if◌then◌else◌};
 ghost use Rattle.std.specs.Option.{option_map_or};
 ghost use Rattle.yspec.specs.Forest.{Forest};
-ghost use Rattle.yspec.specs.linking.Expansion as spec;
+ghost use Rattle.yspec.specs.linking.Expansion.{is_refine};
+ghost use Rattle.yspec_wide.specs.Expansion as spec;
 ghost use Rattle.yspec.specs.linking.Parts.{Part};
 ghost use Rattle.yspec.specs.linking.Source as sources;
 ghost use Rattle.yspec.specs.schema.Breaks.{broken, when};
 ghost use Rattle.ybase_preorder.specs.Layout.{Place, places};
 ghost use Rattle.ybase_preorder.specs.View.{row_by, label_by};
+ghost use Rattle.ylink_grammar.specs.LanguageView.{language_view};
 ghost use Rattle.ylink_grammar.specs.SourceView.{source_view};
 ghost use Rattle.ylink_names.specs.PrefixView.{IsOf};
 ghost use Rattle.yschema_expand.specs.Indexing.{part_in, Indexes};
@@ -16,6 +18,7 @@ ghost use Rattle.yschema_expand.specs.TableView.{parts_in, slots_of};
 ghost use Rattle.yschema_expand.specs.Targets.{target_in};
 ghost use Rattle.yschema_expand.specs.Walk.{Changes};
 
+use crate::conditions::may_bear_in;
 use crate::expanding::Made;
 use crate::indexing::TargetIndex;
 use crate::table::NodeTable;
@@ -24,42 +27,57 @@ use std::alloc::{AllocError, Global};
 use ybase_preorder::{Node, Siblings};
 use ybase_words::Keyword;
 use ylink_arguments::relative_path;
-use ylink_grammar::{CompileCode, Source, argument_of, broken, least, may_bear};
+use ylink_grammar::{CompileCode, Language, Source, argument_of, broken, least};
 use ylink_names::Prefixes;
 
 /// How many statements a `uses` has at least whose refines find their targets by an index.
 const MANY: usize = 64;
 
 /// Whether the node of a number may bear what a refine gives.
-fn bears(table: &NodeTable<'_, '_>, number: u32, given: Siblings<'_, Source<'_>>) -> bool
-    ensures { result ≡ option_map_or (λ p. spec.may_bear p (row_by source_view given.entry))
-        (part_in (slots_of table.now) number) false }
+fn bears(
+    alloc: Global,
+    language: &Language,
+    table: &NodeTable<'_, '_>,
+    number: u32,
+    given: Siblings<'_, Source<'_>>,
+) -> Result<bool, AllocError>
+    ensures { let l = language_view language.now in IfOk result (λ may. may
+        ≡ option_map_or (λ p. spec.may_bear_in l p (row_by source_view given.entry))
+        (part_in (slots_of table.now) number) false) }
 {
     match table.node(number) {
-        Some(node) => may_bear(node.keyword(), given),
-        None => false,
+        Some(node) => may_bear_in(alloc, language, node.keyword(), given),
+        None => Ok(false),
     }
 }
 
 /// The number of a node, where there is one and it may bear what a refine gives.
 fn fit(
+    alloc: Global,
+    language: &Language,
     table: &NodeTable<'_, '_>,
     number: Option<u32>,
     given: Siblings<'_, Source<'_>>,
-) -> Option<u32>
-    ensures { result ≡ option_and_then (λ n. if option_map_or (λ p. spec.may_bear p
+) -> Result<Option<u32>, AllocError>
+    ensures { let l = language_view language.now in IfOk result (λ fit. fit
+        ≡ option_and_then (λ n. if option_map_or (λ p. spec.may_bear_in l p
         (row_by source_view given.entry)) (part_in (slots_of table.now) n) false
-        then Some n else None) number }
+        then Some n else None) number) }
 {
-    match number {
-        Some(number) if bears(table, number, given) => Some(number),
-        _ => None,
+    let Some(place) = number else {
+        return Ok(None);
+    };
+    if bears(alloc, language, table, place, given)? {
+        Ok(Some(place))
+    } else {
+        Ok(None)
     }
 }
 
 /// The number of a refine's target among the last nodes of a table, where it may bear what the refine gives.
 fn target_in(
     alloc: Global,
+    language: &Language,
     prefixes: &Prefixes<'_>,
     owner: usize,
     refine: Node<'_, Source<'_>>,
@@ -70,7 +88,7 @@ fn target_in(
         (modules : Forest sources.Source) (earlier : List (Place Part)) (parent : Option ℕ) (f : Forest Part)
         → IsOf prefixes.now modules → length earlier ≡ first
         → parts_in nodes.entry.table.now ≡ earlier ++ places parent first f
-        → IfOk result (λ number. number ≡ target_in modules owner
+        → IfOk result (λ number. number ≡ target_in (language_view language.now) modules owner
         (label_by source_view refine.entry) (row_by source_view refine.entry.children) first f) }
 {
     let Some(path) = relative_path(alloc, argument_of(refine))? else {
@@ -78,13 +96,14 @@ fn target_in(
     };
     let home = refine.label().home;
     let number = number_at(prefixes, home, owner, &path, nodes);
-    Ok(fit(nodes.table, number, refine.children()))
+    fit(alloc, language, nodes.table, number, refine.children())
 }
 
 /// Changes the target of a refine among the nodes from that of a number on, or tells the refine; other statements change
 /// nothing.
 fn apply<'a, 't>(
     alloc: Global,
+    language: &Language,
     prefixes: &Prefixes<'t>,
     owner: usize,
     first: u32,
@@ -95,9 +114,10 @@ fn apply<'a, 't>(
     requires { IfSome index (λ x. Indexes first x.now (parts_in made.old.table)) }
     ensures changes { let s = label_by source_view refine.entry in
         let given = row_by source_view refine.entry.children in
+        let l = language_view language.now in
         (modules : Forest sources.Source) (nodes : Forest Part) → IsOf prefixes.now modules
-        → OnOk result (Changes first nodes (spec.after_refine modules owner s given nodes)
-        (when (spec.is_refine s && not (spec.is_fit modules owner s given nodes))
+        → OnOk result (Changes first nodes (spec.after_refine_in l modules owner s given nodes)
+        (when (is_refine s && not (spec.is_fit_in l modules owner s given nodes))
         (broken 14 s.home s.statement.line)) made.old made.new) }
     ensures indexed { (x : TargetIndex) → Indexes first x (parts_in made.old.table)
         → OnOk result (Indexes first x (parts_in made.new.table)) }
@@ -111,8 +131,8 @@ fn apply<'a, 't>(
         first,
         index,
     };
-    match target_in(alloc, prefixes, owner, refine, nodes)? {
-        Some(number) => made.table.refine(number, refine.children()),
+    match target_in(alloc, language, prefixes, owner, refine, nodes)? {
+        Some(number) => made.table.refine(language, number, refine.children()),
         None => {
             let found = broken(CompileCode::C14, source.home, source.statement);
             made.told = least(made.told, found);
@@ -139,21 +159,23 @@ fn index_for<'t>(
 /// Applies the refines of a row, one after another, to the nodes from that of a number on.
 pub(crate) fn refine<'a, 't>(
     alloc: Global,
+    language: &Language,
     prefixes: &Prefixes<'t>,
     owner: usize,
     first: u32,
     statements: Siblings<'a, Source<'t>>,
     made: &mut Made<'a, 't>,
 ) -> Result<(), AllocError>
-    ensures { let own = row_by source_view statements.entry in
+    ensures { let l = language_view language.now in let own = row_by source_view statements.entry in
         (modules : Forest sources.Source) (nodes : Forest Part) → IsOf prefixes.now modules
-        → OnOk result (Changes first nodes (spec.refined modules owner own nodes)
-        (spec.refine_breaks modules owner own nodes) made.old made.new) }
+        → OnOk result (Changes first nodes (spec.refined_in l modules owner own nodes)
+        (spec.refine_breaks_in l modules owner own nodes) made.old made.new) }
 {
     let index = index_for(alloc, &made.table, first, statements)?;
     for statement in statements {
         apply(
             alloc,
+            language,
             prefixes,
             owner,
             first,

@@ -5,7 +5,7 @@ ghost use Rattle.std.specs.Prelude.{◌<◌, ◌^◌, vec_len};
 use crate::nodes::ExpandedNode;
 use std::alloc::{AllocError, Global};
 use ybase_preorder::{Siblings, Slot};
-use ylink_grammar::Source;
+use ylink_grammar::{Language, Source};
 
 /// Nodes in preorder. One is opened, then those below it, and then it is closed; refines change it afterwards.
 #[derive(Drop)]
@@ -15,13 +15,17 @@ pub struct NodeTable<'a, 't> {
 }
 
 impl<'a, 't> NodeTable<'a, 't> {
-    ghost use Rattle.std.specs.Prelude.{◌≡◌, ◌++◌, ◌∷◌, [], ◌<◌, ◌^◌, vec_len, IfOk, OnOk, length, drop, option_map, slice_get};
-    ghost use Rattle.ybase_preorder.specs.Layout.{laid, opened, closed, forest_of, numbered_by};
+    ghost use Rattle.std.specs.Prelude.{◌≡◌, ◌++◌, ◌∷◌, [], ◌<◌, ◌^◌, ℕ, List, Option, vec_len, IfOk, OnOk, length, drop, option_map, slice_get};
+    ghost use Rattle.yspec.specs.Forest.{Forest};
+    ghost use Rattle.yspec.specs.linking.Parts.{Part, own_of};
+    ghost use Rattle.yspec_wide.specs.Expansion.{conditioned};
+    ghost use Rattle.ybase_preorder.specs.Layout.{Place, laid, opened, closed, forest_of, numbered_by, places};
     ghost use Rattle.ybase_preorder.specs.View.{row_by};
+    ghost use Rattle.ylink_grammar.specs.LanguageView.{language_view};
     ghost use Rattle.ylink_grammar.specs.SourceView.{source_view};
     ghost use Rattle.yschema_expand.specs.NodeView.{numbered_part};
     ghost use Rattle.yschema_expand.specs.NumberedView.{rows_between, with_number};
-    ghost use Rattle.yschema_expand.specs.TableView.{slots_of, parts_in, nodes_in, refined_part, changed_place};
+    ghost use Rattle.yschema_expand.specs.TableView.{slots_of, parts_in, conditioned_part, nodes_in, refined_part, changed_place};
 
     /// A table without nodes.
     pub fn new(alloc: Global) -> NodeTable<'a, 't>
@@ -130,16 +134,64 @@ impl<'a, 't> NodeTable<'a, 't> {
     /// Gives the node of a number what a refine gives.
     pub(crate) fn refine(
         &mut self,
+        language: &Language,
         number: u32,
         given: Siblings<'a, Source<'t>>,
     ) -> Result<(), AllocError>
-        ensures { OnOk result (parts_in self.new
-            ≡ changed_place number (refined_part (row_by source_view given.entry))
+        ensures { OnOk result (parts_in self.new ≡ changed_place number
+            (refined_part (language_view language.now) (row_by source_view given.entry))
             (parts_in self.old)) }
     {
         match self.slots.get_mut(number as usize) {
-            Some(slot) => slot.label.refine(given),
+            Some(slot) => slot.label.refine(language, given),
             None => Ok(()),
         }
+    }
+
+    /// How many nodes stand below that of a number.
+    fn below(&self, number: usize) -> Option<usize>
+        ensures { result ≡ option_map (λ r. r.below) (slice_get (slots_of self.now) number) }
+    {
+        match self.slots.get(number) {
+            Some(slot) => Some(slot.below),
+            None => None,
+        }
+    }
+
+    /// Asks the conditions of a row of the node of a number.
+    fn condition(
+        &mut self,
+        language: &Language,
+        number: usize,
+        given: Siblings<'a, Source<'t>>,
+    ) -> Result<(), AllocError>
+        ensures { OnOk result (parts_in self.new ≡ changed_place number
+            (conditioned_part (language_view language.now) (own_of (row_by source_view given.entry)))
+            (parts_in self.old)) }
+    {
+        match self.slots.get_mut(number) {
+            Some(slot) => slot.label.condition(language, given),
+            None => Ok(()),
+        }
+    }
+
+    /// Asks the conditions of a row of the top ones among the nodes from that of a number on.
+    pub(crate) fn condition_from(
+        &mut self,
+        language: &Language,
+        first: u32,
+        given: Siblings<'a, Source<'t>>,
+    ) -> Result<(), AllocError>
+        ensures { (earlier : List (Place Part)) (parent : Option ℕ) (f : Forest Part) → length earlier ≡ first
+            → parts_in self.old ≡ earlier ++ places parent first f
+            → OnOk result (parts_in self.new ≡ earlier ++ places parent first
+            (conditioned (language_view language.now) (own_of (row_by source_view given.entry)) f)) }
+    {
+        let mut number = first as usize;
+        while let Some(below) = self.below(number) {
+            self.condition(language, number, given)?;
+            number = number.saturating_add(below).saturating_add(1);
+        }
+        Ok(())
     }
 }

@@ -2,17 +2,19 @@
 //! others as there are statements.
 
 ghost use Rattle.std.specs.Prelude.{◌≡◌, ◌+◌, OnOk, true, false};
-ghost use Rattle.yspec.specs.Forest.{end, node, size};
+ghost use Rattle.yspec.specs.Forest.{Forest, end, node, size};
 ghost use Rattle.yspec.specs.linking.Expansion.{groupings_of, is_uses, laid};
-ghost use Rattle.yspec.specs.linking.Parts.{case_for, part_of, within};
+ghost use Rattle.yspec.specs.linking.Parts.{case_for, part_of, within, Part};
 ghost use Rattle.yspec.specs.linking.Rewriting.{ends_within};
+ghost use Rattle.yspec_wide.specs.Expansion.{refine_breaks_in};
 ghost use Rattle.ybase_preorder.specs.View.{row_by, row_view, label_by};
 ghost use Rattle.ylink_grammar.specs.SourceView.{source_view};
-ghost use Rattle.yschema_expand.specs.NamedView.{modules_of, row_named};
-ghost use Rattle.yschema_expand.specs.Walk.{chosen, is_laid, AddsParts, AllEnd};
+ghost use Rattle.yschema_expand.specs.NamedView.{language_of, modules_of, row_named};
+ghost use Rattle.yschema_expand.specs.Walk.{chosen, is_laid, AddsParts, AllEnd, Changes};
 ghost use Rattle.yschema_expand.specs.Knowing.{Knows};
-ghost use Rattle.yschema_expand.specs.Tasks.{toll, toll_of, Does, Leads, TaskEnds};
+ghost use Rattle.yschema_expand.specs.Tasks.{changed_by, toll, toll_of, Does, Leads, TaskEnds};
 
+use crate::conditions::bears_condition;
 use crate::expanding::{Context, Made, Place};
 use crate::groupings::least_of;
 use crate::laying::{has_keyword, is_laid, is_single};
@@ -30,8 +32,8 @@ pub(crate) enum Task<'a, 't> {
     Add(Place, bool, Siblings<'a, Source<'t>>),
     /// To close the node of a number: all behind it stand below it.
     Close(u32),
-    /// To refine, for a module, the nodes from that of a number on.
-    Refine(usize, u32, Siblings<'a, Source<'t>>),
+    /// To change, for a module, the nodes from that of a number on, as the `uses` for which they stand says.
+    Change(usize, u32, Siblings<'a, Source<'t>>),
 }
 
 /// Adds the nodes that some statements define or use, with all below them; in a choice single ones stand for cases.
@@ -43,10 +45,10 @@ pub(crate) fn add_nodes<'a, 't>(
     statements: Siblings<'a, Source<'t>>,
     made: &mut Made<'a, 't>,
 ) -> Result<(), AllocError>
-    requires known { Knows context.now.groupings.now (modules_of context.now.named.now) }
+    requires known { Knows context.now.groupings.now (language_of context.now.named.now) (modules_of context.now.named.now) }
     requires ends { AllEnd (modules_of context.now.named.now) place.depth
         (chosen in_choice (laid (row_by source_view statements))) }
-    ensures { OnOk result (AddsParts (modules_of context.now.named.now) place.parent place.owner place.depth
+    ensures { OnOk result (AddsParts (language_of context.now.named.now) (modules_of context.now.named.now) place.parent place.owner place.depth
         (chosen in_choice (laid (row_by source_view statements.entry))) made.old made.new) }
 {
     let mut tasks = Vec::new(alloc);
@@ -65,10 +67,11 @@ fn perform<'a, 't>(
     tasks: &mut Vec<Task<'a, 't>>,
     made: &mut Made<'a, 't>,
 ) -> Result<(), AllocError>
-    requires known { Knows context.now.groupings.now (modules_of context.now.named.now) }
+    requires known { Knows context.now.groupings.now (language_of context.now.named.now) (modules_of context.now.named.now) }
     requires ends { TaskEnds (modules_of context.now.named.now) task }
-    ensures { let m = modules_of context.now.named.now in
-        OnOk result (Leads m (Does m task.entry) (toll m task.entry) tasks.old.items tasks.new.items made.old made.new) }
+    ensures { let l = language_of context.now.named.now in
+        let m = modules_of context.now.named.now in
+        OnOk result (Leads l m (Does l m task.entry) (toll m task.entry) tasks.old.items tasks.new.items made.old made.new) }
 {
     match task {
         Task::Add(place, in_choice, statements) => {
@@ -78,11 +81,35 @@ fn perform<'a, 't>(
             made.table.close(number);
             Ok(())
         }
-        Task::Refine(owner, first, statements) => {
-            let prefixes = context.named.prefixes();
-            refine(alloc, prefixes, owner, first, statements, made)
+        Task::Change(owner, first, statements) => {
+            change(alloc, context, owner, first, statements, made)
         }
     }
+}
+
+/// Changes, for a module, the nodes from that of a number on, as a `uses` says: its refines are applied, and its conditions are
+/// asked of the top ones.
+fn change<'a, 't>(
+    alloc: Global,
+    context: &Context<'a, 't>,
+    owner: usize,
+    first: u32,
+    statements: Siblings<'a, Source<'t>>,
+    made: &mut Made<'a, 't>,
+) -> Result<(), AllocError>
+    ensures { let l = language_of context.now.named.now in
+        let m = modules_of context.now.named.now in
+        let own = row_by source_view statements.entry in
+        (nodes : Forest Part) → OnOk result (Changes first nodes (changed_by l m owner own nodes)
+        (refine_breaks_in l m owner own nodes) made.old made.new) }
+{
+    let language = context.named.language();
+    let prefixes = context.named.prefixes();
+    refine(alloc, language, prefixes, owner, first, statements, made)?;
+    if !bears_condition(language, statements) {
+        return Ok(());
+    }
+    made.table.condition_from(language, first, statements)
 }
 
 /// Adds what the first of some statements defines or uses, and leaves the others behind.
@@ -95,12 +122,13 @@ fn add_first<'a, 't>(
     tasks: &mut Vec<Task<'a, 't>>,
     made: &mut Made<'a, 't>,
 ) -> Result<(), AllocError>
-    requires known { Knows context.now.groupings.now (modules_of context.now.named.now) }
+    requires known { Knows context.now.groupings.now (language_of context.now.named.now) (modules_of context.now.named.now) }
     requires ends { AllEnd (modules_of context.now.named.now) place.depth
         (chosen in_choice (laid (row_by source_view statements))) }
-    ensures { let m = modules_of context.now.named.now in
+    ensures { let l = language_of context.now.named.now in
+        let m = modules_of context.now.named.now in
         let parts = chosen in_choice (laid (row_by source_view statements.entry)) in
-        OnOk result (Leads m (AddsParts m place.parent place.owner place.depth parts)
+        OnOk result (Leads l m (AddsParts l m place.parent place.owner place.depth parts)
         (toll_of m place.depth (size (row_view statements.entry)) parts)
         tasks.old.items tasks.new.items made.old made.new) }
 {
@@ -122,13 +150,14 @@ fn add_statement<'a, 't>(
     tasks: &mut Vec<Task<'a, 't>>,
     made: &mut Made<'a, 't>,
 ) -> Result<(), AllocError>
-    requires known { Knows context.now.groupings.now (modules_of context.now.named.now) }
+    requires known { Knows context.now.groupings.now (language_of context.now.named.now) (modules_of context.now.named.now) }
     requires ends { AllEnd (modules_of context.now.named.now) place.depth (chosen in_choice
         (laid (node (label_by source_view statement) (row_by source_view statement.children) end))) }
-    ensures { let m = modules_of context.now.named.now in
+    ensures { let l = language_of context.now.named.now in
+        let m = modules_of context.now.named.now in
         let parts = chosen in_choice (laid (node (label_by source_view statement.entry)
         (row_by source_view statement.entry.children) end)) in
-        OnOk result (Leads m (AddsParts m place.parent place.owner place.depth parts)
+        OnOk result (Leads l m (AddsParts l m place.parent place.owner place.depth parts)
         (toll_of m place.depth (size (row_view statement.entry.children)) parts)
         tasks.old.items tasks.new.items made.old made.new) }
 {
@@ -150,15 +179,16 @@ fn add_case<'a, 't>(
     tasks: &mut Vec<Task<'a, 't>>,
     made: &mut Made<'a, 't>,
 ) -> Result<(), AllocError>
-    requires known { Knows context.now.groupings.now (modules_of context.now.named.now) }
+    requires known { Knows context.now.groupings.now (language_of context.now.named.now) (modules_of context.now.named.now) }
     requires laid { is_laid (label_by source_view statement) ≡ true }
     requires ends { AllEnd (modules_of context.now.named.now) place.depth
         (laid (node (label_by source_view statement) (row_by source_view statement.children) end)) }
-    ensures { let m = modules_of context.now.named.now in
+    ensures { let l = language_of context.now.named.now in
+        let m = modules_of context.now.named.now in
         let s = label_by source_view statement.entry in
         let below = row_by source_view statement.entry.children in
         let parts = node (case_for (part_of s below)) (laid (node s below end)) end in
-        OnOk result (Leads m (AddsParts m place.parent place.owner place.depth parts)
+        OnOk result (Leads l m (AddsParts l m place.parent place.owner place.depth parts)
         (toll_of m place.depth (size (row_view statement.entry.children)) parts)
         tasks.old.items tasks.new.items made.old made.new) }
 {
@@ -181,14 +211,15 @@ fn add_alone<'a, 't>(
     tasks: &mut Vec<Task<'a, 't>>,
     made: &mut Made<'a, 't>,
 ) -> Result<(), AllocError>
-    requires known { Knows context.now.groupings.now (modules_of context.now.named.now) }
+    requires known { Knows context.now.groupings.now (language_of context.now.named.now) (modules_of context.now.named.now) }
     requires laid { is_laid (label_by source_view statement) ≡ true }
     requires ends { AllEnd (modules_of context.now.named.now) place.depth
         (laid (node (label_by source_view statement) (row_by source_view statement.children) end)) }
-    ensures { let m = modules_of context.now.named.now in
+    ensures { let l = language_of context.now.named.now in
+        let m = modules_of context.now.named.now in
         let parts = laid (node (label_by source_view statement.entry)
         (row_by source_view statement.entry.children) end) in
-        OnOk result (Leads m (AddsParts m place.parent place.owner place.depth parts)
+        OnOk result (Leads l m (AddsParts l m place.parent place.owner place.depth parts)
         (toll_of m place.depth (size (row_view statement.entry.children)) parts)
         tasks.old.items tasks.new.items made.old made.new) }
 {
@@ -212,11 +243,12 @@ fn add_node<'a, 't>(
     requires ends { let s = label_by source_view statement in
         AllEnd (modules_of context.now.named.now) place.depth
         (within s (laid (row_by source_view statement.children))) }
-    ensures { let m = modules_of context.now.named.now in
+    ensures { let l = language_of context.now.named.now in
+        let m = modules_of context.now.named.now in
         let s = label_by source_view statement.entry in
         let below = row_by source_view statement.entry.children in
         let parts = node (part_of s below) (within s (laid below)) end in
-        OnOk result (Leads m (AddsParts m place.parent place.owner place.depth parts)
+        OnOk result (Leads l m (AddsParts l m place.parent place.owner place.depth parts)
         (toll_of m place.depth (size (row_view statement.entry.children)) parts)
         tasks.old.items tasks.new.items made.old made.new) }
 {
@@ -240,16 +272,17 @@ fn add_uses<'a, 't>(
     tasks: &mut Vec<Task<'a, 't>>,
     made: &mut Made<'a, 't>,
 ) -> Result<(), AllocError>
-    requires known { Knows context.now.groupings.now (modules_of context.now.named.now) }
+    requires known { Knows context.now.groupings.now (language_of context.now.named.now) (modules_of context.now.named.now) }
     requires uses { is_uses (part_of (label_by source_view uses)
         (row_by source_view uses.children)) ≡ true }
     requires ends { let m = modules_of context.now.named.now in
         ends_within m (groupings_of m) place.depth (part_of (label_by source_view uses)
         (row_by source_view uses.children)) ≡ true }
-    ensures { let m = modules_of context.now.named.now in
+    ensures { let l = language_of context.now.named.now in
+        let m = modules_of context.now.named.now in
         let parts = node (part_of (label_by source_view uses.entry)
         (row_by source_view uses.entry.children)) end end in
-        OnOk result (Leads m (AddsParts m place.parent place.owner place.depth parts)
+        OnOk result (Leads l m (AddsParts l m place.parent place.owner place.depth parts)
         (toll_of m place.depth (size (row_view uses.entry.children)) parts)
         tasks.old.items tasks.new.items made.old made.new) }
 {
@@ -261,7 +294,7 @@ fn add_uses<'a, 't>(
         ..place
     };
     let first = made.table.len();
-    tasks.push(Task::Refine(place.owner, first, uses.children()))?;
+    tasks.push(Task::Change(place.owner, first, uses.children()))?;
     add_grouping(context, inside, uses.number(), tasks, made)
 }
 
@@ -274,11 +307,12 @@ fn add_grouping<'a, 't>(
     tasks: &mut Vec<Task<'a, 't>>,
     made: &mut Made<'a, 't>,
 ) -> Result<(), AllocError>
-    requires known { Knows context.now.groupings.now (modules_of context.now.named.now) }
+    requires known { Knows context.now.groupings.now (language_of context.now.named.now) (modules_of context.now.named.now) }
     requires ends { AllEnd (modules_of context.now.named.now) place.depth
         (row_named (modules_of context.now.named.now) number) }
-    ensures { let m = modules_of context.now.named.now in
-        OnOk result (Leads m (AddsParts m place.parent place.owner place.depth (row_named m number))
+    ensures { let l = language_of context.now.named.now in
+        let m = modules_of context.now.named.now in
+        OnOk result (Leads l m (AddsParts l m place.parent place.owner place.depth (row_named m number))
         (toll_of m place.depth (size m) (row_named m number) + 1)
         tasks.old.items tasks.new.items made.old made.new) }
 {

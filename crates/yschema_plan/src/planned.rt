@@ -24,6 +24,7 @@ impl<'a, 't> Planned<'a, 't> {
     ghost use Rattle.std.specs.Prelude.{◌≡◌, [], ◌∷◌, false, option_map};
     ghost use Rattle.yspec.specs.linking.NodeBreaks.{broken_at};
     ghost use Rattle.ylink_grammar.specs.BreakView.{break_view, code_number};
+    ghost use Rattle.yspec.specs.linking.Keyword.{extension_word, same_keyword};
     ghost use Rattle.yspec.specs.linking.Parts.{defines_node};
     ghost use Rattle.yspec.specs.linking.Planned as spec;
     ghost use Rattle.yspec.specs.linking.Source as sources;
@@ -50,18 +51,21 @@ impl<'a, 't> Planned<'a, 't> {
         planned
     }
 
-    /// The first of its own statements with a keyword, which is none of those that define nodes.
+    /// The first of its own statements with a keyword, which is none of those that define nodes, nor that
+    /// of conditions.
     pub fn first_own(&self, keyword: Keyword) -> Option<Node<'a, Source<'t>>>
-        requires { defines_node (keyword_view keyword) ≡ false }
+        requires node { defines_node (keyword_view keyword) ≡ false }
+        requires condition { same_keyword extension_word (keyword_view keyword) ≡ false }
         ensures { option_map node_view result
             ≡ sources.found_with (keyword_view keyword) (part_at self.now).own }
     {
         self.node.first_own(keyword)
     }
 
-    /// Its own statements with a keyword, which is none of those that define nodes, in order.
+    /// Its own statements with a keyword, which is none of those that define nodes, nor that of conditions, in order.
     pub fn own_with(&self, keyword: Keyword) -> OwnStatements<'a, 't>
-        requires { defines_node (keyword_view keyword) ≡ false }
+        requires node { defines_node (keyword_view keyword) ≡ false }
+        requires condition { same_keyword extension_word (keyword_view keyword) ≡ false }
         ensures { left result ≡ sources.all_with (keyword_view keyword) (part_at self.now).own }
     {
         OwnStatements::new(keyword, self.node.row_stating(keyword))
@@ -95,9 +99,11 @@ impl<'a, 't> Planned<'a, 't> {
         self.node.name()
     }
 
-    /// The argument of the first of its own statements with a keyword, which is none of those that define nodes.
+    /// The argument of the first of its own statements with a keyword, which is none of those that define nodes, nor that
+    /// of conditions.
     pub fn own_argument(&self, keyword: Keyword) -> Option<&'t str>
-        requires { defines_node (keyword_view keyword) ≡ false }
+        requires node { defines_node (keyword_view keyword) ≡ false }
+        requires condition { same_keyword extension_word (keyword_view keyword) ≡ false }
         ensures { (number : _) → option_map (λ text. text.now) result
             ≡ spec.stated_in (keyword_view keyword) (planned_view number self.now) }
     {

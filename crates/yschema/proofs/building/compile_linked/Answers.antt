@@ -12,12 +12,15 @@ use Rattle.yschema.specs.Phases.{target_breaks}
 use Rattle.yschema.proofs.ToldLemmas.{in_expansion, many_told, targets_told}
 use Rattle.yschema.proofs.building.compile_linked.Goals as goal
 
+pub augmented-requires-clause-core : goal.augmented-requires-clause-core
+augmented-requires-clause-core c = c.new-named.ensures.language
+
 pub returns-in-Some : goal.returns-in-Some
 returns-in-Some c =
     let f = modules_view c.args.modules.now in
     let s = statements.view c.args.linked.now in
     let known = passed f s c.requires.links in
-    let same : modules_of c.new-named.result ≡ s = c.new-named.ensures ∙ c.sources.ensures in
+    let same : modules_of c.new-named.result ≡ s = c.new-named.ensures.modules ∙ c.sources.ensures in
     let told : Some (break_view c.in-Some.found) ≡ _ = sym (ap seen c.in-Some.is) ∙ (c.broken_count_rule.ensures ∙ ap (λ m. least_from None (limit_breaks (nat_lt node_limit (node_count m)) f)) same) in
     subst (λ fault. Fails (told_by fault) (compiled f)) (sym c.from.ensures)
     (in_expansion f s known.1 known.0 (break_view c.in-Some.found) (many_told f s (break_view c.in-Some.found) told))
@@ -27,7 +30,7 @@ returns-in-Some-told c =
     let f = modules_view c.args.modules.now in
     let s = statements.view c.args.linked.now in
     let known = passed f s c.requires.links in
-    let same : modules_of c.new-named.result ≡ s = c.new-named.ensures ∙ c.sources.ensures in
+    let same : modules_of c.new-named.result ≡ s = c.new-named.ensures.modules ∙ c.sources.ensures in
     let few : None ≡ _ = sym (ap seen c.in_default.is) ∙ (c.broken_count_rule.ensures ∙ ap (λ m. least_from None (limit_breaks (nat_lt node_limit (node_count m)) f)) same) in
     let told : Some (break_view c.in-Some-told.found) ≡ _ = sym (ap seen c.in-Some-told.is) ∙ (c.in_ok-made.ensures.told ∙ ap (λ m. least_from None (target_breaks m)) same) in
     subst (λ fault. Fails (told_by fault) (compiled f)) (sym c.from-in-Some-told.ensures)

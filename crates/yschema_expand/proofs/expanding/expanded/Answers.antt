@@ -1,11 +1,12 @@
 use Rattle.std.proofs.Common.{rules, ◌≡◌, ◌+◌, suc, None, length, sym, ap, ◌∙◌, subst}
 use Rattle.yspec.specs.Forest.{size}
-use Rattle.yspec.specs.linking.Expansion.{laid, groupings_of, expanded_from, unfit_from}
+use Rattle.yspec.specs.linking.Expansion.{laid, groupings_of}
 use Rattle.yspec.specs.linking.Rewriting.{ends_within}
+use Rattle.yspec_wide.specs.Expansion.{expanded_in_from, unfit_in_from}
 use Rattle.ybase_preorder.specs.View.{row_by, label_by, slots_in}
 use Rattle.ybase_preorder.proofs.RowLemmas.{takes_by, takes_none_by}
 use Rattle.ylink_grammar.specs.SourceView.{source_view}
-use Rattle.yschema_expand.specs.NamedView.{modules_of}
+use Rattle.yschema_expand.specs.NamedView.{language_of, modules_of}
 use Rattle.yschema_expand.specs.Walk.{Adds, AddsParts, nodes_for, breaks_for}
 use Rattle.yschema_expand.specs.declared.expanding.Made.{Made}
 use Rattle.yschema_expand.proofs.WalkLemmas.{adds_join, adds_none, all_pass, begun, depth_of}
@@ -13,6 +14,7 @@ use Rattle.yschema_expand.proofs.expanding.expanded.Goals as goal
 
 pub loop-top-init : goal.loop-top-init
 loop-top-init c =
+    let l = language_of c.args.named.now in
     let m = modules_of c.args.named.now in
     let groupings = groupings_of m in
     let it : c.into_iter-top-iterator.result ≡ c.modules-top-items.result = search rules in
@@ -21,7 +23,7 @@ loop-top-init c =
     record {
       more = tt;
       ends = tt;
-      so_far = λ final added. subst (λ f. Adds None (expanded_from m groupings f) (unfit_from m groupings f) start final) whole added;
+      so_far = λ final added. subst (λ f. Adds None (expanded_in_from l m groupings f) (unfit_in_from l m groupings f) start final) whole added;
     }
 
 pub add_nodes-requires-clause-ends : goal.add_nodes-requires-clause-ends
@@ -33,6 +35,7 @@ add_nodes-requires-clause-ends c =
 
 pub loop-top-preserved : goal.loop-top-preserved
 loop-top-preserved c =
+    let l = language_of c.args.named.now in
     let m = modules_of c.args.named.now in
     let groupings = groupings_of m in
     let before = c.loop-top.top-iterator in
@@ -48,36 +51,38 @@ loop-top-preserved c =
     let mid = c.add_nodes.new.made in
     let now = c.loop-top.made in
     let full = suc (size m) in
-    let one : Adds None (nodes_for m s.home full (laid below)) (breaks_for m s.home full (laid below)) now mid =
-    subst (λ h. AddsParts m None h full (laid below) now mid) home
-    (subst (λ n. AddsParts m None c.label.result.now.home n (laid below) now mid) depth
-    (subst (λ r. AddsParts m None c.label.result.now.home (length c.slots.result.now + 1) (laid r) now mid) same c.in_ok-add_nodes.ensures)) in
+    let one : Adds None (nodes_for l m s.home full (laid below)) (breaks_for l m s.home full (laid below)) now mid =
+    subst (λ h. AddsParts l m None h full (laid below) now mid) home
+    (subst (λ n. AddsParts l m None c.label.result.now.home n (laid below) now mid) depth
+    (subst (λ r. AddsParts l m None c.label.result.now.home (length c.slots.result.now + 1) (laid r) now mid) same c.in_ok-add_nodes.ensures)) in
     record {
       more = tt;
       ends = tt;
       so_far = λ final added. c.loop-top.invariant.so_far final
-          (subst (λ f. Adds None (expanded_from m groupings f) (unfit_from m groupings f) now final) (sym taken)
-          (adds_join None (nodes_for m s.home full (laid below)) (expanded_from m groupings rest) (breaks_for m s.home full (laid below)) (unfit_from m groupings rest) now mid final one added));
+          (subst (λ f. Adds None (expanded_in_from l m groupings f) (unfit_in_from l m groupings f) now final) (sym taken)
+          (adds_join None (nodes_for l m s.home full (laid below)) (expanded_in_from l m groupings rest) (breaks_for l m s.home full (laid below)) (unfit_in_from l m groupings rest) now mid final one added));
     }
 
 pub returns-clause-nodes : goal.returns-clause-nodes
 returns-clause-nodes c =
+    let l = language_of c.args.named.now in
     let m = modules_of c.args.named.now in
     let groupings = groupings_of m in
     let before = c.loop-top.top-iterator in
     let none = (takes_none_by source_view before c.next.new.self c.in-None.ensures.steps).0 in
     let all = c.loop-top.invariant.so_far c.loop-top.made
-    (adds_none None (expanded_from m groupings (row_by source_view before)) (unfit_from m groupings (row_by source_view before)) c.loop-top.made
-    (ap (expanded_from m groupings) none) (ap (unfit_from m groupings) none)) in
-    all.0 ∙ ap (λ slots. begun slots (expanded_from m groupings m)) c.new.ensures
+    (adds_none None (expanded_in_from l m groupings (row_by source_view before)) (unfit_in_from l m groupings (row_by source_view before)) c.loop-top.made
+    (ap (expanded_in_from l m groupings) none) (ap (unfit_in_from l m groupings) none)) in
+    all.0 ∙ ap (λ slots. begun slots (expanded_in_from l m groupings m)) c.new.ensures
 
 pub returns-clause-told : goal.returns-clause-told
 returns-clause-told c =
+    let l = language_of c.args.named.now in
     let m = modules_of c.args.named.now in
     let groupings = groupings_of m in
     let before = c.loop-top.top-iterator in
     let none = (takes_none_by source_view before c.next.new.self c.in-None.ensures.steps).0 in
     let all = c.loop-top.invariant.so_far c.loop-top.made
-    (adds_none None (expanded_from m groupings (row_by source_view before)) (unfit_from m groupings (row_by source_view before)) c.loop-top.made
-    (ap (expanded_from m groupings) none) (ap (unfit_from m groupings) none)) in
+    (adds_none None (expanded_in_from l m groupings (row_by source_view before)) (unfit_in_from l m groupings (row_by source_view before)) c.loop-top.made
+    (ap (expanded_in_from l m groupings) none) (ap (unfit_in_from l m groupings) none)) in
     all.1

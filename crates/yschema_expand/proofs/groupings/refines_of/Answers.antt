@@ -5,7 +5,7 @@ use Rattle.ybase_preorder.specs.View.{forest_in, slots_in}
 use Rattle.ylink_grammar.specs.BreakView.{seen}
 use Rattle.ylink_names.specs.Ordered.{IsNamed}
 use Rattle.yschema_expand.specs.Counting.{count_at, refine_at, top_refines}
-use Rattle.yschema_expand.specs.NamedView.{modules_of}
+use Rattle.yschema_expand.specs.NamedView.{language_of, modules_of}
 use Rattle.yschema_expand.proofs.OrderLemmas.{total}
 use Rattle.yschema_expand.proofs.ToldLemmas.{told_next, told_all}
 use Rattle.yschema_expand.proofs.WalkLemmas.{depth_of}
@@ -27,7 +27,7 @@ returns c = λ e owner named empty.
     let nodes = c.args.order.now in
     let refines = refine_at c.loop-number.refines.items in
     let ended = c.loop-number-test.false in
-    told_all f nodes c.requires.order refines (λ j before inside. c.loop-number.invariant.known j (omega (arith, before, ended)) inside) e owner named empty
+    told_all (language_of c.args.named.now) f nodes c.requires.order refines (λ j before inside. c.loop-number.invariant.known j (omega (arith, before, ended)) inside) e owner named empty
 
 pub loop-number-preserved : goal.loop-number-preserved
 loop-number-preserved c =
@@ -49,6 +49,6 @@ loop-number-preserved c =
     told.2 ∙ ap (λ rs. least_from None (top_refines rs m told.0)) c.deref.ensures.value in
     record {
       count = c.set_refine.ensures.length ∙ long;
-      known = told_next f nodes c.requires.order old new i c.loop-number.invariant.known within empty told.0 told.1
+      known = told_next (language_of c.args.named.now) f nodes c.requires.order old new i c.loop-number.invariant.known within empty told.0 told.1
           (λ e. c.set_refine.ensures.refine e inside ∙ ap (λ o. cond (e == number) o (refine_at old e)) own);
     }

@@ -1,13 +1,14 @@
 use Rattle.std.proofs.Common.{◌≡◌, ◌++◌, ℕ, List, length, Option}
 use Rattle.std.specs.Option.{IfSome}
 use Rattle.yspec.specs.Forest.{Forest}
-use Rattle.yspec.specs.linking.Expansion.{refined, refine_breaks}
+use Rattle.yspec_wide.specs.Expansion.{refined_in, refine_breaks_in}
 use Rattle.yspec.specs.linking.Parts.{Part}
 use Rattle.yspec.specs.linking.Source.{Source}
 use Rattle.yspec.specs.schema.Breaks.{least_from}
 use Rattle.ybase_preorder.specs.Layout.{Place, places}
 use Rattle.ybase_preorder.specs.View.{row_by}
 use Rattle.ylink_grammar.specs.BreakView.{seen}
+use Rattle.ylink_grammar.specs.LanguageView.{language_view}
 use Rattle.ylink_grammar.specs.SourceView.{source_view}
 use Rattle.ylink_names.specs.PrefixView.{IsOf}
 use Rattle.yschema_expand.specs.Indexing.{Indexes}
@@ -23,7 +24,7 @@ invariant-loop-statement l = record {
   so_far : (modules : Forest Source) (nodes : Forest Part) (earlier : List (Place Part)) (parent : Option ℕ) → IsOf l.prefixes modules → length earlier ≡ l.first
       → parts_in l.fn.made.table ≡ earlier ++ places parent l.first nodes
       → (now : Forest Part) × (parts_in l.made.table ≡ earlier ++ places parent l.first now)
-      × (refined modules l.owner (row_by source_view l.statement-iterator) now ≡ refined modules l.owner (row_by source_view l.fn.statements) nodes)
-      × (least_from (seen l.made.told) (refine_breaks modules l.owner (row_by source_view l.statement-iterator) now)
-      ≡ least_from (seen l.fn.made.told) (refine_breaks modules l.owner (row_by source_view l.fn.statements) nodes));
+      × (refined_in (language_view l.language) modules l.owner (row_by source_view l.statement-iterator) now ≡ refined_in (language_view l.language) modules l.owner (row_by source_view l.fn.statements) nodes)
+      × (least_from (seen l.made.told) (refine_breaks_in (language_view l.language) modules l.owner (row_by source_view l.statement-iterator) now)
+      ≡ least_from (seen l.fn.made.told) (refine_breaks_in (language_view l.language) modules l.owner (row_by source_view l.fn.statements) nodes));
 }

@@ -7,7 +7,7 @@ use Rattle.yspec.specs.linking.Parts.{part_of, within}
 use Rattle.yspec.specs.linking.Expansion.{laid}
 use Rattle.ybase_preorder.specs.View.{row_by, row_view, label_by}
 use Rattle.ylink_grammar.specs.SourceView.{source_view}
-use Rattle.yschema_expand.specs.NamedView.{modules_of}
+use Rattle.yschema_expand.specs.NamedView.{language_of, modules_of}
 use Rattle.yschema_expand.specs.Tasks.{toll_of, Leads}
 use Rattle.yschema_expand.specs.Walk.{AllEnd, AddsParts}
 use Rattle.yschema_expand.proofs.WalkLemmas.{laid_uses, laid_node, ends_node, ends_uses}
@@ -23,6 +23,7 @@ add_uses-requires-clause-ends c =
 
 pub returns-then-has_keyword : goal.returns-then-has_keyword
 returns-then-has_keyword c =
+    let l = language_of c.args.context.now.named.now in
     let m = modules_of c.args.context.now.named.now in
     let parent = c.args.place.parent in
     let owner = c.args.place.owner in
@@ -30,7 +31,7 @@ returns-then-has_keyword c =
     let s = label_by source_view c.args.statement in
     let below = row_by source_view c.args.statement.children in
     let used : is_source_of uses_word s ≡ true = sym c.has_keyword.ensures ∙ c.if-has_keyword.true in
-    on_ok_weaker c.add_uses.result (subst (λ parts. Leads m (AddsParts m parent owner depth parts) (toll_of m depth (size (row_view c.args.statement.children)) parts)
+    on_ok_weaker c.add_uses.result (subst (λ parts. Leads l m (AddsParts l m parent owner depth parts) (toll_of m depth (size (row_view c.args.statement.children)) parts)
     c.args.tasks.now.items c.add_uses.new.tasks.items c.args.made.now c.add_uses.new.made) (sym (laid_uses s below used))) c.add_uses.ensures
 
 pub add_node-requires-clause-ends : goal.add_node-requires-clause-ends
@@ -44,6 +45,7 @@ add_node-requires-clause-ends c =
 
 pub returns : goal.returns
 returns c =
+    let l = language_of c.args.context.now.named.now in
     let m = modules_of c.args.context.now.named.now in
     let parent = c.args.place.parent in
     let owner = c.args.place.owner in
@@ -51,5 +53,5 @@ returns c =
     let s = label_by source_view c.args.statement in
     let below = row_by source_view c.args.statement.children in
     let unused : is_source_of uses_word s ≡ false = sym c.has_keyword.ensures ∙ c.if-has_keyword.false in
-    on_ok_weaker c.add_node.result (subst (λ parts. Leads m (AddsParts m parent owner depth parts) (toll_of m depth (size (row_view c.args.statement.children)) parts)
+    on_ok_weaker c.add_node.result (subst (λ parts. Leads l m (AddsParts l m parent owner depth parts) (toll_of m depth (size (row_view c.args.statement.children)) parts)
     c.args.tasks.now.items c.add_node.new.tasks.items c.args.made.now c.add_node.new.made) (sym (laid_node s below c.requires.laid unused))) c.add_node.ensures

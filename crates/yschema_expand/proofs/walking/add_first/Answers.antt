@@ -5,7 +5,7 @@ use Rattle.yspec.specs.linking.Expansion.{laid}
 use Rattle.ybase_preorder.specs.View.{row_by, row_view, label_by}
 use Rattle.ybase_preorder.proofs.RowLemmas.{takes_by, takes_none_by}
 use Rattle.ylink_grammar.specs.SourceView.{source_view}
-use Rattle.yschema_expand.specs.NamedView.{modules_of}
+use Rattle.yschema_expand.specs.NamedView.{language_of, modules_of}
 use Rattle.yschema_expand.specs.Tasks.{toll, toll_for, toll_of, tolls, Does, TaskEnds, Leads}
 use Rattle.yschema_expand.specs.Walk.{chosen, AllEnd, AddsParts}
 use Rattle.yschema_expand.specs.declared.walking.Task.{Task}
@@ -17,6 +17,7 @@ use Rattle.yschema_expand.proofs.walking.add_first.Goals as goal
 
 pub returns-in_default : goal.returns-in_default
 returns-in_default c =
+    let l = language_of c.args.context.now.named.now in
     let m = modules_of c.args.context.now.named.now in
     let parent = c.args.place.parent in
     let owner = c.args.place.owner in
@@ -24,8 +25,8 @@ returns-in_default c =
     let before = c.args.statements in
     let none = (takes_none_by source_view before c.next.new.self c.in_default.ensures.steps).0 in
     let parts = chosen c.args.in_choice (laid (row_by source_view before)) in
-    leaves_none (Does m) (toll m) (TaskEnds m) (AddsParts m parent owner depth parts) _ c.args.tasks.now.items c.args.made.now c.args.made.now
-    (adds_nothing m owner depth parent parts c.args.made.now (chosen_none c.args.in_choice (row_by source_view before) none))
+    leaves_none (Does l m) (toll m) (TaskEnds m) (AddsParts l m parent owner depth parts) _ c.args.tasks.now.items c.args.made.now c.args.made.now
+    (adds_nothing l m owner depth parent parts c.args.made.now (chosen_none c.args.in_choice (row_by source_view before) none))
 
 pub add_statement-requires-clause-ends : goal.add_statement-requires-clause-ends
 add_statement-requires-clause-ends c =
@@ -43,6 +44,7 @@ add_statement-requires-clause-ends c =
 
 pub returns : goal.returns
 returns c =
+    let l = language_of c.args.context.now.named.now in
     let m = modules_of c.args.context.now.named.now in
     let parent = c.args.place.parent in
     let owner = c.args.place.owner in
@@ -61,10 +63,10 @@ returns c =
     let sized = ap size c.in-Some.ensures.steps.0 in
     let cost = ap (tolls (toll_for m depth)) split ∙ tolls_join (toll_for m depth) one others in
     let t : Task = Add c.args.place chooses after in
-    on_ok_weaker c.add_statement.result (λ leads. leaves_behind (Does m) (toll m) (TaskEnds m) (AddsParts m parent owner depth one) (AddsParts m parent owner depth all)
+    on_ok_weaker c.add_statement.result (λ leads. leaves_behind (Does l m) (toll m) (TaskEnds m) (AddsParts l m parent owner depth one) (AddsParts l m parent owner depth all)
     (toll_of m depth (size (row_view c.in-Some.statement.children)) one) (toll_of m depth (size (row_view before)) all) t c.args.tasks.now.items c.add_statement.new.tasks.items c.args.made.now c.args.made.now c.add_statement.new.made
-    (λ full final first then. subst (λ parts. AddsParts m parent owner depth parts c.args.made.now final) (sym split) (adds_both m owner depth parent one others c.args.made.now full final first then))
+    (λ full final first then. subst (λ parts. AddsParts l m parent owner depth parts c.args.made.now final) (sym split) (adds_both l m owner depth parent one others c.args.made.now full final first then))
     (ends_join m owner depth one others (subst (AllEnd m depth) split c.requires.ends)).1
     (omega (arith, cost, sized))
-    (subst (λ ts. Leads m (AddsParts m parent owner depth one) (toll_of m depth (size (row_view c.in-Some.statement.children)) one) ts c.add_statement.new.tasks.items c.args.made.now c.add_statement.new.made) c.in_ok-push.ensures.items leads))
+    (subst (λ ts. Leads l m (AddsParts l m parent owner depth one) (toll_of m depth (size (row_view c.in-Some.statement.children)) one) ts c.add_statement.new.tasks.items c.args.made.now c.add_statement.new.made) c.in_ok-push.ensures.items leads))
     c.add_statement.ensures

@@ -5,7 +5,7 @@ use Rattle.yspec.specs.linking.Parts.{part_of, within, as_cases}
 use Rattle.yspec.specs.linking.Expansion.{laid}
 use Rattle.ybase_preorder.specs.View.{row_by, row_view, label_by}
 use Rattle.ylink_grammar.specs.SourceView.{source_view}
-use Rattle.yschema_expand.specs.NamedView.{modules_of}
+use Rattle.yschema_expand.specs.NamedView.{language_of, modules_of}
 use Rattle.yschema_expand.specs.Tasks.{toll, toll_for, toll_of, tolls, Does, TaskEnds, Leads}
 use Rattle.yschema_expand.specs.Walk.{chosen, AllEnd, AddsParts}
 use Rattle.yschema_expand.specs.declared.expanding.Made.{Made}
@@ -19,6 +19,7 @@ use Rattle.yschema_expand.proofs.walking.add_node.Goals as goal
 
 pub returns : goal.returns
 returns c =
+    let l = language_of c.args.context.now.named.now in
     let m = modules_of c.args.context.now.named.now in
     let parent = c.args.place.parent in
     let owner = c.args.place.owner in
@@ -39,10 +40,10 @@ returns c =
     let count = ap (λ r. size (row_view r)) c.children.ensures in
     let whole = tolls_node (toll_for m depth) (part_of s below) inner c.requires.node in
     let items = c.in_ok-push-2.ensures.items ∙ ap (λ ts. ts ++ t ∷ []) c.in_ok-push.ensures.items in
-    subst (λ ts. Leads m (AddsParts m parent owner depth (node (part_of s below) inner end)) (toll_of m depth (size (row_view c.args.statement.children)) (node (part_of s below) inner end)) c.args.tasks.now.items ts old mid) (sym items)
-    (leaves_behind (Does m) (toll m) (TaskEnds m) (Does m t) (AddsParts m parent owner depth (node (part_of s below) inner end)) (suc (toll m t)) (toll_of m depth (size (row_view c.args.statement.children)) (node (part_of s below) inner end)) (Close n) c.args.tasks.now.items
+    subst (λ ts. Leads l m (AddsParts l m parent owner depth (node (part_of s below) inner end)) (toll_of m depth (size (row_view c.args.statement.children)) (node (part_of s below) inner end)) c.args.tasks.now.items ts old mid) (sym items)
+    (leaves_behind (Does l m) (toll m) (TaskEnds m) (Does l m t) (AddsParts l m parent owner depth (node (part_of s below) inner end)) (suc (toll m t)) (toll_of m depth (size (row_view c.args.statement.children)) (node (part_of s below) inner end)) (Close n) c.args.tasks.now.items
     ((c.args.tasks.now.items ++ Close n ∷ []) ++ t ∷ []) old mid mid
-    (λ full final added closed. adds_node m owner depth parent (part_of s below) inner c.new-label.result n old mid full final c.requires.node c.new-label.ensures
-    c.in_ok-number.ensures.laid c.in_ok-number.ensures.number refl (subst (λ f. AddsParts m (Some n) owner depth f mid full) inside added) closed.0 closed.1)
+    (λ full final added closed. adds_node l m owner depth parent (part_of s below) inner c.new-label.result n old mid full final c.requires.node c.new-label.ensures
+    c.in_ok-number.ensures.laid c.in_ok-number.ensures.number refl (subst (λ f. AddsParts l m (Some n) owner depth f mid full) inside added) closed.0 closed.1)
     tt (omega (arith, cost, count, whole))
-    (leaves_task (Does m) (toll m) (TaskEnds m) t (c.args.tasks.now.items ++ Close n ∷ []) mid (subst (AllEnd m depth) (sym inside) c.requires.ends)))
+    (leaves_task (Does l m) (toll m) (TaskEnds m) t (c.args.tasks.now.items ++ Close n ∷ []) mid (subst (AllEnd m depth) (sym inside) c.requires.ends)))

@@ -1,13 +1,11 @@
-use Rattle.std.proofs.Common.{map, drop}
-use Rattle.ybase_preorder.specs.View.{row_by}
+use Rattle.std.proofs.Common.{drop}
 use Rattle.ybase_words.specs.KeywordView.{keyword_view}
-use Rattle.ylink_grammar.specs.SourceView.{source_view}
 use Rattle.yschema_expand.specs.NamedView.{row_or_none}
 use Rattle.yschema_expand.specs.NodeView.{part_view, stated_after}
 use Rattle.yschema_expand.specs.Stating.{SameFor}
 use Rattle.yschema_expand.proofs.nodes.ExpandedNode.row_stating.Given as goal
 
--- with the refines that are left it is what the node states
+-- with all that is left it is what the node states
 abbrev pub invariant-loop-given : goal.invariant-loop-given
 invariant-loop-given l =
-    SameFor (keyword_view l.keyword) (stated_after (row_or_none l.stating) (map (row_by source_view) (drop l.given-index l.given-items))) (part_view l.self).own
+    SameFor (keyword_view l.keyword) (stated_after (row_or_none l.stating) (drop l.given-index l.given-items)) (part_view l.self).own
