@@ -1,0 +1,3 @@
+mod WholeLemmas
+mod RepeatLemmas
+pub mod MeansLemmas
