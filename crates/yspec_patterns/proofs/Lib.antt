@@ -1,0 +1,2 @@
+pub mod FitsLemmas
+pub mod PatternLiterals

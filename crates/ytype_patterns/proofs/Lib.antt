@@ -1,0 +1,5 @@
+mod WholeLemmas
+mod RepeatLemmas
+mod RangeLemmas
+mod BuiltLemmas
+pub mod MeansLemmas
