@@ -1,3 +1,4 @@
 pub mod Means
 pub mod Engine
 pub mod View
+pub mod SymbolView

@@ -2,6 +2,10 @@
 #![tactic(auto)]
 
 pub mod laws;
+mod sets;
+mod symbols;
 mod whole;
 
+pub use sets::{class_of, within, without};
+pub use symbols::{Escape, NamedSet, Symbol, escape_step};
 pub use whole::Whole;
