@@ -3,4 +3,5 @@ mod RepeatLemmas
 mod RangeLemmas
 mod BuiltLemmas
 pub mod SetLemmas
+mod ClassLemmas
 pub mod MeansLemmas

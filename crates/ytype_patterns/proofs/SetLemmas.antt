@@ -30,7 +30,7 @@ members_same rs set canonical exactly none = fun_ext (λ c. by c (is_character c
     by c true e = exactly c (leb-true c 0x10_FFFF e)
     by c false e = let above : 0x10_FFFF < c = grind (arith, nat_tests, e) in in_ranges-above_max rs c canonical above ∙ sym (none c above)
 
-no_character : (c : ℕ) → 0x10_FFFF < c → is_character c ≡ false
+pub no_character : (c : ℕ) → 0x10_FFFF < c → is_character c ≡ false
 no_character c above = by (is_character c) refl
   where
     by : (b : Bool) → is_character c ≡ b → b ≡ false
@@ -56,7 +56,7 @@ pub difference_is : (xs ys rs : List Range) → IsCanonical xs → IsCanonical r
 difference_is xs ys rs cx cr exactly =
     members_same rs (without (in_ranges xs) (in_ranges ys)) cr exactly (λ c above. ap (λ x. x && not (in_ranges ys c)) (class_bounded xs cx c above))
 
-past_high : (low high c : ℕ) → high ≤ 0x10_FFFF → 0x10_FFFF < c → within low high c ≡ false
+pub past_high : (low high c : ℕ) → high ≤ 0x10_FFFF → 0x10_FFFF < c → within low high c ≡ false
 past_high low high c fits above = by (within low high c) refl
   where
     by : (b : Bool) → within low high c ≡ b → b ≡ false

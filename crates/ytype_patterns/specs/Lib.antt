@@ -2,3 +2,4 @@ pub mod Means
 pub mod Engine
 pub mod View
 pub mod SymbolView
+pub mod ClassView
