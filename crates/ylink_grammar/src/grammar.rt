@@ -494,14 +494,3 @@ pub fn broken_statement_rule_in(
     }
     Ok(told)
 }
-
-/// The least rule of the core's table that modules break, by module, line and number.
-pub fn broken_statement_rule(
-    alloc: Global,
-    modules: &[Module],
-) -> Result<Option<BrokenRule>, AllocError>
-    ensures { IfOk result (λ told. seen told
-        ≡ least_from None (narrow.statement_phase (modules_view modules.now))) }
-{
-    broken_statement_rule_in(alloc, &Language::Core, modules)
-}

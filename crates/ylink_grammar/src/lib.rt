@@ -18,7 +18,7 @@ mod word;
 
 pub use added::{is_condition, is_feature};
 pub use fault::{BrokenRule, CompileCode, least, least_when};
-pub use grammar::{broken, broken_statement_rule, broken_statement_rule_in};
+pub use grammar::{broken, broken_statement_rule_in};
 pub use language::{Choosing, Language};
 pub use refining::may_bear;
 pub use row::{argument_of, argument_with, first_with, found_with};

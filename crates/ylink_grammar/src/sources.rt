@@ -20,7 +20,6 @@ pub struct Sources<'a> {
 impl<'a> Sources<'a> {
     ghost use Rattle.std.specs.Prelude.{◌≡◌, ◌+◌, IfOk, Some, None, slice_get, take, drop};
     ghost use Rattle.yspec.specs.Forest.{end};
-    ghost use Rattle.yspec.specs.linking.Source.{sources_of};
     ghost use Rattle.yspec_wide.specs.Sources.{sources_in};
     ghost use Rattle.ybase_preorder.specs.Layout.{forest_of, numbered_by};
     ghost use Rattle.ytext.specs.View.{modules_view};
@@ -28,7 +27,7 @@ impl<'a> Sources<'a> {
     ghost use Rattle.ylink_grammar.specs.LanguageView.{language_view};
     ghost use Rattle.ylink_grammar.specs.SourceView.{source_view};
     ghost use Rattle.ylink_grammar.specs.LinkView.{view, wholes};
-    ghost use Rattle.ylink_grammar.specs.Wholes.{wholes_of, wholes_in};
+    ghost use Rattle.ylink_grammar.specs.Wholes.{wholes_in};
 
     /// The statements of some modules in a language.
     pub fn of_in(
@@ -46,16 +45,6 @@ impl<'a> Sources<'a> {
             add_statement(language, &mut table, None, home, &module.top)?;
         }
         Ok(Sources { table })
-    }
-
-    /// The statements of some modules in the core.
-    pub fn of(alloc: Global, modules: &'a [Module]) -> Result<Sources<'a>, AllocError>
-        ensures numbered { IfOk result (λ sources. view sources
-            ≡ sources_of (modules_view modules.entry.now)) }
-        ensures whole { IfOk result (λ sources. wholes sources
-            ≡ wholes_of (modules_view modules.entry.now)) }
-    {
-        Sources::of_in(alloc, &Language::Core, modules)
     }
 
     /// The `module` statements, in order.

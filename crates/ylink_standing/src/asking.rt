@@ -126,7 +126,7 @@ fn asked_by(
 
 /// What each `if-feature` of a set asks, by the number of its statement, given what names and prefixes mean and the versions of
 /// the modules (RFC 7950, 7.20.2).
-pub fn conditions_of(
+pub(crate) fn conditions_of(
     alloc: Global,
     language: &Language,
     sources: &Sources<'_>,

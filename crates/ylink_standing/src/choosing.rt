@@ -70,7 +70,7 @@ fn chosen_among(
 }
 
 /// Of each statement of a set, by its number, whether it is a feature that is chosen (RFC 7950, 7.20.1). Under the core none is.
-pub fn chosen_of(
+pub(crate) fn chosen_of(
     alloc: Global,
     language: &Language,
     sources: &Sources<'_>,

@@ -7,7 +7,5 @@ mod chosen;
 mod condition;
 mod standing;
 
-pub use asking::conditions_of;
-pub use choosing::chosen_of;
 pub use condition::Condition;
 pub use standing::FeaturesOn;

@@ -200,7 +200,7 @@ impl FeaturesOn {
 
     /// The features of a set that are on, given what its conditions ask, which of its features are chosen, and the edges from
     /// each feature to those that its conditions name (RFC 7950, 7.20.1).
-    pub fn of(
+    pub(crate) fn of(
         alloc: Global,
         sources: &Sources<'_>,
         conditions: Vec<Option<Condition>>,

@@ -13,7 +13,7 @@ use Rattle.yspec.specs.linking.Source.{Source, Stated, is_source_of, found_with,
 use Rattle.yspec.specs.linking.TypeStatements.{wrong, are_in_place, built_in_meant, derived}
 use Rattle.yspec.proofs.LinkingProofs.KeywordLemmas.{same_is}
 use Rattle.yspec_wide.specs.Types.{verdict_of, verdicts_of, verdict_on_of, verdict_in_place_of, known_of, known_in_row_of}
-use Rattle.ylink_values.proofs.AllKeptLemmas.{known_in_row_alike}
+use Rattle.yspec_wide.proofs.CoreTypeLemmas.{known_in_row_alike}
 use Rattle.ybase_graph.specs.Reaching.{HasEdge}
 use Rattle.ybase_preorder.proofs.NumberLemmas.{AreFrom, found_again, found_among}
 use Rattle.ylink_names.specs.ReferringView.{innermost_of}

@@ -19,7 +19,7 @@ use Rattle.yspec.specs.linking.TypeStatements.{enumeration, bits, namings, of_na
 use Rattle.yspec.proofs.BasicLemmas.{same_text, other_text, texts_differ}
 use Rattle.yspec_wide.specs.Types as wide
 use Rattle.yspec_wide.specs.Types.{names_kept}
-use Rattle.ylink_values.proofs.AllKeptLemmas.{single_alike}
+use Rattle.yspec_wide.proofs.CoreTypeLemmas.{single_alike}
 use Rattle.ylink_values.specs.KeptView.{all_kept}
 use Rattle.ylink_values.specs.KindView.{are_kept, base_of, names_by, naming_in, naming_word, number_by, type_kept}
 use Rattle.ylink_values.specs.declared.naming.NamingKind.{NamingKind}

@@ -21,31 +21,31 @@ use Rattle.yspec_wide.proofs.StandingLemmas.{all_stand_alike}
 
 -- ---- conditions that nodes get
 
-row_none : (given : Forest Source) → condition_row core given ≡ end
+pub row_none : (given : Forest Source) → condition_row core given ≡ end
 row_none end = refl
 row_none (node s below after) = row_none after
 
-row_whole : (given : Forest Source) → without_conditions core given ≡ given
+pub row_whole : (given : Forest Source) → without_conditions core given ≡ given
 row_whole end = refl
 row_whole (node s below after) = ap (node s below) (row_whole after)
 
-conditioned_alike : (given : Forest Source) (nodes : Forest Part) → conditioned core given nodes ≡ nodes
+pub conditioned_alike : (given : Forest Source) (nodes : Forest Part) → conditioned core given nodes ≡ nodes
 conditioned_alike given end = refl
 conditioned_alike given (node p below after) = ap₂ (λ own rest. node (record p { own = own }) below rest)
     (ap (join p.own) (row_none given) ∙ join_end p.own) (conditioned_alike given after)
 
 -- ---- refines
 
-overridden_alike : (given : Forest Source) → overridden_in core given ≡ overridden given
+pub overridden_alike : (given : Forest Source) → overridden_in core given ≡ overridden given
 overridden_alike given =
     ap (λ g. λ (p : Part) (below after : Forest Part). node (record p { own = join (others g p.own) given }) below after) (row_whole given)
 
-after_alike : (modules : Forest Source) (owner : ℕ) (s : Source) (given : Forest Source) (nodes : Forest Part)
+pub after_alike : (modules : Forest Source) (owner : ℕ) (s : Source) (given : Forest Source) (nodes : Forest Part)
     → after_refine_in core modules owner s given nodes ≡ after_refine modules owner s given nodes
 after_alike modules owner s given nodes = ap (λ change. if is_refine s && is_fit modules owner s given nodes
     then changed_at (refine_steps modules owner s) change nodes else nodes) (overridden_alike given)
 
-refined_alike : (modules : Forest Source) (owner : ℕ) (given : Forest Source) (nodes : Forest Part)
+pub refined_alike : (modules : Forest Source) (owner : ℕ) (given : Forest Source) (nodes : Forest Part)
     → refined_in core modules owner given nodes ≡ refined modules owner given nodes
 unfolding refined_in refined
 refined_alike modules owner end nodes = refl
@@ -53,7 +53,7 @@ refined_alike modules owner (node s given after) nodes =
     ap (refined_in core modules owner after) (after_alike modules owner s given nodes)
     ∙ refined_alike modules owner after (after_refine modules owner s given nodes)
 
-refine_breaks_alike : (modules : Forest Source) (owner : ℕ) (given : Forest Source) (nodes : Forest Part)
+pub refine_breaks_alike : (modules : Forest Source) (owner : ℕ) (given : Forest Source) (nodes : Forest Part)
     → refine_breaks_in core modules owner given nodes ≡ refine_breaks modules owner given nodes
 refine_breaks_alike modules owner end nodes = refl
 refine_breaks_alike modules owner (node s given after) nodes =
@@ -64,7 +64,7 @@ refine_breaks_alike modules owner (node s given after) nodes =
 -- ---- `uses`
 
 module _ (modules : Forest Source) (groupings : List Grouping) (owner : ℕ) where
-  stands_for_alike : (depth : ℕ) → stands_for_in core modules groupings owner depth ≡ stands_for modules groupings owner depth
+  pub stands_for_alike : (depth : ℕ) → stands_for_in core modules groupings owner depth ≡ stands_for modules groupings owner depth
   unfolding stands_for_in stands_for
   stands_for_alike zero = refl
   stands_for_alike (suc depth) = fun_ext (λ u.
@@ -74,10 +74,10 @@ module _ (modules : Forest Source) (groupings : List Grouping) (owner : ℕ) whe
       (replaced (stands_for_in core modules groupings owner depth) owner (row_used modules groupings u))
       ∙ ap (λ meant. refined modules owner u.own (replaced meant owner (row_used modules groupings u))) (stands_for_alike depth)))
 
-  expanded_alike : (nodes : Forest Part) → expanded_in core modules groupings owner nodes ≡ expanded modules groupings owner nodes
+  pub expanded_alike : (nodes : Forest Part) → expanded_in core modules groupings owner nodes ≡ expanded modules groupings owner nodes
   expanded_alike nodes = ap (λ meant. replaced meant owner nodes) (stands_for_alike (suc (size modules)))
 
-  unfit_for_alike : (depth : ℕ) → unfit_for_in core modules groupings owner depth ≡ unfit_for modules groupings owner depth
+  pub unfit_for_alike : (depth : ℕ) → unfit_for_in core modules groupings owner depth ≡ unfit_for modules groupings owner depth
   unfolding unfit_for_in unfit_for
   unfit_for_alike zero = refl
   unfit_for_alike (suc depth) = fun_ext (λ u. ap₂ (λ inside here. inside ++ here)
@@ -86,13 +86,13 @@ module _ (modules : Forest Source) (groupings : List Grouping) (owner : ℕ) whe
       (replaced (stands_for_in core modules groupings owner depth) owner (row_used modules groupings u))
       ∙ ap (λ meant. refine_breaks modules owner u.own (replaced meant owner (row_used modules groupings u))) (stands_for_alike depth)))
 
-expanded_from_alike : (modules : Forest Source) (groupings : List Grouping) (f : Forest Source)
+pub expanded_from_alike : (modules : Forest Source) (groupings : List Grouping) (f : Forest Source)
     → expanded_in_from core modules groupings f ≡ expanded_from modules groupings f
 expanded_from_alike modules groupings end = refl
 expanded_from_alike modules groupings (node s below after) =
     ap₂ (λ here others. join here others) (expanded_alike modules groupings s.home (laid below)) (expanded_from_alike modules groupings after)
 
-parts_alike : (modules : Forest Source) → expanded_parts_in core modules ≡ expanded_parts modules
+pub parts_alike : (modules : Forest Source) → expanded_parts_in core modules ≡ expanded_parts modules
 parts_alike modules = expanded_from_alike modules (groupings_of modules) modules
 
 unfit_from_alike : (modules : Forest Source) (groupings : List Grouping) (f : Forest Source)
@@ -107,7 +107,7 @@ unfit_alike modules = unfit_from_alike modules (groupings_of modules) modules
 
 -- ---- augments
 
-added_alike : (modules : Forest Source) (a : Augment) → added_nodes_in core modules a ≡ expanded modules (groupings_of modules) a.source.home (laid a.given)
+pub added_alike : (modules : Forest Source) (a : Augment) → added_nodes_in core modules a ≡ expanded modules (groupings_of modules) a.source.home (laid a.given)
 added_alike modules a = conditioned_alike a.given (expanded_in core modules (groupings_of modules) a.source.home (laid a.given))
     ∙ expanded_alike modules (groupings_of modules) a.source.home (laid a.given)
 
@@ -115,15 +115,15 @@ and_true : (b : Bool) → (b && true) ≡ b
 and_true true = refl
 and_true false = refl
 
-may_take_alike : (modules : Forest Source) (a : Augment) → may_take_in core modules a ≡ (λ p. may_take p a.given)
+pub may_take_alike : (modules : Forest Source) (a : Augment) → may_take_in core modules a ≡ (λ p. may_take p a.given)
 may_take_alike modules a = fun_ext (λ p. ap (λ b. may_be_augmented p.source.keyword && b)
     (and_true (not (is_some (first_with (kept_out p) a.given)))))
 
-ready_alike : (modules : Forest Source) → is_ready_in core modules ≡ is_ready modules
+pub ready_alike : (modules : Forest Source) → is_ready_in core modules ≡ is_ready modules
 ready_alike modules = fun_ext (λ nodes. fun_ext (λ a.
     ap (λ test. option_map_or test (part_at (target_steps modules a) nodes) false) (may_take_alike modules a)))
 
-applied_alike : (modules : Forest Source) → applied_in core modules ≡ applied modules
+pub applied_alike : (modules : Forest Source) → applied_in core modules ≡ applied modules
 applied_alike modules = fun_ext (λ a. ap (λ added. λ nodes. changed_at (target_steps modules a) (added_below a.source.number added) nodes)
     (added_alike modules a))
 
@@ -134,7 +134,7 @@ augmented_alike modules =
     ∙ ap (λ parts. in_turn (is_ready modules) (applied modules) (length (augments_of modules)) parts (augments_of modules))
     (parts_alike modules)
 
-body_alike : (modules : Forest Source) → body_breaks_in core modules ≡ body_breaks modules
+pub body_alike : (modules : Forest Source) → body_breaks_in core modules ≡ body_breaks modules
 body_alike modules = fun_ext (λ a. ap (λ told. unfit_in told (laid a.given))
     (unfit_for_alike modules (groupings_of modules) a.source.home (suc (size modules))))
 

@@ -111,7 +111,7 @@ bits_kept below [] all = refl
 bits_kept below (n ∷ ns) all = made_alike (λ given. plain (bits_base given)) (filter (among_kept word.bit_word below)) (bit_names (n ∷ ns))
     (assigned_all (λ t. list_any (is_text t) (wide.names_kept (λ own. true) word.bit_word below)) bit_positions [] (n ∷ ns) refl all)
 
-single_alike : (type : BuiltIn) (below : Forest Source) → wide.single_type_of (λ own. true) type below ≡ single_type type below
+pub single_alike : (type : BuiltIn) (below : Forest Source) → wide.single_type_of (λ own. true) type below ≡ single_type type below
 single_alike (integer i) below = refl
 single_alike decimal64 below = refl
 single_alike string below = refl
@@ -144,13 +144,13 @@ module _ (modules : Forest Source) where
   in_place_alike member s leafref below members = refl
   in_place_alike member s identityref below members = identity_alike modules s.home (bases_in modules below)
 
-  verdict_alike : (names : ℕ → Verdict) (member : Bool) (s : Source) (below : Forest Source) (members : List Verdict)
+  pub verdict_alike : (names : ℕ → Verdict) (member : Bool) (s : Source) (below : Forest Source) (members : List Verdict)
       → wide.verdict_of (λ own. true) modules names member s below members ≡ verdict modules names member s below members
   verdict_alike names member s below members =
       ap (λ meant. option_map_or meant (built_in_meant modules s) (derived member below (names s.number)))
       (fun_ext (λ type. ap (λ v. if are_in_place type below then v else wrong) (in_place_alike member s type below members)))
 
-  verdicts_alike : (names : ℕ → Verdict) (f : Forest Source) → wide.verdicts_of (λ own. true) modules names f ≡ verdicts modules names f
+  pub verdicts_alike : (names : ℕ → Verdict) (f : Forest Source) → wide.verdicts_of (λ own. true) modules names f ≡ verdicts modules names f
   unfolding wide.verdicts_of verdicts
   verdicts_alike names end = refl
   verdicts_alike names (node s below after) = ap₂ (λ here others. if is_source_of word.type_word s then here ∷ others else others)
@@ -171,7 +171,7 @@ module _ (modules : Forest Source) where
     default = first_of (stated_with word.default_word row) (names type.0.number).default;
   }) (verdict_on_alike (verdict_by names) false type.0 type.1))
 
-  known_in_row_alike : (names : ℕ → Known) → wide.known_in_row_of (λ own. true) modules names ≡ known_in_row modules names
+  pub known_in_row_alike : (names : ℕ → Known) → wide.known_in_row_of (λ own. true) modules names ≡ known_in_row modules names
   known_in_row_alike names = fun_ext (λ row. ap (λ known. option_map_or known (found_with word.type_word row) unknown) (known_alike names row))
 
   known_within_alike : (steps : ℕ) → wide.known_within_of (λ own. true) modules steps ≡ known_within modules steps
@@ -181,7 +181,7 @@ module _ (modules : Forest Source) where
       (ap (λ within. wide.known_in_row_of (λ own. true) modules (named modules within)) (known_within_alike steps)
       ∙ known_in_row_alike (named modules (known_within modules steps))))
 
-  known_named_alike : wide.known_named_of (λ own. true) modules ≡ known_named modules
+  pub known_named_alike : wide.known_named_of (λ own. true) modules ≡ known_named modules
   known_named_alike = ap (named modules) (known_within_alike (size modules))
 
   meant_alike : wide.meant_of (λ own. true) modules ≡ meant_by modules

@@ -4,7 +4,7 @@ use Rattle.yspec.specs.Results.{Fails}
 use Rattle.yspec_wide.specs.Compiling.{linked_in}
 use Rattle.ylink_grammar.specs.LanguageView.{language_view}
 use Rattle.yspec.specs.linking.DerivedTypes.{Known}
-use Rattle.ylink_values.proofs.AllKeptLemmas.{known_named_alike}
+use Rattle.yspec_wide.proofs.CoreTypeLemmas.{known_named_alike}
 use Rattle.ylink_grammar.specs.LinkView as statements
 use Rattle.ylink.specs.Told.{seen, told_by, break_view}
 use Rattle.ylink.proofs.LinkingLemmas.{in_names, in_meanings, no_circles}

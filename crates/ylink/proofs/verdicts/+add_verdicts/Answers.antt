@@ -7,7 +7,7 @@ use Rattle.yspec.specs.linking.Scopes.{placed}
 use Rattle.yspec.specs.linking.Source.{Source}
 use Rattle.yspec.specs.linking.TypeStatements.{Verdict, verdict, verdicts, verdict_on}
 use Rattle.yspec_wide.specs.Types.{verdict_of}
-use Rattle.ylink_values.proofs.AllKeptLemmas.{verdict_alike}
+use Rattle.yspec_wide.proofs.CoreTypeLemmas.{verdict_alike}
 use Rattle.ybase_preorder.specs.View.{row_by, label_by}
 use Rattle.ybase_preorder.proofs.RowLemmas.{takes_by, takes_none_by}
 use Rattle.ybase_words.specs.KeywordView.{keyword_view}
