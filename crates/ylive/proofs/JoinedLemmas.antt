@@ -18,10 +18,10 @@ use Rattle.ylive_list.specs.Listed.{absences_of, judged_told, is_item, list_told
 use Rattle.ylive_list.specs.Telling as listing
 use Rattle.ylive_list.specs.Telling.{Tells, TellsAt, TellsBelow}
 use Rattle.ylive_list.proofs.TellingLemmas.{faults_are, total_is}
-use Rattle.ystore.specs.Held.{Held, Told, told_of}
+use Rattle.ystore.specs.Held.{Held, Told, held_of}
 use Rattle.ystore.specs.Store.{held_at, play_at, total_at}
-use Rattle.ystore.specs.declared.row.Row.{Row}
-use Rattle.ystore.specs.declared.row.Row.TheVariants.{Top, Below}
+use Rattle.ystore_rows.specs.declared.row.Row.{Row}
+use Rattle.ystore_rows.specs.declared.row.Row.TheVariants.{Top, Below}
 use Rattle.ystore.specs.declared.record.Judged as stored
 use Rattle.ystore.specs.declared.record.Judged.TheVariants.{Right, Wrong, Missing}
 use Rattle.ystore.specs.declared.nodes.Nodes.{Nodes}
@@ -210,7 +210,7 @@ module _ (schema : Schema) (nodes : Nodes) (f : Branches) (tree : IsTree nodes f
       omega (arith, parts)
 
   top_is : total_at nodes Top ≡ length (play_at nodes Top) + listing.all_told nodes f
-  top_is = told.totals.top ∙ ap₂ ◌+◌ (top_number (told_of nodes.top.told) told.bare.judged told.bare.same) (same_sums nodes f)
+  top_is = told.totals.top ∙ ap₂ ◌+◌ (top_number (held_of nodes.top).told told.bare.judged told.bare.same) (same_sums nodes f)
 
   module _ (numbered : IsNumbered 0 schema.nodes) (cased : CasesInChoices false schema.nodes) (fits : Fits schema (tree_of f)) where
     pub faults_is : list_told schema nodes ≡ faults_of schema (tree_of f)

@@ -16,7 +16,7 @@ use Rattle.yspec.specs.document.Instances.{value_of}
 use Rattle.yspec.specs.document.Faults.{Times, RowTimes, requires_instance}
 use Rattle.ycheck.specs.Targets.{required_target}
 use Rattle.ystore.specs.Store.{instances_at}
-use Rattle.ystore.specs.declared.row.Row.{Row}
+use Rattle.ystore_rows.specs.declared.row.Row.{Row}
 use Rattle.ystore.specs.declared.key.Key as rust
 use Rattle.ystore.specs.declared.key.Key.TheVariants.{Value, Item, Tuple as TupleKey, Texts}
 use Rattle.ystore.specs.declared.record.Judged as stored

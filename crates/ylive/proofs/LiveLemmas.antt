@@ -26,7 +26,7 @@ use Rattle.yspec_reach.specs.Reach.{reach}
 use Rattle.yspec_play.proofs.PlacedLemmas.{cases_of}
 use Rattle.ylive_list.specs.Listed.{list_told}
 use Rattle.ystore.specs.Store.{CountsOne, Stays, loans, node_count, reads, total_at}
-use Rattle.ystore.specs.declared.row.Row.TheVariants.{Top}
+use Rattle.ystore_rows.specs.declared.row.Row.TheVariants.{Top}
 use Rattle.ystore.specs.declared.nodes.Nodes.{Nodes}
 use Rattle.ystore_tree.specs.Copies.{listed_below}
 use Rattle.ystore_tree.specs.Hanging.{Branches, Hangs, Keeps, tree_of}

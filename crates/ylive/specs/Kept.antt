@@ -10,7 +10,7 @@ use Rattle.yspec.specs.edit.Editing.{applied}
 use Rattle.yschema_model.specs.declared.schema.Schema as rust
 use Rattle.yinst_path.specs.declared.edit.EditFault.{EditFault}
 use Rattle.ystore.specs.declared.nodes.Nodes.{Nodes}
-use Rattle.ystore.specs.declared.row.Row.TheVariants.{Top}
+use Rattle.ystore_rows.specs.declared.row.Row.TheVariants.{Top}
 use Rattle.ystore.specs.Store.{node_count}
 use Rattle.ystore_tree.specs.Hanging.{Branches, Hangs, Keeps, tree_of}
 use Rattle.ylive_retell.specs.IsTold.{IsTold}

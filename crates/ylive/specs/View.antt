@@ -8,7 +8,7 @@ use Rattle.yinst_path.specs.EditView.{edit_view}
 use Rattle.yinst_path.specs.Applying.{refusal_view}
 use Rattle.yinst_path.specs.declared.edit.Edit.{Edit}
 use Rattle.ystore.specs.Store.{node_count}
-use Rattle.ystore.specs.declared.row.Row.TheVariants.{Top}
+use Rattle.ystore_rows.specs.declared.row.Row.TheVariants.{Top}
 use Rattle.ystore_tree.specs.Copies.{listed_below}
 use Rattle.ylive.specs.Kept.{Parts}
 use Rattle.ylive.specs.declared.outcome.Outcome.{Outcome}

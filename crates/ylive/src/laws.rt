@@ -9,7 +9,7 @@ ghost use Rattle.ylive_list.specs.Listed.{list_told};
 ghost use Rattle.ylive_list.specs.Telling.{Tells};
 ghost use Rattle.ystore.specs.Store.{total_at};
 ghost use Rattle.ystore.specs.declared.nodes.Nodes.{Nodes};
-ghost use Rattle.ystore.specs.declared.row.Row.TheVariants.{Top};
+ghost use Rattle.ystore_rows.specs.declared.row.Row.TheVariants.{Top};
 ghost use Rattle.ystore_tree.specs.Hanging.{Branches, tree_of};
 ghost use Rattle.ylive_marks.specs.Totals.{IsTree};
 ghost use Rattle.ylive_retell.specs.IsTold.{IsTold};

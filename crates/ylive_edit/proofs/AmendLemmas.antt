@@ -12,14 +12,14 @@ use Rattle.yinst_path.specs.Applying.{told_by}
 use Rattle.yinst_path.specs.Binding.{node_of}
 use Rattle.yinst_path.specs.declared.edit.EditFault.{EditFault}
 use Rattle.yinst_path.specs.declared.edit.EditFault.TheVariants.{Refused, Memory}
-use Rattle.ystore.specs.declared.row.Row.{Row}
-use Rattle.ystore.specs.declared.row.Row.TheVariants.{Top}
+use Rattle.ystore_rows.specs.declared.row.Row.{Row}
+use Rattle.ystore_rows.specs.declared.row.Row.TheVariants.{Top}
 use Rattle.ystore.specs.declared.nodes.Nodes.{Nodes}
 use Rattle.yschema_model.specs.declared.node.SchemaId.{SchemaId}
 use Rattle.yinst.proofs.LocatingLemmas.{number_is}
-use Rattle.ystore.specs.Rows.{of_schema}
+use Rattle.ystore_rows.specs.Rows.{of_schema}
 use Rattle.ystore.specs.Store.{children_at, node_count}
-use Rattle.ystore.specs.declared.row.NodeId.{NodeId}
+use Rattle.ystore_rows.specs.declared.row.NodeId.{NodeId}
 use Rattle.ystore_tree.specs.Hanging.{Branches, Hangs, Numbered, Stands, tree_of}
 use Rattle.ystore_tree.specs.Copies.{ids_of}
 use Rattle.ystore_tree.specs.Parts.{OnlyReads}

@@ -9,8 +9,8 @@ use Rattle.yspec.specs.document.Document.{Stored, Tree, Step, instances_in}
 use Rattle.yspec.specs.document.Instances.{times_at, times_below}
 use Rattle.yspec.specs.edit.Edit.{edit_at, instance_index}
 use Rattle.yspec.specs.edit.Editing.{Branch, BoundStep, Target, with_branch, with_instead, with_moved, without}
-use Rattle.ystore.specs.declared.row.Row.{Row}
-use Rattle.ystore.specs.declared.row.NodeId.{NodeId}
+use Rattle.ystore_rows.specs.declared.row.Row.{Row}
+use Rattle.ystore_rows.specs.declared.row.NodeId.{NodeId}
 use Rattle.ystore.specs.declared.nodes.Nodes.{Nodes}
 use Rattle.yschema_model.specs.declared.node.SchemaId.{SchemaId}
 use Rattle.yspec_reach.specs.Parts.{Exchange, comes, gives_way, goes, stays, instance_alone, meant_alone, outside}

@@ -10,11 +10,11 @@ use Rattle.yspec.specs.edit.EditText as edit
 use Rattle.yspec.specs.edit.Editing.{key_text, fits_keys, positions_where}
 use Rattle.yschema_model.specs.declared.node.SchemaId.{SchemaId}
 use Rattle.yinst_path.specs.Binding.{node_of}
-use Rattle.ystore.specs.Rows.{of_schema}
+use Rattle.ystore_rows.specs.Rows.{of_schema}
 use Rattle.ystore.specs.Store.{holders_at, same_row}
-use Rattle.ystore.specs.declared.row.NodeId.{NodeId}
-use Rattle.ystore.specs.declared.row.Row.{Row}
-use Rattle.ystore.specs.declared.row.Row.TheVariants.{Top, Below}
+use Rattle.ystore_rows.specs.declared.row.NodeId.{NodeId}
+use Rattle.ystore_rows.specs.declared.row.Row.{Row}
+use Rattle.ystore_rows.specs.declared.row.Row.TheVariants.{Top, Below}
 use Rattle.ystore.specs.declared.key.Key as rust
 use Rattle.ystore.specs.declared.nodes.Nodes.{Nodes}
 use Rattle.ystore_tree.specs.Hanging.{Numbered, Branches, child_of, children_of, times, stored_of, tree_of}

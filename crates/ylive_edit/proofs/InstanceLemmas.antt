@@ -21,10 +21,10 @@ use Rattle.yinst_path.specs.declared.edit.EditFault.{EditFault}
 use Rattle.yinst_path.specs.declared.edit.EditFault.TheVariants.{Refused}
 use Rattle.yinst.specs.Locating.{meant_in}
 use Rattle.yinst.proofs.LocatingLemmas.{meant_at}
-use Rattle.ystore.specs.Rows.{of_schema}
+use Rattle.ystore_rows.specs.Rows.{of_schema}
 use Rattle.ystore.specs.Store.{children_at}
-use Rattle.ystore.specs.declared.row.NodeId.{NodeId}
-use Rattle.ystore.specs.declared.row.Row.{Row}
+use Rattle.ystore_rows.specs.declared.row.NodeId.{NodeId}
+use Rattle.ystore_rows.specs.declared.row.Row.{Row}
 use Rattle.ystore.specs.declared.nodes.Nodes.{Nodes}
 use Rattle.ystore_tree.specs.Hanging.{Branches, Hangs, tree_of, stored_of}
 use Rattle.ystore_tree.specs.Ways.{Found}

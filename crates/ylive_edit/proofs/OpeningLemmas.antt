@@ -11,9 +11,9 @@ use Rattle.yspec.specs.edit.Editing.{Branch, with_branch}
 use Rattle.yinst_tree.specs.View.{view, row_view}
 use Rattle.yinst_tree.specs.declared.tree.Stored as rust
 use Rattle.ystore.specs.Store.{Stays, children_at}
-use Rattle.ystore.specs.declared.row.NodeId.{NodeId}
-use Rattle.ystore.specs.declared.row.Row.{Row}
-use Rattle.ystore.specs.declared.row.Row.TheVariants.{Top, Below}
+use Rattle.ystore_rows.specs.declared.row.NodeId.{NodeId}
+use Rattle.ystore_rows.specs.declared.row.Row.{Row}
+use Rattle.ystore_rows.specs.declared.row.Row.TheVariants.{Top, Below}
 use Rattle.ystore.specs.declared.nodes.Nodes.{Nodes}
 use Rattle.ystore_tree.specs.Hanging.{Numbered, Branches, Keeps, child_of, children_of, stored_of, tree_of}
 use Rattle.ystore_tree.specs.Parts.{OnlyReads}

@@ -11,15 +11,15 @@ use Rattle.yspec.specs.document.Sorting.{IsSorted}
 use Rattle.yspec.specs.edit.Edit.{edit_at, instance_index}
 use Rattle.yspec.specs.edit.Editing.{Branch, EditRefusal, with_branch, with_instead, with_moved, within_limit, without}
 use Rattle.yschema_model.specs.declared.node.SchemaId.{SchemaId}
-use Rattle.ystore.specs.Rows as rows
+use Rattle.ystore_rows.specs.Rows as rows
 use Rattle.ystore.specs.Store.{node_count, MakesRoom, Stays}
 use Rattle.ystore.proofs.CallerLemmas.{room_is_there}
 use Rattle.yinst_path.specs.declared.edit.EditFault.{EditFault}
 use Rattle.yinst_path.specs.declared.edit.EditFault.TheVariants.{Refused, Memory}
 use Rattle.yinst_path.specs.declared.edit.EditCode.TheVariants.{E11}
-use Rattle.ystore.specs.declared.row.NodeId.{NodeId}
-use Rattle.ystore.specs.declared.row.Row.{Row}
-use Rattle.ystore.specs.declared.row.Row.TheVariants.{Top}
+use Rattle.ystore_rows.specs.declared.row.NodeId.{NodeId}
+use Rattle.ystore_rows.specs.declared.row.Row.{Row}
+use Rattle.ystore_rows.specs.declared.row.Row.TheVariants.{Top}
 use Rattle.ystore.specs.declared.nodes.Nodes.{Nodes}
 use Rattle.ystore_tree.specs.Hanging.{Numbered, Branches, stored_of, tree_of, children_of, Keeps}
 use Rattle.ystore_tree.specs.Ways.{Way, Goes, around, end_of}

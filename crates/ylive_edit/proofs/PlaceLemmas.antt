@@ -7,10 +7,10 @@ use Rattle.yspec.specs.schema.Schema.{Schema}
 use Rattle.yspec.specs.document.Document.{Tree, Step, instances_in}
 use Rattle.yschema_model.specs.declared.node.SchemaId.{SchemaId}
 use Rattle.ystore.specs.Entries.{StandsOnce, place_of}
-use Rattle.ystore.specs.Rows.{of_schema}
+use Rattle.ystore_rows.specs.Rows.{of_schema}
 use Rattle.ystore.specs.Store.{children_at}
-use Rattle.ystore.specs.declared.row.NodeId.{NodeId}
-use Rattle.ystore.specs.declared.row.Row.{Row}
+use Rattle.ystore_rows.specs.declared.row.NodeId.{NodeId}
+use Rattle.ystore_rows.specs.declared.row.Row.{Row}
 use Rattle.ystore.specs.declared.nodes.Nodes.{Nodes}
 use Rattle.ystore_tree.specs.Hanging.{Numbered, Branches, child_of, children_of, is_number, times, tree_of}
 use Rattle.ystore_tree.specs.Ways.{Found}

@@ -17,7 +17,7 @@ use Rattle.yspec_reach.specs.Sizes.{part_size, weight}
 use Rattle.yinst_path.specs.declared.edit.EditFault.{EditFault}
 use Rattle.yinst_path.specs.declared.edit.EditFault.TheVariants.{Refused, Memory}
 use Rattle.ystore.specs.Store.{reads}
-use Rattle.ystore.specs.declared.row.NodeId.{NodeId}
+use Rattle.ystore_rows.specs.declared.row.NodeId.{NodeId}
 use Rattle.ystore.specs.declared.nodes.Nodes.{Nodes}
 use Rattle.ystore_tree.specs.Growing.{Removes}
 use Rattle.ystore_tree.specs.Hanging.{Numbered, Branches, stored_of, tree_of}

@@ -17,8 +17,8 @@ use Rattle.ycheck.specs.Targets.{required_target}
 use Rattle.yinst_path.specs.Binding.{node_of}
 use Rattle.ystore.specs.Entries.{Entry}
 use Rattle.ystore.specs.Store.{holders_at, same_row, same_key}
-use Rattle.ystore.specs.declared.row.Row.{Row}
-use Rattle.ystore.specs.declared.row.Row.TheVariants.{Top, Below}
+use Rattle.ystore_rows.specs.declared.row.Row.{Row}
+use Rattle.ystore_rows.specs.declared.row.Row.TheVariants.{Top, Below}
 use Rattle.ystore.specs.declared.key.Key as rust
 use Rattle.ystore.specs.declared.key.Key.TheVariants.{Value, Item, Tuple as TupleKey, Texts}
 use Rattle.ystore.specs.declared.nodes.Nodes.{Nodes}

@@ -8,7 +8,7 @@ use Rattle.yspec.specs.edit.Editing.{EditRefusal, refused}
 use Rattle.yschema_model.specs.declared.node.SchemaId.{SchemaId}
 use Rattle.yinst_path.specs.Applying.{told_by}
 use Rattle.yinst_path.specs.declared.edit.EditFault.{EditFault}
-use Rattle.ystore.specs.declared.row.NodeId.{NodeId}
+use Rattle.ystore_rows.specs.declared.row.NodeId.{NodeId}
 use Rattle.ystore_tree.specs.Hanging.{Branches}
 use Rattle.ystore_tree.specs.Ways.{Found}
 

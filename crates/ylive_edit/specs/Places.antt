@@ -13,9 +13,9 @@ use Rattle.yinst_tree.specs.declared.tree.Stored.{Stored}
 use Rattle.yinst_path.specs.Applying.{refusal_view}
 use Rattle.yinst_path.specs.declared.edit.EditFault.{EditFault}
 use Rattle.yinst_path.specs.declared.edit.EditFault.TheVariants.{Refused, Memory}
-use Rattle.ystore.specs.declared.row.NodeId.{NodeId}
-use Rattle.ystore.specs.declared.row.Row.{Row}
-use Rattle.ystore.specs.declared.row.Row.TheVariants.{Top}
+use Rattle.ystore_rows.specs.declared.row.NodeId.{NodeId}
+use Rattle.ystore_rows.specs.declared.row.Row.{Row}
+use Rattle.ystore_rows.specs.declared.row.Row.TheVariants.{Top}
 use Rattle.ystore.specs.declared.nodes.Nodes.{Nodes}
 use Rattle.ystore.specs.Store.{node_count}
 use Rattle.ystore_tree.specs.Hanging.{Branches, Hangs, Keeps, tree_of}

@@ -15,7 +15,7 @@ use Rattle.yspec.specs.edit.EditText.{Key}
 use Rattle.yspec.specs.edit.Editing.{text_of, is_the_text, key_text, fits_keys, positions_where}
 use Rattle.ycheck.specs.Targets.{required_target}
 use Rattle.ystore.specs.Store.{same_row}
-use Rattle.ystore.specs.declared.row.Row.{Row}
+use Rattle.ystore_rows.specs.declared.row.Row.{Row}
 use Rattle.ylive_facts.specs.Keys as words
 use Rattle.ylive_facts.specs.Keys.{value_key, texts_key, is_held, times_held, texts_in, entry_key, first_key, kind_reference, key_at}
 use Rattle.ylive_facts.proofs.SameLemmas.{row_itself}

@@ -13,7 +13,7 @@ use Rattle.yspec.specs.schema.Schema.{Schema, SchemaNode, Kind, container, leaf,
 use Rattle.yspec.specs.document.Document.{Stored, Tree}
 use Rattle.yspec.specs.document.Instances.{Tuple, value_of, is_value, is_tuple, same_tuple, kind_tuple, tuple_of_paths, paths_of, tuples_in, items_in}
 use Rattle.ycheck.specs.Targets.{required_target}
-use Rattle.ystore.specs.declared.row.Row.{Row}
+use Rattle.ystore_rows.specs.declared.row.Row.{Row}
 use Rattle.ylive_facts.specs.Keys.{Key, value_key, item_key, tuple_key, texts_key, slot_of, is_held, times_held, texts_in, entry_key, first_key, kind_reference, reference_key, key_at, kind_key, item_key_at, kind_flags, slots_of, is_item, is_kind_item}
 use Rattle.ylive_facts.proofs.SameLemmas.{row_itself}
 

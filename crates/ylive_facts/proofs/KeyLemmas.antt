@@ -12,8 +12,8 @@ use Rattle.yspec_reach.specs.Sizes.{levels}
 use Rattle.ystore.specs.Held.{Label}
 use Rattle.ystore.specs.Store.{label_at, reads}
 use Rattle.ystore.specs.declared.nodes.Nodes.{Nodes}
-use Rattle.ystore.specs.declared.row.NodeId.{NodeId}
-use Rattle.ystore.specs.declared.row.Row.{Row}
+use Rattle.ystore_rows.specs.declared.row.NodeId.{NodeId}
+use Rattle.ystore_rows.specs.declared.row.Row.{Row}
 use Rattle.ystore.specs.declared.key.Key as rust
 use Rattle.ylive_facts.specs.Keys.{Key, Holding, key_view, holdings, held_with, keys_from, first_key, key_at, flagged_key, slots_of}
 use Rattle.ylive_facts.specs.Reads.{keys_reads, names_at, names_of}

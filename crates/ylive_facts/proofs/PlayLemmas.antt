@@ -11,7 +11,7 @@ use Rattle.yspec.specs.document.Play.{cases, stored_cases, or_default, stored_in
 use Rattle.yspec_play.specs.Absences.{Absent, Default, choice_told, absences_in, node_absences, defaults_in, node_defaults}
 use Rattle.yspec_play.specs.Over.{told_over, used_over}
 use Rattle.ystore.specs.Store.{children_at}
-use Rattle.ystore.specs.declared.row.Row.{Row}
+use Rattle.ystore_rows.specs.declared.row.Row.{Row}
 use Rattle.ystore.specs.declared.nodes.Nodes.{Nodes}
 use Rattle.ystore_tree.specs.Hanging.{Branches, Hangs, tree_of}
 use Rattle.ystore_tree.proofs.FoundLemmas.{counted}

@@ -10,11 +10,11 @@ use Rattle.yspec.specs.document.Document.{Stored, Tree, row_in}
 use Rattle.yspec.specs.document.Instances.{container_row, implied_row}
 use Rattle.yschema_model.specs.declared.node.SchemaId.{SchemaId}
 use Rattle.ystore.specs.Held.{Label}
-use Rattle.ystore.specs.Rows.{Child}
+use Rattle.ystore_rows.specs.Rows.{Child}
 use Rattle.ystore.specs.Store.{label_at}
-use Rattle.ystore.specs.declared.row.NodeId.{NodeId}
-use Rattle.ystore.specs.declared.row.Row.{Row}
-use Rattle.ystore.specs.declared.row.Row.TheVariants.{Below}
+use Rattle.ystore_rows.specs.declared.row.NodeId.{NodeId}
+use Rattle.ystore_rows.specs.declared.row.Row.{Row}
+use Rattle.ystore_rows.specs.declared.row.Row.TheVariants.{Below}
 use Rattle.ystore.specs.declared.nodes.Nodes.{Nodes}
 use Rattle.ystore_tree.specs.Hanging.{Numbered, Branches, stored_of, tree_of, child_of, children_of, Stands, Hangs}
 use Rattle.ystore_tree.specs.Parts.{OnlyReads}

@@ -13,9 +13,9 @@ use Rattle.std.proofs.lemmas.Bool.Decides.{nat_tests}
 use Rattle.std.proofs.lemmas.Map.Text.{is_eq-slice_cmp}
 use Rattle.yspec.specs.types.Types.{Val}
 use Rattle.yspec.specs.types.Order.{value_cmp, same_value}
-use Rattle.ystore.specs.contracts.row.RowOrd.TheImpl.{ghosts}
-use Rattle.ystore.specs.declared.row.Row.{Row}
-use Rattle.ystore.specs.declared.row.Row.TheVariants.{Top, Below}
+use Rattle.ystore_rows.specs.contracts.row.RowOrd.TheImpl.{ghosts}
+use Rattle.ystore_rows.specs.declared.row.Row.{Row}
+use Rattle.ystore_rows.specs.declared.row.Row.TheVariants.{Top, Below}
 use Rattle.ystore.specs.declared.key.Key as rust
 use Rattle.ystore.specs.declared.key.Key.TheVariants.{Value, Item, Tuple, Texts}
 use Rattle.ystore.specs.Store.{same_key, same_row}

@@ -14,7 +14,7 @@ use Rattle.yspec.specs.document.Instances.{Tuple, tuple, kind_tuple, tuple_of_pa
 use Rattle.yspec.specs.document.Faults.{Times, RowTimes, requires_instance, value_faults, item_twice, tuple_fault, tuple_faults, own_faults, faults_at}
 use Rattle.ycheck.specs.Targets.{required_target}
 use Rattle.ycheck.specs.Walk.{marks_told, repetition}
-use Rattle.ystore.specs.declared.row.Row.{Row}
+use Rattle.ystore_rows.specs.declared.row.Row.{Row}
 use Rattle.ylive_facts.specs.Judging.{Judged, right, wrong, missing, kind_judged}
 use Rattle.ylive_facts.specs.Keys.{Key, value_key, item_key, tuple_key, kind_key, item_key_at, kind_flags}
 use Rattle.ylive_facts.specs.Telling.{times_of, with_reference, is_shared, flags_from, judged_at, flags_at, judged_faults, told_faults}

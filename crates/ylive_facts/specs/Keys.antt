@@ -13,8 +13,8 @@ use Rattle.yspec.specs.document.Instances.{Tuple, value_of, same_tuple, tuple_of
 use Rattle.yspec.specs.edit.Editing.{text_of}
 use Rattle.ycheck.specs.Targets.{required_target}
 use Rattle.ystore.specs.Store.{same_row}
-use Rattle.ystore.specs.declared.row.NodeId.{NodeId}
-use Rattle.ystore.specs.declared.row.Row.{Row}
+use Rattle.ystore_rows.specs.declared.row.NodeId.{NodeId}
+use Rattle.ystore_rows.specs.declared.row.Row.{Row}
 use Rattle.ystore.specs.declared.key.Key as rust
 use Rattle.ystore.specs.declared.key.Key.TheVariants.{Value, Item, Tuple as TupleKey, Texts}
 

@@ -7,7 +7,7 @@ use Rattle.yspec.specs.schema.Schema.{Schema, SchemaNode, Kind, list, choice, Le
 use Rattle.yspec.specs.document.Instances.{paths_of}
 use Rattle.yspec_reach.specs.Sizes.{name_count, near_count, starts_anew}
 use Rattle.ystore.specs.Store.{label_at}
-use Rattle.ystore.specs.declared.row.NodeId.{NodeId}
+use Rattle.ystore_rows.specs.declared.row.NodeId.{NodeId}
 use Rattle.ystore.specs.declared.nodes.Nodes.{Nodes}
 
 -- ---- keys

@@ -7,7 +7,7 @@ use Rattle.yspec.specs.document.FaultCode.{V1, V11}
 use Rattle.yspec.specs.document.Fault.{Fault, fault, plain_fault}
 use Rattle.yspec.specs.document.Faults.{Times, RowTimes}
 use Rattle.ycheck.specs.Walk.{marks_told}
-use Rattle.ystore.specs.declared.row.Row.{Row}
+use Rattle.ystore_rows.specs.declared.row.Row.{Row}
 use Rattle.ylive_facts.specs.Judging.{Judged, right, wrong, missing, value_judged}
 use Rattle.ylive_facts.specs.Keys.{Key, value_key, item_key, tuple_key, texts_key, reference_key, flagged_key, flags_of}
 

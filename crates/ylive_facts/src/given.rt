@@ -5,7 +5,7 @@ ghost use Rattle.yspec.specs.Forest.{end, node};
 ghost use Rattle.yschema_model.specs.View as schema_view;
 ghost use Rattle.ystore.specs.Store.{reads};
 ghost use Rattle.ystore.specs.Views.{store_of, lent};
-ghost use Rattle.ystore.specs.declared.row.Row as rows;
+ghost use Rattle.ystore_rows.specs.declared.row.Row as rows;
 ghost use Rattle.ystore_tree.specs.Hanging.{Branches, Numbered, Stands, stored_of};
 ghost use Rattle.ystore_tree.specs.Parts.{OnlyReads};
 ghost use Rattle.ylive_facts.specs.Given as words;

@@ -11,7 +11,7 @@ ghost use Rattle.ycheck.specs.Targets as targets;
 ghost use Rattle.yspec_reach.specs.Sizes.{levels};
 ghost use Rattle.ystore.specs.Store.{reads};
 ghost use Rattle.ystore.specs.Views.{store_of, lent};
-ghost use Rattle.ystore.specs.declared.row.Row.TheVariants.{Below};
+ghost use Rattle.ystore_rows.specs.declared.row.Row.TheVariants.{Below};
 ghost use Rattle.ystore_tree.specs.Hanging.{Branches, Hangs, Numbered, Stands, stored_of, tree_of};
 ghost use Rattle.ystore_tree.specs.Parts.{OnlyReads};
 ghost use Rattle.ylive_facts.specs.Rows.{leaf_at};

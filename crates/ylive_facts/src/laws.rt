@@ -12,7 +12,7 @@ ghost use Rattle.yspec.specs.edit.EditText as edit;
 ghost use Rattle.yspec.specs.edit.Editing.{key_text, fits_keys, positions_where};
 ghost use Rattle.yspec_play.specs.Absences.{defaults_in, is_default};
 ghost use Rattle.ystore.specs.Store.{same_key};
-ghost use Rattle.ystore.specs.declared.row.Row.{Row};
+ghost use Rattle.ystore_rows.specs.declared.row.Row.{Row};
 ghost use Rattle.ylive_facts.specs.Given.{is_referred, own_values, referred};
 ghost use Rattle.ylive_facts.specs.Keys as words;
 ghost use Rattle.ylive_facts.specs.Telling as telling;

@@ -11,7 +11,7 @@ ghost use Rattle.yschema_model.specs.Layout.{kind_view, numbers_of};
 ghost use Rattle.yschema_model.specs.View as schema_view;
 ghost use Rattle.ystore.specs.Store.{reads};
 ghost use Rattle.ystore.specs.Views.{store_of, lent, IsRead};
-ghost use Rattle.ystore.specs.declared.row.Row as rows;
+ghost use Rattle.ystore_rows.specs.declared.row.Row as rows;
 ghost use Rattle.ystore_tree.specs.Hanging.{Branches, Numbered, Stands, stored_of, tree_of};
 ghost use Rattle.ystore_tree.specs.Parts.{OnlyReads};
 ghost use Rattle.ylive_facts.specs.Rows.{HangsIn, RowIs, leaf_at, stored_as};

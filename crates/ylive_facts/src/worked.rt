@@ -3,7 +3,7 @@
 ghost use Rattle.std.specs.Prelude.{◌≡◌, [], ◌∷◌, codes, pos, Some, None};
 ghost use Rattle.yspec.specs.Forest.{end};
 ghost use Rattle.yspec.specs.types.Types.{int};
-ghost use Rattle.ystore.specs.declared.row.Row.TheVariants.{Top};
+ghost use Rattle.ystore_rows.specs.declared.row.Row.TheVariants.{Top};
 ghost use Rattle.ylive_facts.specs.Keys.{held_by, key_at, texts_key, tuple_key, value_key};
 ghost use Rattle.ylive_facts.specs.Worked.{schema, stored, keyless, seven, whole, word, wordless, wrong};
 

@@ -7,10 +7,10 @@ use Rattle.yspec.specs.document.Fault.{Fault}
 use Rattle.yspec.specs.document.Faults.{under}
 use Rattle.yspec_play.specs.Absences.{Absent}
 use Rattle.yspec_play.specs.Merging.{absence_fault, behind, merged_behind, position_behind, step_of, up_to}
-use Rattle.ystore.specs.Rows.{Child}
+use Rattle.ystore_rows.specs.Rows.{Child}
 use Rattle.ystore.specs.Store.{children_at}
 use Rattle.ystore.specs.declared.nodes.Nodes.{Nodes}
-use Rattle.ystore.specs.declared.row.Row.TheVariants.{Below}
+use Rattle.ystore_rows.specs.declared.row.Row.TheVariants.{Below}
 use Rattle.ylive_list.specs.Listed.{child_told, children_told, told_below}
 use Rattle.ylive_list.specs.Walked.{row_of, AwaitsChild}
 use Rattle.ylive_list.specs.declared.findings.Findings.{Findings}

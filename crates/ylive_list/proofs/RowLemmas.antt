@@ -9,10 +9,10 @@ use Rattle.yspec.specs.document.Faults.{Told, under}
 use Rattle.ycheck.specs.declared.fault.FaultCode.{FaultCode}
 use Rattle.yschema_model.specs.declared.node.SchemaId.{SchemaId}
 use Rattle.yspec_play.specs.Merging.{absence_fault, behind, merged_behind, position_behind, step_of, up_to}
-use Rattle.ystore.specs.Rows.{Child}
+use Rattle.ystore_rows.specs.Rows.{Child}
 use Rattle.ystore.specs.Store.{children_at, play_at}
 use Rattle.ystore.specs.declared.nodes.Nodes.{Nodes}
-use Rattle.ystore.specs.declared.row.Row.TheVariants.{Below}
+use Rattle.ystore_rows.specs.declared.row.Row.TheVariants.{Below}
 use Rattle.ylive_list.specs.Listed.{absence_of, absences_of, child_told, children_told, told_below}
 use Rattle.ylive_list.specs.declared.row_left.RowLeft.{RowLeft}
 use Rattle.ylive_list.specs.Walked.{row_of, number_above, play_left, children_left, below_left, row_left, step_in, visits, visits_below, AwaitsChild, IsNext, NoneComes, Passes}

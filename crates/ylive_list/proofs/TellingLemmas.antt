@@ -6,7 +6,7 @@ use Rattle.std.specs.Option.{option_map_or}
 use Rattle.std.specs.Prelude.{sum_by, option_map, option_and_then, get_or, unwrap_or}
 use Rattle.std.proofs.lemmas.List.Sums.{sum_by-cons}
 use Rattle.ystore.specs.Held.{Held}
-use Rattle.ystore.specs.Rows.{Child}
+use Rattle.ystore_rows.specs.Rows.{Child}
 use Rattle.ystore.specs.declared.record.Judged.{Judged}
 use Rattle.ystore.specs.declared.record.Judged.TheVariants.{Right, Wrong, Missing}
 use Rattle.std.proofs.lemmas.Option.{slice_get_past}
@@ -27,8 +27,8 @@ use Rattle.yspec_play.specs.Merging.{CasesInChoices, merged, absences_below, lis
 use Rattle.yspec_play.proofs.ListLemmas.{documents_listed, merged_counted, listed_counted}
 use Rattle.yspec_play.proofs.PlacedLemmas.{cases_of}
 use Rattle.ystore.specs.Store.{same_at, total_at, node_count, held_at, play_at}
-use Rattle.ystore.specs.declared.row.Row.{Row}
-use Rattle.ystore.specs.declared.row.Row.TheVariants.{Top, Below}
+use Rattle.ystore_rows.specs.declared.row.Row.{Row}
+use Rattle.ystore_rows.specs.declared.row.Row.TheVariants.{Top, Below}
 use Rattle.ystore.specs.declared.nodes.Nodes.{Nodes}
 use Rattle.ystore_tree.specs.Hanging.{Numbered, Branches, child_of, children_of as children_in, stored_of, tree_of, Stands, Hangs}
 use Rattle.ystore_tree.proofs.HangingLemmas as hanging

@@ -11,10 +11,10 @@ use Rattle.yspec.specs.document.Fault.{Fault}
 use Rattle.yspec.specs.document.Faults.{Told, under}
 use Rattle.yspec.specs.document.RowFaults.{prefixed}
 use Rattle.yspec_play.specs.Merging.{merged_behind}
-use Rattle.ystore.specs.Rows.{Child}
+use Rattle.ystore_rows.specs.Rows.{Child}
 use Rattle.ystore.specs.Store.{children_at, play_at, same_at}
 use Rattle.ystore.specs.declared.nodes.Nodes.{Nodes}
-use Rattle.ystore.specs.declared.row.Row.TheVariants.{Top, Below}
+use Rattle.ystore_rows.specs.declared.row.Row.TheVariants.{Top, Below}
 use Rattle.ycheck.specs.Walk.{marks_told}
 use Rattle.ylive_list.specs.Listed.{absences_of, child_told, children_told, is_item, judged_at, judged_told, row_told, told_below, told_from}
 use Rattle.ylive_list.specs.declared.node_left.NodeLeft.{NodeLeft}

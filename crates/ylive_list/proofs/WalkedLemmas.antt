@@ -16,7 +16,7 @@ use Rattle.yspec_play.specs.Merging.{listed, merged}
 use Rattle.yspec_play.proofs.ListLemmas.{documents_listed}
 use Rattle.yspec_play.proofs.PlacedLemmas.{cases_of}
 use Rattle.ystore.specs.declared.nodes.Nodes.{Nodes}
-use Rattle.ystore.specs.declared.row.Row.TheVariants.{Top}
+use Rattle.ystore_rows.specs.declared.row.Row.TheVariants.{Top}
 use Rattle.ystore_tree.specs.Hanging.{Branches, Hangs, stored_of, tree_of}
 use Rattle.ylive_list.specs.Listed.{row_told}
 use Rattle.ylive_list.specs.Telling.{Tells}

@@ -12,11 +12,11 @@ use Rattle.ycheck.specs.Walk.{marks_told}
 use Rattle.ycheck.specs.declared.fault.FaultCode.{FaultCode}
 use Rattle.yspec_play.specs.Absences.{Absent}
 use Rattle.yspec_play.specs.Merging.{merged}
-use Rattle.ystore.specs.Rows.{Child}
+use Rattle.ystore_rows.specs.Rows.{Child}
 use Rattle.ystore.specs.Store.{held_at, children_at, play_at, same_at, total_at, node_count}
-use Rattle.ystore.specs.declared.row.NodeId.{NodeId}
-use Rattle.ystore.specs.declared.row.Row.{Row}
-use Rattle.ystore.specs.declared.row.Row.TheVariants.{Top, Below}
+use Rattle.ystore_rows.specs.declared.row.NodeId.{NodeId}
+use Rattle.ystore_rows.specs.declared.row.Row.{Row}
+use Rattle.ystore_rows.specs.declared.row.Row.TheVariants.{Top, Below}
 use Rattle.ystore.specs.declared.record.Judged.{Judged}
 use Rattle.ystore.specs.declared.record.Judged.TheVariants.{Right, Wrong, Missing}
 use Rattle.ystore.specs.declared.nodes.Nodes.{Nodes}

@@ -10,8 +10,8 @@ use Rattle.yspec.specs.document.Faults.{Times, RowTimes, row_times, faults_at}
 use Rattle.yspec_play.specs.Merging.{absences_below}
 use Rattle.ystore.specs.Held as held
 use Rattle.ystore.specs.Store.{held_at, play_at, total_at}
-use Rattle.ystore.specs.declared.row.Row.{Row}
-use Rattle.ystore.specs.declared.row.Row.TheVariants.{Top, Below}
+use Rattle.ystore_rows.specs.declared.row.Row.{Row}
+use Rattle.ystore_rows.specs.declared.row.Row.TheVariants.{Top, Below}
 use Rattle.ystore.specs.declared.record.Judged.{Judged}
 use Rattle.ystore.specs.declared.record.Judged.TheVariants.{Right, Wrong, Missing}
 use Rattle.ystore.specs.declared.nodes.Nodes.{Nodes}

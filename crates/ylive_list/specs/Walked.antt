@@ -12,12 +12,12 @@ use Rattle.yschema_model.specs.declared.node.SchemaId.{SchemaId}
 use Rattle.ycheck.specs.Walk.{marks_told}
 use Rattle.ycheck.specs.declared.fault.FaultCode.{FaultCode}
 use Rattle.yspec_play.specs.Merging.{absence_fault, merged_behind, step_of}
-use Rattle.ystore.specs.Rows.{Child}
+use Rattle.ystore_rows.specs.Rows.{Child}
 use Rattle.ystore.specs.Store.{children_at, play_at, same_at, total_at}
 use Rattle.ystore.specs.Viewed.{viewed}
 use Rattle.ystore.specs.declared.nodes.Nodes.{Nodes}
-use Rattle.ystore.specs.declared.row.Row.{Row}
-use Rattle.ystore.specs.declared.row.Row.TheVariants.{Top, Below}
+use Rattle.ystore_rows.specs.declared.row.Row.{Row}
+use Rattle.ystore_rows.specs.declared.row.Row.TheVariants.{Top, Below}
 use Rattle.ylive_list.specs.Listed.{absence_of, absences_of, child_told, children_told, is_item, judged_at, judged_told, row_told, told_below}
 use Rattle.ylive_list.specs.Seen.{seen_view}
 use Rattle.ylive_list.specs.declared.node_left.NodeLeft.{NodeLeft}

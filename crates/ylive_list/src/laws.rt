@@ -13,7 +13,7 @@ ghost use Rattle.ycheck.specs.Walk.{marks_told, value_told};
 ghost use Rattle.yspec_play.specs.Merging.{CasesInChoices, listed};
 ghost use Rattle.ystore.specs.Store.{node_count, play_at, same_at, total_at};
 ghost use Rattle.ystore.specs.declared.nodes.Nodes.{Nodes};
-ghost use Rattle.ystore.specs.declared.row.Row.TheVariants.{Top};
+ghost use Rattle.ystore_rows.specs.declared.row.Row.TheVariants.{Top};
 ghost use Rattle.ystore_tree.specs.Hanging.{Branches, Hangs, Numbered, child_of, stored_of, tree_of};
 ghost use Rattle.ylive_list.specs.Listed.{judged_at, judged_told, list_told, own_told};
 ghost use Rattle.ylive_list.specs.Seen.{seen_view};

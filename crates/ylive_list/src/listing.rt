@@ -18,7 +18,7 @@ ghost use Rattle.ylive_list.specs.Found.{Adds};
 ghost use Rattle.ylive_list.specs.Listed as spec;
 ghost use Rattle.ylive_list.specs.Listed.{absences_of, child_told, children_told, judged_told, list_told, own_told, row_told, told_below, told_from};
 ghost use Rattle.ylive_list.specs.Telling.{Tells};
-ghost use Rattle.ystore.specs.declared.row.Row.TheVariants.{Below, Top};
+ghost use Rattle.ystore_rows.specs.declared.row.Row.TheVariants.{Below, Top};
 
 use crate::absent::{list_absences, list_up_to};
 use crate::findings::{Findings, tell};

@@ -7,7 +7,7 @@ ghost use Rattle.yspec.specs.document.Fitting.{Fits};
 ghost use Rattle.yschema_model.specs.View as schema_view;
 ghost use Rattle.yinst_tree.specs.View.{place_view};
 ghost use Rattle.ystore.specs.Viewed.{viewed};
-ghost use Rattle.ystore.specs.declared.row.Row.TheVariants.{Top};
+ghost use Rattle.ystore_rows.specs.declared.row.Row.TheVariants.{Top};
 ghost use Rattle.ystore_tree.specs.Hanging.{Branches, Hangs, tree_of};
 ghost use Rattle.ylive_list.specs.Listed.{row_told};
 ghost use Rattle.ylive_list.specs.Seen.{steps_in};

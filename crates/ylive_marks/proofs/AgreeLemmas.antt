@@ -15,9 +15,9 @@ use Rattle.ystore.specs.Entries as entries
 use Rattle.ystore.specs.Entries.{Entry, with_awaited, with_instance, without_instance}
 use Rattle.ystore.specs.Index.{made_ready, tidied}
 use Rattle.ystore.specs.Store.{held_at, entry_at, same_at, total_at, holders_at, instances_at, same_row, same_key, ChangesEntry}
-use Rattle.ystore.specs.declared.row.NodeId.{NodeId}
-use Rattle.ystore.specs.declared.row.Row.{Row}
-use Rattle.ystore.specs.declared.row.Row.TheVariants.{Top, Below}
+use Rattle.ystore_rows.specs.declared.row.NodeId.{NodeId}
+use Rattle.ystore_rows.specs.declared.row.Row.{Row}
+use Rattle.ystore_rows.specs.declared.row.Row.TheVariants.{Top, Below}
 use Rattle.ystore.specs.declared.key.Key.{Key}
 use Rattle.ystore.specs.declared.record.Judged.{Judged}
 use Rattle.ystore.specs.declared.nodes.Nodes.{Nodes}

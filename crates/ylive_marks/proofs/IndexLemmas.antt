@@ -7,7 +7,7 @@ use Rattle.std.proofs.lemmas.Option.{same_Some, none-some}
 use Rattle.std.proofs.lemmas.List.Sums.{sum_by-cons, sum_by-append, sum_by-swap_remove}
 use Rattle.ystore.specs.Entries.{Entry, place_of, without}
 use Rattle.ystore.specs.Store.{entry_at, holders_at, instances_at, same_key}
-use Rattle.ystore.specs.declared.row.NodeId.{NodeId}
+use Rattle.ystore_rows.specs.declared.row.NodeId.{NodeId}
 use Rattle.ystore.specs.declared.key.Key.{Key}
 use Rattle.ystore.specs.declared.nodes.Nodes.{Nodes}
 use Rattle.ystore_tree.specs.Hanging.{Branches, times}

@@ -8,9 +8,9 @@ use Rattle.yspec.specs.Forest.{levels}
 use Rattle.ystore.specs.Held.{Told, with_same, with_judged}
 use Rattle.ystore.specs.Entries.{Entry, with_node, without_node, without}
 use Rattle.ystore.specs.Store.{held_at, reads, entry_at, same_at, holders_at, instances_at, node_count, same_row, same_key, ChangesEntry, total_at}
-use Rattle.ystore.specs.declared.row.NodeId.{NodeId}
-use Rattle.ystore.specs.declared.row.Row.{Row}
-use Rattle.ystore.specs.declared.row.Row.TheVariants.{Top, Below}
+use Rattle.ystore_rows.specs.declared.row.NodeId.{NodeId}
+use Rattle.ystore_rows.specs.declared.row.Row.{Row}
+use Rattle.ystore_rows.specs.declared.row.Row.TheVariants.{Top, Below}
 use Rattle.ystore.specs.declared.key.Key.{Key}
 use Rattle.ystore.specs.declared.record.Judged.{Judged}
 use Rattle.ystore.specs.declared.record.Judged.TheVariants.{Right, Missing}

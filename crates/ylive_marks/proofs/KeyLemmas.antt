@@ -4,7 +4,7 @@ use Rattle.std.proofs.lemmas.Bool.{false≢true}
 use Rattle.std.specs.Option.{option_map_or}
 use Rattle.std.specs.Ordering.{ordering_then, nat_cmp}
 use Rattle.std.proofs.lemmas.Map.Lookups.{exact_unsigned}
-use Rattle.ystore.specs.contracts.row.RowOrd.TheImpl as row_ord
+use Rattle.ystore_rows.specs.contracts.row.RowOrd.TheImpl as row_ord
 use Rattle.yschema_model.specs.contracts.node.SchemaIdOrd.TheImpl as schema_ord
 use Rattle.ystore.specs.Store.{entry_at, instances_at, same_key}
 use Rattle.ystore.specs.declared.key.Key.{Key}

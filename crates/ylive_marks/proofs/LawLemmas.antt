@@ -3,12 +3,12 @@ use Rattle.std.specs.Option.{option_map_or}
 use Rattle.ylive_marks.proofs.WayLemmas.{not_both}
 use Rattle.std.proofs.Common.{◌+◌, ◌<◌, ◌≡◌, ℕ, zero, suc, ◌-◌, ◌^◌, ◌≤◌, List, option_map, refl, sym, ap, ◌∙◌, arith, subst, cond, Bool, true, false, min, length}
 use Rattle.yspec.specs.Forest.{end, node, join, size, weigh}
-use Rattle.ystore.specs.Rows.{Child, end_place, first_place, of_schema}
+use Rattle.ystore_rows.specs.Rows.{Child, end_place, first_place, of_schema}
 use Rattle.ystore.specs.Held.{with_children, with_room}
 use Rattle.ystore.specs.Store.{held_at, total_at, ChangesRow}
-use Rattle.ystore.specs.declared.row.NodeId.{NodeId}
-use Rattle.ystore.specs.declared.row.Row.{Row}
-use Rattle.ystore.specs.declared.row.Row.TheVariants.{Top, Below}
+use Rattle.ystore_rows.specs.declared.row.NodeId.{NodeId}
+use Rattle.ystore_rows.specs.declared.row.Row.{Row}
+use Rattle.ystore_rows.specs.declared.row.Row.TheVariants.{Top, Below}
 use Rattle.ystore.specs.declared.nodes.Nodes.{Nodes}
 use Rattle.ystore_tree.specs.Hanging.{Numbered, Branches, Keeps, children_of, times, is_number}
 use Rattle.ystore_tree.specs.Ways.{Way, around}

@@ -8,9 +8,9 @@ use Rattle.std.proofs.lemmas.List.Sums.{sum_by-cons}
 use Rattle.yspec.specs.Forest.{end, node, join, size, weigh}
 use Rattle.ystore.specs.Held.{Held, Told, with_told}
 use Rattle.ystore.specs.Store.{held_at, total_at, same_row, ChangesRow}
-use Rattle.ystore.specs.declared.row.NodeId.{NodeId}
-use Rattle.ystore.specs.declared.row.Row.{Row}
-use Rattle.ystore.specs.declared.row.Row.TheVariants.{Top, Below}
+use Rattle.ystore_rows.specs.declared.row.NodeId.{NodeId}
+use Rattle.ystore_rows.specs.declared.row.Row.{Row}
+use Rattle.ystore_rows.specs.declared.row.Row.TheVariants.{Top, Below}
 use Rattle.ystore.specs.declared.nodes.Nodes.{Nodes}
 use Rattle.ystore_tree.specs.Hanging.{Numbered, Branches, is_number, times}
 use Rattle.ystore_tree.specs.Ways.{Way, around, end_of}

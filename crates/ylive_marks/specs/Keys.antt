@@ -10,9 +10,9 @@ use Rattle.yschema_model.specs.declared.node.SchemaId.{SchemaId}
 use Rattle.ystore.specs.Held.{Told}
 use Rattle.ystore.specs.Entries.{Entry}
 use Rattle.ystore.specs.Store.{reads, entry_at, same_at, holders_at, instances_at, node_count, same_key, same_row, total_at}
-use Rattle.ystore.specs.declared.row.NodeId.{NodeId}
-use Rattle.ystore.specs.declared.row.Row.{Row}
-use Rattle.ystore.specs.declared.row.Row.TheVariants.{Top, Below}
+use Rattle.ystore_rows.specs.declared.row.NodeId.{NodeId}
+use Rattle.ystore_rows.specs.declared.row.Row.{Row}
+use Rattle.ystore_rows.specs.declared.row.Row.TheVariants.{Top, Below}
 use Rattle.ystore.specs.declared.key.Key.{Key}
 use Rattle.ystore.specs.declared.key.Key.TheVariants.{Value, Item, Tuple, Texts}
 use Rattle.ystore.specs.declared.record.Judged.{Judged}

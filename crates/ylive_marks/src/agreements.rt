@@ -9,9 +9,9 @@ ghost use Rattle.ystore.specs.Entries.{Entry, with_awaited, with_instance, with_
 ghost use Rattle.ystore.specs.Index.{made_ready, tidied};
 ghost use Rattle.ystore.specs.Store.{entry_at, holders_at, instances_at, same_key, total_at, ChangesEntry};
 ghost use Rattle.ystore.specs.declared.key.Key.{Key};
-ghost use Rattle.ystore.specs.declared.row.NodeId.{NodeId};
-ghost use Rattle.ystore.specs.declared.row.Row.{Row};
-ghost use Rattle.ystore.specs.declared.row.Row.TheVariants.{Below};
+ghost use Rattle.ystore_rows.specs.declared.row.NodeId.{NodeId};
+ghost use Rattle.ystore_rows.specs.declared.row.Row.{Row};
+ghost use Rattle.ystore_rows.specs.declared.row.Row.TheVariants.{Below};
 ghost use Rattle.ystore.specs.declared.record.Judged.{Judged};
 ghost use Rattle.ystore.specs.declared.nodes.Nodes.{Nodes};
 ghost use Rattle.ystore_tree.specs.Hanging.{Branches, times};

@@ -1,14 +1,14 @@
 //! Keys that nodes join and leave, and what is told by them.
 
-ghost use Rattle.std.specs.Prelude.{◌+◌, ◌*◌, ◌≤◌, ◌≡◌, true, false, not, Some, None, is_some, option_map, slice_get, eqb};
+ghost use Rattle.std.specs.Prelude.{◌+◌, ◌*◌, ◌≤◌, ◌≡◌, true, false, not, Some, None, is_some, length, option_map, slice_get, eqb};
 ghost use Rattle.std.specs.Option.{option_map_or};
 ghost use Rattle.yspec.specs.Forest.{levels};
 ghost use Rattle.ystore.specs.Entries.{with_node, without_node};
 ghost use Rattle.ystore.specs.Held.{with_same};
-ghost use Rattle.ystore.specs.Store.{entry_at, is_awaited, reads, same_at, total_at};
+ghost use Rattle.ystore.specs.Store.{entry_at, holders_at, is_awaited, reads, same_at, total_at};
 ghost use Rattle.ystore.specs.Views.{store_of, lent};
-ghost use Rattle.ystore.specs.declared.row.NodeId as rust;
-ghost use Rattle.ystore.specs.declared.row.Row.TheVariants.{Below};
+ghost use Rattle.ystore_rows.specs.declared.row.NodeId as rust;
+ghost use Rattle.ystore_rows.specs.declared.row.Row.TheVariants.{Below};
 ghost use Rattle.ystore_tree.specs.Hanging.{Branches, times};
 ghost use Rattle.ystore_tree.specs.Parts.{OnlyReads};
 ghost use Rattle.ylive_marks.specs.Totals.{IsTree, OnlyFaults, StandsIn, Totals};
@@ -105,9 +105,23 @@ fn join_fellows(counted: &mut Counted<'_>, key: &Key, id: NodeId, number: usize)
 {
     keys_alike();
     let fellows = counted.holder_count(key);
-    let fellow = counted.holder(key, 0);
+    let fellow = fellow_of(counted, key, fellows);
     counted.add_holder(key, id);
     tell_fellows(counted, id, fellow, number, fellows, true);
+}
+
+/// The first of the nodes that hold a key, of which there are so many.
+fn fellow_of(counted: &mut Counted<'_>, key: &Key, fellows: usize) -> Option<NodeId>
+    requires { fellows ≡ length (holders_at (store_of counted.old) key.now) }
+    ensures holder { result ≡ slice_get (holders_at (store_of counted.old) key.now) 0 }
+    ensures kept { OnlyReads (store_of counted.old) (store_of counted.new) }
+    ensures reads { reads (store_of counted.new) ≤ reads (store_of counted.old) + 1 }
+    ensures same_reference { lent counted.new ≡ lent counted.old }
+{
+    if fellows == 0 {
+        return None;
+    }
+    counted.holder(key, 0)
 }
 
 /// Takes a node from those that refer to a value, or have the same texts. No instance is missing of it any more.
@@ -137,7 +151,7 @@ fn leave_fellows(counted: &mut Counted<'_>, key: &Key, id: NodeId, number: usize
     keys_alike();
     counted.take_holder(key, id);
     let fellows = counted.holder_count(key);
-    let fellow = counted.holder(key, 0);
+    let fellow = fellow_of(counted, key, fellows);
     tell_fellows(counted, id, fellow, number, fellows, false);
 }
 

@@ -2,14 +2,14 @@
 
 ghost use Rattle.std.specs.Prelude.{◌≡◌, ◌<◌, ◌≤◌, ◌^◌, ℕ, List, Option, option_map};
 ghost use Rattle.yspec.specs.Forest.{end, node, join, size};
-ghost use Rattle.ystore.specs.Rows.{Child};
+ghost use Rattle.ystore_rows.specs.Rows.{Child};
 ghost use Rattle.ystore.specs.Held.{with_children, with_room};
 ghost use Rattle.ystore.specs.Entries.{Entry};
 ghost use Rattle.ystore.specs.Store.{total_at, ChangesRow, ChangesEntry, Stays};
 ghost use Rattle.ystore.specs.declared.key.Key.{Key};
-ghost use Rattle.ystore.specs.declared.row.NodeId.{NodeId};
-ghost use Rattle.ystore.specs.declared.row.Row.{Row};
-ghost use Rattle.ystore.specs.declared.row.Row.TheVariants.{Top, Below};
+ghost use Rattle.ystore_rows.specs.declared.row.NodeId.{NodeId};
+ghost use Rattle.ystore_rows.specs.declared.row.Row.{Row};
+ghost use Rattle.ystore_rows.specs.declared.row.Row.TheVariants.{Top, Below};
 ghost use Rattle.ystore.specs.declared.nodes.Nodes.{Nodes};
 ghost use Rattle.ystore_tree.specs.Hanging.{Numbered, Branches, Keeps, times};
 ghost use Rattle.ystore_tree.specs.Ways.{Way, around, end_of};

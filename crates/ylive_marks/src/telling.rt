@@ -5,8 +5,8 @@ ghost use Rattle.yspec.specs.Forest.{levels};
 ghost use Rattle.ystore.specs.Held.{with_judged, with_same, with_play};
 ghost use Rattle.ystore.specs.Store.{reads, same_at, total_at};
 ghost use Rattle.ystore.specs.Views.{store_of, lent};
-ghost use Rattle.ystore.specs.declared.row.NodeId as rust;
-ghost use Rattle.ystore.specs.declared.row.Row.TheVariants.{Below};
+ghost use Rattle.ystore_rows.specs.declared.row.NodeId as rust;
+ghost use Rattle.ystore_rows.specs.declared.row.Row.TheVariants.{Below};
 ghost use Rattle.ystore_tree.specs.Hanging.{Branches, times};
 ghost use Rattle.ylive_marks.specs.Totals.{ChangesTold, IsTree, StandsIn, Totals, is_told, judged_at};
 

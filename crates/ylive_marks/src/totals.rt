@@ -3,7 +3,7 @@
 ghost use Rattle.std.specs.Prelude.{◌≡◌, ◌+◌, ◌≤◌, length};
 ghost use Rattle.ystore.specs.Store.{reads};
 ghost use Rattle.ystore.specs.Views.{store_of, lent};
-ghost use Rattle.ystore.specs.declared.row.Row.TheVariants.{Top};
+ghost use Rattle.ystore_rows.specs.declared.row.Row.TheVariants.{Top};
 ghost use Rattle.ystore_tree.specs.Hanging.{Branches};
 ghost use Rattle.ystore_tree.specs.Parts.{OnlyReads};
 ghost use Rattle.ystore_tree.specs.Ways.{Way, around, end_of};

@@ -9,9 +9,9 @@ use Rattle.yschema_model.specs.declared.node.SchemaId.{SchemaId}
 use Rattle.yschema_model.specs.Layout.{number_of}
 use Rattle.ystore.specs.Held.{Label}
 use Rattle.ystore.specs.Store.{label_at}
-use Rattle.ystore.specs.declared.row.NodeId.{NodeId}
-use Rattle.ystore.specs.declared.row.Row.{Row}
-use Rattle.ystore.specs.declared.row.Row.TheVariants.{Top, Below}
+use Rattle.ystore_rows.specs.declared.row.NodeId.{NodeId}
+use Rattle.ystore_rows.specs.declared.row.Row.{Row}
+use Rattle.ystore_rows.specs.declared.row.Row.TheVariants.{Top, Below}
 use Rattle.ystore.specs.declared.nodes.Nodes.{Nodes}
 use Rattle.ystore_tree.specs.Hanging.{Numbered, Branches, stored_of, tree_of, Stands, Hangs}
 use Rattle.ystore_tree.specs.Copies.{ids_of}

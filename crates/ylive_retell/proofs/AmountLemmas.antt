@@ -10,7 +10,7 @@ use Rattle.std.proofs.lemmas.List.Sums.{sum_by-cons, sum_by-append}
 use Rattle.yspec.specs.schema.Schema.{Schema, SchemaNode, has_value, node_at}
 use Rattle.yspec.specs.document.Document.{Stored}
 use Rattle.yspec_reach.specs.Sizes.{name_count, part_size, weight}
-use Rattle.ystore.specs.declared.row.Row.{Row}
+use Rattle.ystore_rows.specs.declared.row.Row.{Row}
 use Rattle.ystore_tree.specs.Hanging.{Branches, stored_of, tree_of}
 use Rattle.ylive_facts.specs.Keys.{Holding, Key, held_by}
 use Rattle.ylive_retell.specs.Standing.{Standing, standing, keys_held, all_held}

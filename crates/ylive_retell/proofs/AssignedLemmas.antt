@@ -2,7 +2,7 @@
 use Rattle.std.proofs.Common.{◌≡◌, ℕ, Bool, true, false, ◌&&◌, ◌||◌, List, [], ◌∷◌, Option, Some, None, refl, sym, ap, ap₂, ◌∙◌, arith, cond, eqb}
 use Rattle.std.specs.Option.{option_map_or, option_or}
 use Rattle.std.proofs.lemmas.Bool.{eqb-true, false≢true}
-use Rattle.ystore.specs.declared.row.NodeId.{NodeId}
+use Rattle.ystore_rows.specs.declared.row.NodeId.{NodeId}
 use Rattle.ylive_retell.specs.Assigned.{Assignment, is_at, with_key, without_key, joined, left, has_at, key_in, AreDistinct, CanJoin, CanLeave, NoneHeld, AllHeld}
 
 module _ {K : Type 0} (slot_of : K → ℕ) where

@@ -3,7 +3,7 @@ use Rattle.std.proofs.Common.{◌≡◌, Bool, true, false, cond, List, [], ◌�
 use Rattle.yschema_model.specs.declared.node.SchemaId.{SchemaId}
 use Rattle.ycheck.specs.declared.fault.FaultCode.{FaultCode}
 use Rattle.ystore.specs.Held.{Told, with_play}
-use Rattle.ystore.specs.declared.row.Row.TheVariants.{Top}
+use Rattle.ystore_rows.specs.declared.row.Row.TheVariants.{Top}
 use Rattle.ystore.specs.declared.nodes.Nodes.{Nodes}
 use Rattle.ylive_marks.specs.Totals.{told_at}
 use Rattle.ylive_retell.specs.Bare.{IsBare}

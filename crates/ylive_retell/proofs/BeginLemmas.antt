@@ -13,8 +13,8 @@ use Rattle.ycheck.specs.declared.fault.FaultCode.{FaultCode}
 use Rattle.yschema_model.specs.declared.node.SchemaId.{SchemaId}
 use Rattle.ystore.specs.Held.{Held, Told, nothing_held, with_play}
 use Rattle.ystore.specs.Store.{held_at, holders_at, instances_at, same_key}
-use Rattle.ystore.specs.declared.row.Row.{Row}
-use Rattle.ystore.specs.declared.row.Row.TheVariants.{Top, Below}
+use Rattle.ystore_rows.specs.declared.row.Row.{Row}
+use Rattle.ystore_rows.specs.declared.row.Row.TheVariants.{Top, Below}
 use Rattle.ystore.specs.declared.key.Key as rust
 use Rattle.ystore.specs.declared.key.Key.TheVariants.{Value}
 use Rattle.ystore.specs.declared.nodes.Nodes.{Nodes}

@@ -5,14 +5,14 @@ use Rattle.std.specs.Option.{option_map_or}
 use Rattle.yspec.specs.Forest.{end, node, size, levels}
 use Rattle.ycheck.specs.declared.fault.FaultCode.{FaultCode}
 use Rattle.yschema_model.specs.declared.node.SchemaId.{SchemaId}
-use Rattle.ystore.specs.Rows.{Child}
+use Rattle.ystore_rows.specs.Rows.{Child}
 use Rattle.ystore.specs.Held.{Held, with_children, with_play}
 use Rattle.ystore.specs.Store as store
 use Rattle.ystore.specs.Store.{held_at, entry_at, total_at, same_row, ChangesRow}
 use Rattle.ystore.specs.declared.key.Key.{Key}
-use Rattle.ystore.specs.declared.row.NodeId.{NodeId}
-use Rattle.ystore.specs.declared.row.Row.{Row}
-use Rattle.ystore.specs.declared.row.Row.TheVariants.{Top, Below}
+use Rattle.ystore_rows.specs.declared.row.NodeId.{NodeId}
+use Rattle.ystore_rows.specs.declared.row.Row.{Row}
+use Rattle.ystore_rows.specs.declared.row.Row.TheVariants.{Top, Below}
 use Rattle.ystore.specs.declared.nodes.Nodes.{Nodes}
 use Rattle.ystore_tree.specs.Hanging.{Numbered, Branches, Keeps, is_number, times}
 use Rattle.ystore_tree.specs.Copies.{ids_of}

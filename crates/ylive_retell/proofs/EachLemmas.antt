@@ -1,8 +1,8 @@
 -- What is so at each node, of joined rows and of rows at the end of a way.
 use Rattle.std.proofs.Common.{◌<◌, List, [], ◌∷◌, ◌++◌, arith}
 use Rattle.yspec.specs.Forest.{end, node, join}
-use Rattle.ystore.specs.declared.row.Row.{Row}
-use Rattle.ystore.specs.declared.row.Row.TheVariants.{Below}
+use Rattle.ystore_rows.specs.declared.row.Row.{Row}
+use Rattle.ystore_rows.specs.declared.row.Row.TheVariants.{Below}
 use Rattle.ystore_tree.specs.Hanging.{Numbered, Branches, times}
 use Rattle.ystore_tree.specs.Ways.{Way, around, end_of}
 use Rattle.ystore_tree.proofs.HangingLemmas.{is_itself}

@@ -14,9 +14,9 @@ use Rattle.ylive_facts.specs.InPlay.{absence_views}
 use Rattle.ylive_facts.specs.Judging.{Judged, right, wrong, missing, kind_judged, judged_view, value_judged}
 use Rattle.ystore.specs.Held.{Told}
 use Rattle.ystore.specs.Store.{same_row}
-use Rattle.ystore.specs.declared.row.NodeId.{NodeId}
-use Rattle.ystore.specs.declared.row.Row.{Row}
-use Rattle.ystore.specs.declared.row.Row.TheVariants.{Below}
+use Rattle.ystore_rows.specs.declared.row.NodeId.{NodeId}
+use Rattle.ystore_rows.specs.declared.row.Row.{Row}
+use Rattle.ystore_rows.specs.declared.row.Row.TheVariants.{Below}
 use Rattle.ystore.specs.declared.record.Judged as rust_judged
 use Rattle.ystore.specs.declared.record.Judged.TheVariants.{Right, Wrong, Missing}
 use Rattle.ystore.specs.declared.nodes.Nodes.{Nodes}

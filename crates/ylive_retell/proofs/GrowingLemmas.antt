@@ -10,7 +10,7 @@ use Rattle.yschema_model.specs.declared.node.SchemaId.{SchemaId}
 use Rattle.ystore.specs.Entries.{Entry, none, with_awaited, with_node}
 use Rattle.ystore.specs.Index.{made_ready}
 use Rattle.ystore.specs.Store.{ChangesEntry, Stays, entry_at, is_awaited, same_key}
-use Rattle.ystore.specs.declared.row.NodeId.{NodeId}
+use Rattle.ystore_rows.specs.declared.row.NodeId.{NodeId}
 use Rattle.ystore.specs.declared.key.Key.{Key}
 use Rattle.ystore.specs.declared.key.Key.TheVariants.{Value}
 use Rattle.ystore.specs.declared.nodes.Nodes.{Nodes}

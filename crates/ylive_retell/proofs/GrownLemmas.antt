@@ -3,8 +3,8 @@ use Rattle.std.proofs.Common.{◌<◌, length, option_map, sym, ap, subst}
 use Rattle.std.specs.Prelude.{IfSome}
 use Rattle.ystore.specs.Held.{Held}
 use Rattle.ystore.specs.Store.{has_room}
-use Rattle.ystore.specs.declared.row.Row.{Row}
-use Rattle.ystore.specs.declared.row.Row.TheVariants.{Below}
+use Rattle.ystore_rows.specs.declared.row.Row.{Row}
+use Rattle.ystore_rows.specs.declared.row.Row.TheVariants.{Below}
 use Rattle.ystore.specs.declared.nodes.Nodes.{Nodes}
 use Rattle.ystore_tree.specs.Changes.{SameShapes}
 use Rattle.ystore_tree.specs.Hanging.{Branches, Keeps}

@@ -8,7 +8,7 @@ use Rattle.yspec.specs.schema.Schema.{Schema, SchemaNode, Kind, container, leaf,
 use Rattle.yspec.specs.document.Document.{Stored, Tree}
 use Rattle.yspec.specs.document.Instances.{Tuple, own_path, paths_of, tuple_of_paths}
 use Rattle.yspec_reach.specs.Sizes.{name_count}
-use Rattle.ystore.specs.declared.row.Row.{Row}
+use Rattle.ystore_rows.specs.declared.row.Row.{Row}
 use Rattle.ylive_facts.specs.Keys.{Key, tuple_key, entry_key, first_key, kind_key, kind_flags, key_at, keys_from, held_by, slots_of}
 
 abbrev pub held_count : Kind → ℕ

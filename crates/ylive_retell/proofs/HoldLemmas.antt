@@ -11,9 +11,9 @@ use Rattle.yspec.specs.schema.Schema.{Schema, SchemaNode, Kind, container, leaf,
 use Rattle.yspec.specs.document.Document.{Stored, Tree}
 use Rattle.yspec.specs.document.Instances.{kind_value, value_of}
 use Rattle.ycheck.specs.Targets.{required_target}
-use Rattle.ystore.specs.declared.row.NodeId.{NodeId}
-use Rattle.ystore.specs.declared.row.Row.{Row}
-use Rattle.ystore.specs.declared.row.Row.TheVariants.{Below}
+use Rattle.ystore_rows.specs.declared.row.NodeId.{NodeId}
+use Rattle.ystore_rows.specs.declared.row.Row.{Row}
+use Rattle.ystore_rows.specs.declared.row.Row.TheVariants.{Below}
 use Rattle.ystore.specs.declared.key.Key as rust
 use Rattle.ystore.specs.declared.key.Key.TheVariants as variants
 use Rattle.ystore.specs.declared.nodes.Nodes.{Nodes}

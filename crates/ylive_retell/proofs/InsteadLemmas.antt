@@ -5,7 +5,7 @@ use Rattle.std.specs.Option.{option_map_or}
 use Rattle.std.proofs.lemmas.List.{drop-map, take-map, map-append}
 use Rattle.ystore.specs.Held.{Held}
 use Rattle.ystore.specs.Store.{play_at}
-use Rattle.ystore.specs.declared.row.Row.{Row}
+use Rattle.ystore_rows.specs.declared.row.Row.{Row}
 use Rattle.ystore.specs.declared.nodes.Nodes.{Nodes}
 use Rattle.ystore_tree.specs.Parts.{OnlyReads}
 use Rattle.yspec_play.specs.Absences.{Absent}

@@ -6,9 +6,9 @@ use Rattle.std.specs.List.{flat_map}
 use Rattle.yspec.specs.Forest.{end, node, join}
 use Rattle.yspec.specs.schema.Schema.{Schema}
 use Rattle.yschema_model.specs.declared.node.SchemaId.{SchemaId}
-use Rattle.ystore.specs.Rows as rows
-use Rattle.ystore.specs.declared.row.Row.{Row}
-use Rattle.ystore.specs.declared.row.Row.TheVariants.{Top, Below}
+use Rattle.ystore_rows.specs.Rows as rows
+use Rattle.ystore_rows.specs.declared.row.Row.{Row}
+use Rattle.ystore_rows.specs.declared.row.Row.TheVariants.{Top, Below}
 use Rattle.ystore_tree.specs.Hanging.{Numbered, Branches, stored_of, tree_of, children_of, is_number, times}
 use Rattle.ystore_tree.specs.Changes.{put_at}
 use Rattle.ystore_tree.specs.Swaps.{Swaps}

@@ -8,8 +8,8 @@ use Rattle.std.proofs.lemmas.Option.{same_Some}
 use Rattle.yspec.specs.schema.Schema.{Schema, SchemaNode, Kind, container, leaf, leaf_list, list, choice, case, LeafPath, Tuples, node_at}
 use Rattle.yspec.specs.document.Document.{Stored, Tree}
 use Rattle.yspec.specs.document.Instances.{tuple_of_paths, paths_of}
-use Rattle.ystore.specs.declared.row.NodeId.{NodeId}
-use Rattle.ystore.specs.declared.row.Row.{Row}
+use Rattle.ystore_rows.specs.declared.row.NodeId.{NodeId}
+use Rattle.ystore_rows.specs.declared.row.Row.{Row}
 use Rattle.ylive_facts.specs.Keys.{Key, value_key, item_key, tuple_key, texts_key, slot_of, Holding, held_with, item_key_at, kind_key, flagged_key, key_at, kind_flags, flags_of, slots_of, keys_from}
 use Rattle.ylive_facts.proofs.HeldLemmas.{held_slot}
 use Rattle.ystore_tree.specs.Hanging.{stored_of, tree_of}

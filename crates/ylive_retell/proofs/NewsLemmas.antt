@@ -4,9 +4,9 @@ use Rattle.std.specs.List.{list_any}
 use Rattle.std.proofs.lemmas.Bool.{false≢true}
 use Rattle.ystore.specs.Held.{Told}
 use Rattle.ystore.specs.Store.{same_row}
-use Rattle.ystore.specs.declared.row.NodeId.{NodeId}
-use Rattle.ystore.specs.declared.row.Row.{Row}
-use Rattle.ystore.specs.declared.row.Row.TheVariants.{Below}
+use Rattle.ystore_rows.specs.declared.row.NodeId.{NodeId}
+use Rattle.ystore_rows.specs.declared.row.Row.{Row}
+use Rattle.ystore_rows.specs.declared.row.Row.TheVariants.{Below}
 use Rattle.ystore.specs.declared.nodes.Nodes.{Nodes}
 use Rattle.ystore_tree.specs.Hanging.{Branches}
 use Rattle.ylive_marks.specs.Totals.{told_at, judged_at}

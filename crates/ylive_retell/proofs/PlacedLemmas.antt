@@ -1,10 +1,10 @@
 -- Totals where a node stands elsewhere in its row, and nothing is climbed.
 use Rattle.std.proofs.Common.{◌≡◌, ℕ, zero, suc, ◌+◌, ◌-◌, ◌^◌, ◌≤◌, Bool, true, false, min, length, refl, arith, cond}
 use Rattle.yspec.specs.Forest.{end, node, join, size, weigh}
-use Rattle.ystore.specs.Rows.{first_place, of_schema}
+use Rattle.ystore_rows.specs.Rows.{first_place, of_schema}
 use Rattle.ystore.specs.Store.{total_at}
-use Rattle.ystore.specs.declared.row.Row.{Row}
-use Rattle.ystore.specs.declared.row.Row.TheVariants.{Top, Below}
+use Rattle.ystore_rows.specs.declared.row.Row.{Row}
+use Rattle.ystore_rows.specs.declared.row.Row.TheVariants.{Top, Below}
 use Rattle.ystore.specs.declared.nodes.Nodes.{Nodes}
 use Rattle.ystore_tree.specs.Hanging.{Numbered, Branches, children_of}
 use Rattle.ystore_tree.specs.Changes.{put_at, with_node_at}

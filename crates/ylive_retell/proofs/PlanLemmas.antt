@@ -6,9 +6,9 @@ use Rattle.yspec.specs.types.Types.{Val}
 use Rattle.yschema_model.specs.Layout.{number_of}
 use Rattle.ystore.specs.Held.{Label}
 use Rattle.ystore.specs.Store.{label_at, node_count}
-use Rattle.ystore.specs.declared.row.NodeId.{NodeId}
-use Rattle.ystore.specs.declared.row.Row.{Row}
-use Rattle.ystore.specs.declared.row.Row.TheVariants.{Top, Below}
+use Rattle.ystore_rows.specs.declared.row.NodeId.{NodeId}
+use Rattle.ystore_rows.specs.declared.row.Row.{Row}
+use Rattle.ystore_rows.specs.declared.row.Row.TheVariants.{Top, Below}
 use Rattle.ystore.specs.declared.nodes.Nodes.{Nodes}
 use Rattle.ystore_tree.specs.Hanging.{Branches, Stands, Hangs, Keeps}
 use Rattle.ystore_tree.specs.Parts.{OnlyReads}

@@ -16,9 +16,9 @@ use Rattle.yschema_model.specs.declared.node.SchemaId.{SchemaId}
 use Rattle.yspec_play.specs.Absences.{Default, defaults_in}
 use Rattle.yspec_play.specs.Over.{AlikeBut}
 use Rattle.yspec_reach.specs.Sizes.{breadth, default_count, most_defaults, name_count, near_count, part_size, starts_anew, weight}
-use Rattle.ystore.specs.declared.row.NodeId.{NodeId}
-use Rattle.ystore.specs.declared.row.Row.{Row}
-use Rattle.ystore.specs.declared.row.Row.TheVariants.{Below, Top}
+use Rattle.ystore_rows.specs.declared.row.NodeId.{NodeId}
+use Rattle.ystore_rows.specs.declared.row.Row.{Row}
+use Rattle.ystore_rows.specs.declared.row.Row.TheVariants.{Below, Top}
 use Rattle.ystore.specs.declared.key.Key as rust
 use Rattle.ystore_tree.specs.Hanging.{Branches, stored_of, tree_of}
 use Rattle.ystore_tree.specs.Ways.{Frame, Way, around, end_of}

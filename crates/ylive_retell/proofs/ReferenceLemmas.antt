@@ -11,7 +11,7 @@ use Rattle.yspec.specs.document.Faults.{requires_instance}
 use Rattle.yspec.specs.document.Instances.{value_of}
 use Rattle.yspec_reach.specs.Referring.{Reference, reference_of}
 use Rattle.ycheck.specs.Targets.{required_target}
-use Rattle.ystore.specs.declared.row.Row.{Row}
+use Rattle.ystore_rows.specs.declared.row.Row.{Row}
 use Rattle.ylive_facts.specs.Keys.{Key, value_key, item_key, tuple_key, texts_key, texts_in, entry_key, first_key, key_at}
 
 -- what a key of a value refers to

@@ -3,8 +3,8 @@ use Rattle.std.proofs.Common.{◌≡◌, ℕ, ◌+◌, ◌≤◌, false, [], ◌
 use Rattle.std.proofs.lemmas.Bool.{eq-eqb, ne_eqb}
 use Rattle.yspec.specs.Forest.{end, node, join}
 use Rattle.ystore.specs.Store.{same_row}
-use Rattle.ystore.specs.declared.row.Row.{Row}
-use Rattle.ystore.specs.declared.row.Row.TheVariants.{Top, Below}
+use Rattle.ystore_rows.specs.declared.row.Row.{Row}
+use Rattle.ystore_rows.specs.declared.row.Row.TheVariants.{Top, Below}
 use Rattle.ystore_tree.specs.Hanging.{Numbered, Branches, is_number, times}
 use Rattle.ystore_tree.specs.Ways.{Frame, Way, around, end_of}
 use Rattle.ystore_tree.proofs.HangingLemmas.{weigh_join, is_itself}

@@ -11,8 +11,8 @@ use Rattle.yschema_model.specs.declared.node.SchemaId.{SchemaId}
 use Rattle.ystore.specs.Store.{same_key}
 use Rattle.ystore.specs.declared.key.Key as rust
 use Rattle.ystore.specs.declared.key.Key.TheVariants.{Value}
-use Rattle.ystore.specs.declared.row.Row.{Row}
-use Rattle.ystore.specs.declared.row.Row.TheVariants.{Top}
+use Rattle.ystore_rows.specs.declared.row.Row.{Row}
+use Rattle.ystore_rows.specs.declared.row.Row.TheVariants.{Top}
 use Rattle.ystore_tree.specs.Hanging.{Numbered, Branches, stored_of, tree_of, times}
 use Rattle.ylive_facts.specs.Given.{given_view, is_referred}
 use Rattle.ylive_facts.specs.Keys.{key_view, value_key}

@@ -4,8 +4,8 @@ use Rattle.std.specs.Prelude.{Ok, Err, OnErr, Result}
 use Rattle.yspec.specs.schema.Schema.{Schema}
 use Rattle.ystore.specs.Held.{Held}
 use Rattle.ystore.specs.Store.{held_at}
-use Rattle.ystore.specs.declared.row.Row.{Row}
-use Rattle.ystore.specs.declared.row.Row.TheVariants.{Top, Below}
+use Rattle.ystore_rows.specs.declared.row.Row.{Row}
+use Rattle.ystore_rows.specs.declared.row.Row.TheVariants.{Top, Below}
 use Rattle.ystore.specs.declared.nodes.Nodes.{Nodes}
 use Rattle.ystore_tree.specs.Hanging.{Branches}
 use Rattle.ylive_facts.specs.InPlay.{absence_views}

@@ -4,8 +4,8 @@ use Rattle.std.specs.List.{flat_map}
 use Rattle.yspec.specs.Forest.{end, node, join, size, weigh}
 use Rattle.yspec.specs.schema.Schema.{Schema}
 use Rattle.yschema_model.specs.declared.node.SchemaId.{SchemaId}
-use Rattle.ystore.specs.Rows as rows
-use Rattle.ystore.specs.declared.row.Row.{Row}
+use Rattle.ystore_rows.specs.Rows as rows
+use Rattle.ystore_rows.specs.declared.row.Row.{Row}
 use Rattle.ystore_tree.specs.Hanging.{Numbered, Branches, children_of, is_number, times}
 use Rattle.ystore_tree.specs.Changes.{with_node_at}
 use Rattle.ystore_tree.specs.Swaps.{Swaps}

@@ -10,10 +10,10 @@ use Rattle.yspec.specs.document.Document.{Stored, Tree, instances_in}
 use Rattle.yspec.specs.document.Fitting.{IsNumbered}
 use Rattle.yschema_model.specs.declared.node.SchemaId.{SchemaId}
 use Rattle.ystore.specs.Held.{Held}
-use Rattle.ystore.specs.Rows as rows
+use Rattle.ystore_rows.specs.Rows as rows
 use Rattle.ystore.specs.Store.{held_at, play_at}
-use Rattle.ystore.specs.declared.row.Row.{Row}
-use Rattle.ystore.specs.declared.row.Row.TheVariants.{Top, Below}
+use Rattle.ystore_rows.specs.declared.row.Row.{Row}
+use Rattle.ystore_rows.specs.declared.row.Row.TheVariants.{Top, Below}
 use Rattle.ystore.specs.declared.nodes.Nodes.{Nodes}
 use Rattle.ystore_tree.specs.Hanging.{Numbered, Branches, stored_of, tree_of, children_of}
 use Rattle.ystore_tree.specs.Changes.{put_at}

@@ -6,9 +6,9 @@ use Rattle.std.proofs.lemmas.Bool.{ne_eqb, eq-eqb, false≢true}
 use Rattle.std.proofs.lemmas.Option.{none-some}
 use Rattle.yspec.specs.Forest.{end, node}
 use Rattle.yspec.specs.schema.Schema.{Schema}
-use Rattle.ystore.specs.declared.row.NodeId.{NodeId}
-use Rattle.ystore.specs.declared.row.Row.{Row}
-use Rattle.ystore.specs.declared.row.Row.TheVariants.{Top, Below}
+use Rattle.ystore_rows.specs.declared.row.NodeId.{NodeId}
+use Rattle.ystore_rows.specs.declared.row.Row.{Row}
+use Rattle.ystore_rows.specs.declared.row.Row.TheVariants.{Top, Below}
 use Rattle.ystore_tree.specs.Hanging.{Numbered, Branches, stored_of, tree_of, is_number, times}
 use Rattle.ystore_tree.specs.Ways.{Way, around}
 use Rattle.ystore_tree.proofs.HangingLemmas.{weigh_join, outside, is_itself}

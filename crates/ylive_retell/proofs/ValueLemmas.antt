@@ -9,9 +9,9 @@ use Rattle.yspec.specs.schema.Schema.{Schema, row_at}
 use Rattle.yspec.specs.document.Document.{Stored, Tree, instances_in}
 use Rattle.yspec.specs.document.Instances.{is_value, value_of, times_at, times_below, times_in}
 use Rattle.yschema_model.specs.declared.node.SchemaId.{SchemaId}
-use Rattle.ystore.specs.Rows as rows
-use Rattle.ystore.specs.declared.row.Row.{Row}
-use Rattle.ystore.specs.declared.row.Row.TheVariants.{Top, Below}
+use Rattle.ystore_rows.specs.Rows as rows
+use Rattle.ystore_rows.specs.declared.row.Row.{Row}
+use Rattle.ystore_rows.specs.declared.row.Row.TheVariants.{Top, Below}
 use Rattle.ystore_tree.specs.Hanging.{Numbered, Branches, stored_of, tree_of, children_of}
 use Rattle.ystore_tree.specs.Changes.{put_at}
 use Rattle.ystore_tree.specs.Swaps.{Swaps}

@@ -8,9 +8,9 @@ use Rattle.ycheck.specs.declared.fault.FaultCode.{FaultCode}
 use Rattle.yschema_model.specs.declared.node.SchemaId.{SchemaId}
 use Rattle.ystore.specs.Held.{with_play}
 use Rattle.ystore.specs.Store.{entry_at, instances_at, same_key, same_row, reads}
-use Rattle.ystore.specs.declared.row.NodeId.{NodeId}
-use Rattle.ystore.specs.declared.row.Row.{Row}
-use Rattle.ystore.specs.declared.row.Row.TheVariants.{Top}
+use Rattle.ystore_rows.specs.declared.row.NodeId.{NodeId}
+use Rattle.ystore_rows.specs.declared.row.Row.{Row}
+use Rattle.ystore_rows.specs.declared.row.Row.TheVariants.{Top}
 use Rattle.ystore.specs.declared.key.Key as rust
 use Rattle.ystore.specs.declared.nodes.Nodes.{Nodes}
 use Rattle.ystore_tree.specs.Hanging.{Branches, Keeps, tree_of}

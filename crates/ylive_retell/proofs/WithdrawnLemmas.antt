@@ -3,7 +3,7 @@ use Rattle.std.proofs.Common.{◌≡◌, ◌+◌, ◌-◌, ◌^◌, ◌*◌, ◌
 use Rattle.yspec.specs.types.Types.{Val}
 use Rattle.yschema_model.specs.declared.node.SchemaId.{SchemaId}
 use Rattle.ystore.specs.Store.{instances_at, reads, same_key}
-use Rattle.ystore.specs.declared.row.NodeId.{NodeId}
+use Rattle.ystore_rows.specs.declared.row.NodeId.{NodeId}
 use Rattle.ystore.specs.declared.key.Key as rust
 use Rattle.ystore.specs.declared.key.Key.TheVariants.{Value}
 use Rattle.ystore.specs.declared.nodes.Nodes.{Nodes}

@@ -11,7 +11,7 @@ use Rattle.yspec_reach.specs.Sizes.{breadth, most_defaults, near_count, part_siz
 use Rattle.ystore.specs.Store.{instances_at, play_at}
 use Rattle.ystore.specs.declared.key.Key.{Key}
 use Rattle.ystore.specs.declared.nodes.Nodes.{Nodes}
-use Rattle.ystore.specs.declared.row.Row.{Row}
+use Rattle.ystore_rows.specs.declared.row.Row.{Row}
 use Rattle.ystore_tree.specs.Hanging.{Branches, times, tree_of}
 use Rattle.ystore_tree.specs.Swaps.{Swaps}
 use Rattle.ystore_tree.specs.Ways.{Way, around}

@@ -7,7 +7,7 @@ use Rattle.ylive_facts.specs.Given.{given_view}
 use Rattle.ylive_facts.specs.InPlay.{absence_views}
 use Rattle.ylive_facts.specs.Judging.{Judged, judged_view, value_judged}
 use Rattle.ylive_facts.specs.Keys.{Holding, holdings}
-use Rattle.ystore.specs.declared.row.NodeId.{NodeId}
+use Rattle.ystore_rows.specs.declared.row.NodeId.{NodeId}
 use Rattle.ystore.specs.declared.nodes.Nodes.{Nodes}
 use Rattle.ystore_tree.specs.Hanging.{Stands, stored_of}
 use Rattle.ylive_retell.specs.Standing.{Standing, absences_there}

@@ -1,6 +1,6 @@
 -- What is told of the top of a document.
 use Rattle.std.specs.Prelude.{◌≡◌, [], Some, option_map}
-use Rattle.ystore.specs.declared.row.Row.TheVariants.{Top}
+use Rattle.ystore_rows.specs.declared.row.Row.TheVariants.{Top}
 use Rattle.ystore.specs.declared.record.Judged.TheVariants.{Right}
 use Rattle.ystore.specs.declared.nodes.Nodes.{Nodes}
 use Rattle.ylive_marks.specs.Totals.{told_at}

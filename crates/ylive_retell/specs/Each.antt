@@ -1,8 +1,8 @@
 -- What is so at each node of what hangs on a row.
 use Rattle.std.specs.Prelude.{ℕ, ◌+◌, [], ◌∷◌}
 use Rattle.yspec.specs.Forest.{end, node}
-use Rattle.ystore.specs.declared.row.Row.{Row}
-use Rattle.ystore.specs.declared.row.Row.TheVariants.{Below}
+use Rattle.ystore_rows.specs.declared.row.Row.{Row}
+use Rattle.ystore_rows.specs.declared.row.Row.TheVariants.{Below}
 use Rattle.ystore_tree.specs.Hanging.{Numbered, Branches, is_number, times}
 use Rattle.ystore_tree.specs.Ways.{Way, around}
 

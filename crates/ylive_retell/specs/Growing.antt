@@ -6,8 +6,8 @@ use Rattle.yschema_model.specs.declared.node.SchemaId.{SchemaId}
 use Rattle.yspec.specs.types.Types.{Val}
 use Rattle.ystore.specs.Entries.{Entry}
 use Rattle.ystore.specs.Store.{held_at, entry_at, instances_at, holders_at, reads, node_count, same_key}
-use Rattle.ystore.specs.declared.row.NodeId.{NodeId}
-use Rattle.ystore.specs.declared.row.Row.{Row}
+use Rattle.ystore_rows.specs.declared.row.NodeId.{NodeId}
+use Rattle.ystore_rows.specs.declared.row.Row.{Row}
 use Rattle.ystore.specs.declared.key.Key.{Key}
 use Rattle.ystore.specs.declared.key.Key.TheVariants.{Value}
 use Rattle.ystore.specs.declared.nodes.Nodes.{Nodes}

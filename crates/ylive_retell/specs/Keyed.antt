@@ -1,7 +1,7 @@
 -- Which keys the nodes of a document hold.
 use Rattle.std.specs.Prelude.{◌≡◌, ℕ}
 use Rattle.yspec.specs.schema.Schema.{Schema}
-use Rattle.ystore.specs.declared.row.Row.{Row}
+use Rattle.ystore_rows.specs.declared.row.Row.{Row}
 use Rattle.ystore_tree.specs.Hanging.{Numbered, Branches, stored_of, tree_of}
 use Rattle.ylive_facts.specs.Keys.{Key, key_at}
 use Rattle.ylive_retell.specs.Assigned.{Assignment}

@@ -3,8 +3,8 @@ use Rattle.std.specs.Prelude.{◌≡◌, ℕ, ◌++◌, List, [], ◌∷◌, map
 use Rattle.yspec.specs.schema.Schema.{Schema}
 use Rattle.yspec.specs.document.Sorting.{IsSorted}
 use Rattle.ystore.specs.Store.{has_room}
-use Rattle.ystore.specs.declared.row.NodeId.{NodeId}
-use Rattle.ystore.specs.declared.row.Row.TheVariants.{Top}
+use Rattle.ystore_rows.specs.declared.row.NodeId.{NodeId}
+use Rattle.ystore_rows.specs.declared.row.Row.TheVariants.{Top}
 use Rattle.ystore.specs.declared.nodes.Nodes.{Nodes}
 use Rattle.ystore_tree.specs.Hanging.{Branches, Keeps, tree_of}
 use Rattle.ystore_tree.specs.Copies.{ids_of}

@@ -11,7 +11,7 @@ use Rattle.yschema_model.specs.declared.node.SchemaId.{SchemaId}
 use Rattle.yspec_reach.specs.Referring.{Reference, reference_of}
 use Rattle.yspec_reach.specs.Sizes.{breadth, levels, near_count, part_size}
 use Rattle.ystore.specs.Store.{holders_at}
-use Rattle.ystore.specs.declared.row.NodeId.{NodeId}
+use Rattle.ystore_rows.specs.declared.row.NodeId.{NodeId}
 use Rattle.ystore.specs.declared.key.Key.{Key}
 use Rattle.ystore.specs.declared.key.Key.TheVariants.{Value}
 use Rattle.ystore.specs.declared.nodes.Nodes.{Nodes}

@@ -8,8 +8,8 @@ use Rattle.yspec_play.specs.Absences.{Absent, Default, absences_in, defaults_in}
 use Rattle.yspec_play.specs.Over.{told_over, used_over}
 use Rattle.ylive_facts.specs.Given.{referred, own_values}
 use Rattle.ylive_facts.specs.Keys.{Holding, held_with, held_by}
-use Rattle.ystore.specs.declared.row.Row.{Row}
-use Rattle.ystore.specs.declared.row.Row.TheVariants.{Below}
+use Rattle.ystore_rows.specs.declared.row.Row.{Row}
+use Rattle.ystore_rows.specs.declared.row.Row.TheVariants.{Below}
 use Rattle.ystore_tree.specs.Hanging.{Numbered, Branches, stored_of, tree_of}
 use Rattle.ystore_tree.specs.Ways.{Way, around}
 

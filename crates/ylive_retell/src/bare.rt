@@ -5,7 +5,7 @@ ghost use Rattle.ycheck.specs.declared.fault.FaultCode.{FaultCode};
 ghost use Rattle.yschema_model.specs.declared.node.SchemaId.{SchemaId};
 ghost use Rattle.ystore.specs.Held.{Told, with_play};
 ghost use Rattle.ystore.specs.declared.nodes.Nodes.{Nodes};
-ghost use Rattle.ystore.specs.declared.row.Row.TheVariants.{Top};
+ghost use Rattle.ystore_rows.specs.declared.row.Row.TheVariants.{Top};
 ghost use Rattle.ylive_marks.specs.Totals.{told_at};
 ghost use Rattle.ylive_retell.specs.Bare.{IsBare};
 ghost use Rattle.ylive_retell.specs.Telling.{told_by};

@@ -4,7 +4,7 @@ ghost use Rattle.std.specs.Prelude.{◌≡◌, OnOk};
 ghost use Rattle.yspec.specs.Forest.{end};
 ghost use Rattle.yschema_model.specs.View as schema_view;
 ghost use Rattle.ystore.specs.Views.{store_of, lent};
-ghost use Rattle.ystore.specs.declared.row.Row.TheVariants.{Top};
+ghost use Rattle.ystore_rows.specs.declared.row.Row.TheVariants.{Top};
 ghost use Rattle.ystore_tree.specs.Hanging.{Keeps};
 ghost use Rattle.ylive_retell.specs.Empty.{IsEmpty};
 ghost use Rattle.ylive_retell.specs.IsTold.{IsTold};

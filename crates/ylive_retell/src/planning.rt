@@ -10,7 +10,7 @@ ghost use Rattle.yspec_play.specs.Over as over;
 ghost use Rattle.yspec_reach.specs.Sizes.{levels, near_count};
 ghost use Rattle.ystore.specs.Store.{node_count, play_at, reads};
 ghost use Rattle.ystore.specs.Views.{store_of, lent};
-ghost use Rattle.ystore.specs.declared.row.Row.TheVariants.{Top};
+ghost use Rattle.ystore_rows.specs.declared.row.Row.TheVariants.{Top};
 ghost use Rattle.ystore_tree.specs.Hanging.{Branches, Hangs, tree_of};
 ghost use Rattle.ystore_tree.specs.Parts.{OnlyReads};
 ghost use Rattle.ystore_tree.specs.Ways.{Way, around, end_of};

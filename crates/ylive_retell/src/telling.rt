@@ -4,8 +4,8 @@ ghost use Rattle.std.specs.Prelude.{◌≡◌, ◌+◌, ◌*◌, ◌≤◌, ◌^
 ghost use Rattle.yspec.specs.Forest.{levels};
 ghost use Rattle.ystore.specs.Store.{reads, same_row};
 ghost use Rattle.ystore.specs.Views.{store_of, lent};
-ghost use Rattle.ystore.specs.declared.row.Row as rows;
-ghost use Rattle.ystore.specs.declared.row.Row.TheVariants.{Below};
+ghost use Rattle.ystore_rows.specs.declared.row.Row as rows;
+ghost use Rattle.ystore_rows.specs.declared.row.Row.TheVariants.{Below};
 ghost use Rattle.ystore.specs.declared.record.Judged.TheVariants.{Right};
 ghost use Rattle.ystore_tree.specs.Hanging.{Branches};
 ghost use Rattle.ylive_marks.specs.Totals.{IsTree, OnlyFaults, StandsIn, Totals, judged_at, told_at};

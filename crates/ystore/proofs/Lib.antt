@@ -1,4 +1,2 @@
 pub mod CallerLemmas
-pub mod NearLemmas
-pub mod RowLemmas
 pub mod StoreLemmas

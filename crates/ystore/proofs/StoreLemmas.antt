@@ -1,5 +1,5 @@
 -- What becomes of a store where a record or an entry of it changes.
-use Rattle.std.proofs.Common.{Bool, true, List, ◌∷◌, ◌≡◌, ℕ, ◌+◌, ◌<◌, false, cond, [], length, Option, Some, None, is_some, option_map, Result, Ok, Err, OnOk, refl, sym, ap, ◌∙◌, subst, arith, Less, Equal, Greater, Ordering, is_eq}
+use Rattle.std.proofs.Common.{Bool, true, List, ◌∷◌, ◌≡◌, ℕ, ◌+◌, ◌<◌, false, cond, [], length, Option, Some, None, is_some, option_map, Result, Ok, Err, OnErr, OnOk, refl, sym, ap, ◌∙◌, subst, arith, Less, Equal, Greater, Ordering, is_eq}
 use Rattle.std.specs.BTreeMap.{BTreeMap}
 use Rattle.std.specs.Cmp.{IsTotalOrder}
 use Rattle.std.specs.Map.{lookup}
@@ -9,17 +9,18 @@ use Rattle.std.proofs.lemmas.Bool.{eq-eqb, eqb-true, false≢true}
 use Rattle.std.proofs.lemmas.List.Sums.{sum_by-set}
 use Rattle.slab.specs.Slab.{Slab, get, slab_len, with_value, Updates}
 use Rattle.slab.proofs.SlabLemmas.{ContainsKey-within, Updates-with_value}
-use Rattle.ystore.specs.Children.{nodes_of, room_of}
 use Rattle.ystore.specs.Entries as entries
 use Rattle.ystore.specs.Index.{entry_by}
 use Rattle.ystore.specs.declared.entry.Entry.{Entry}
-use Rattle.ystore.specs.Held.{Held, held_of, with_room}
+use Rattle.ystore.specs.Held.{Held, held_of, with_children, with_room}
 use Rattle.ystore.specs.Lending.{with_record}
 use Rattle.ystore.specs.Store.{record_at, held_at, there, same_row, ChangesRow, MakesRoom, Stays}
-use Rattle.ystore.specs.declared.row.NodeId.{NodeId}
-use Rattle.ystore.specs.declared.row.Row.{Row}
-use Rattle.ystore.specs.declared.row.Row.TheVariants.{Top, Below}
-use Rattle.ystore.specs.declared.children.Children.{Children}
+use Rattle.ystore_rows.specs.Rows.{Child}
+use Rattle.ystore_rows.specs.declared.row.NodeId.{NodeId}
+use Rattle.ystore_rows.specs.declared.row.Row.{Row}
+use Rattle.ystore_rows.specs.declared.row.Row.TheVariants.{Top, Below}
+use Rattle.ystore_rows.specs.declared.extent.Extent.{Extent}
+use Rattle.ystore_rows.specs.Within.{Within, within_of}
 use Rattle.ystore.specs.declared.record.Record.{Record}
 use Rattle.ystore.specs.declared.nodes.Nodes.{Nodes}
 
@@ -90,16 +91,27 @@ resized nodes new e =
     by Top = refl
     by (Below id) = ap (λ s. option_map held_of (get s id.0)) e
 
+-- what is held of a record, by what is held of its extent
+abbrev held_with : Record → Within → Held
+held_with r w = record (held_of r) { shape = record (held_of r).shape { children = w.children }; told = record (held_of r).told { same = w.same; play = w.play }; room = w.room }
+
+-- the nodes of a row are changed
+pub extent_changed : (nodes : Nodes) (row : Row) (was : Record) (extent : Extent) (change : List Child → List Child) → record_at nodes row ≡ Some was
+    → within_of extent ≡ record (within_of was.extent) { children = change (within_of was.extent).children }
+    → ChangesRow row (option_map (with_children change)) nodes (with_record nodes row (record was { extent = extent }))
+extent_changed nodes row was extent change e made =
+    record_changed nodes row was (record was { extent = extent }) (option_map (with_children change)) e (ap (λ w. Some (held_with was w)) made)
+
 -- a row has room for one child more
-pub room_made : (nodes : Nodes) (row : Row) (was : Record) (children : Children) → record_at nodes row ≡ Some was
-    → nodes_of children ≡ nodes_of was.children → length (nodes_of children) < room_of children
-    → MakesRoom row nodes (with_record nodes row (record was { children = children }))
-room_made nodes row was children e same more =
+pub room_made : (nodes : Nodes) (row : Row) (was : Record) (extent : Extent) → record_at nodes row ≡ Some was
+    → within_of extent ≡ record (within_of was.extent) { room = (within_of extent).room } → length (within_of extent).children < (within_of extent).room
+    → MakesRoom row nodes (with_record nodes row (record was { extent = extent }))
+room_made nodes row was extent e same more =
     record {
-      room = room_of children;
-      enough = omega (arith, more, ap length same, ap (λ o. length (option_map_or (λ held. held.shape.children) (option_map held_of o) [])) e);
-      changed = record_changed nodes row was (record was { children = children }) (option_map (with_room (room_of children))) e
-          (ap (λ row. Some (record (held_of was) { shape = record (held_of was).shape { children = row }; room = room_of children })) same);
+      room = (within_of extent).room;
+      enough = omega (arith, more, ap (λ w. length w.children) same, ap (λ o. length (option_map_or (λ held. held.shape.children) (option_map held_of o) [])) e);
+      changed = record_changed nodes row was (record was { extent = extent }) (option_map (with_room (within_of extent).room)) e
+          (ap (λ w. Some (held_with was w)) same);
     }
 
 -- ---- a change behind which no row changes
@@ -133,9 +145,26 @@ then_kept row other change before mid after first second =
           omega (arith, a, b, c, d);
     }
 
+-- a row is written as it was
+pub extent_kept : (nodes : Nodes) (row : Row) (was : Record) (extent : Extent) → record_at nodes row ≡ Some was
+    → within_of extent ≡ within_of was.extent → Stays nodes (with_record nodes row (record was { extent = extent }))
+extent_kept nodes row was extent e same =
+    let after = with_record nodes row (record was { extent = extent }) in
+    let changes = record_changed nodes row was (record was { extent = extent }) (λ held. held) e (ap (λ w. Some (held_with was w)) same) in
+    record {
+      held = λ other. held_still row other nodes after changes;
+      entries = changes.entries;
+      reads = changes.reads;
+      node_count = let a = changes.node_count in let b = ap there changes.changed in omega (arith, a, b);
+    }
+
 pub on_ok : {X Y : Type 0} {P Q : Type 0} (r : Result X Y) → OnOk r P → (P → Q) → OnOk r Q
 on_ok (Ok x) h more = more h
 on_ok (Err e) h more = tt
+
+pub on_err : {X Y : Type 0} {P Q : Type 0} (r : Result X Y) → OnErr r P → (P → Q) → OnErr r Q
+on_err (Ok x) h more = tt
+on_err (Err e) h more = more h
 
 -- ---- keys that are the same
 

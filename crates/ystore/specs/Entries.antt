@@ -1,7 +1,8 @@
 -- What an index holds at a key, as contracts see it.
-use Rattle.std.specs.Prelude.{◌≡◌, ℕ, ◌+◌, ◌-◌, ◌^◌, min, ltb, leb, eqb, ◌&&◌, ◌||◌, Bool, List, [], ◌∷◌, ◌++◌, length, drop, take, reverse, Some, slice_get, if◌then◌else◌}
-use Rattle.std.specs.List.{position_or_len, swap_remove}
-use Rattle.ystore.specs.declared.row.NodeId.{NodeId}
+use Rattle.std.specs.Prelude.{ℕ, ◌+◌, ◌-◌, ◌^◌, min, ltb, eqb, ◌&&◌, Bool, List, [], ◌∷◌, ◌++◌, length, if◌then◌else◌}
+use Rattle.std.specs.List.{swap_remove}
+pub use Rattle.ystore_rows.specs.Places.{place_of, place_near, StandsOnce}
+use Rattle.ystore_rows.specs.declared.row.NodeId.{NodeId}
 use Rattle.ystore.specs.declared.entry.Entry as rust
 
 -- how many instances there are, which nodes hold the key, and for how many more there is room
@@ -33,24 +34,6 @@ without_instance e = record e { instances = e.instances - 1 }
 -- with a node that was awaited
 abbrev pub with_node : NodeId → Entry → Entry
 with_node node e = record e { nodes = e.nodes ++ node ∷ []; awaited = e.awaited - 1 }
-
--- the place of a node, or the end
-abbrev pub place_of : NodeId → List NodeId → ℕ
-place_of node nodes = position_or_len (λ n. eqb n.0 node.0) nodes
-
--- a node stands at one place at most
-abbrev pub StandsOnce : NodeId → List NodeId → Type 0
-StandsOnce node nodes = (j k : ℕ) → slice_get nodes j ≡ Some node → slice_get nodes k ≡ Some node → j ≡ k
-
--- the place of a node that is so far ahead of a place of a row, from it on, and so far behind it, from before it back: the nearer one
-abbrev pub nearer : ℕ → ℕ → ℕ → ℕ → ℕ
-nearer at long ahead behind = if ltb behind at && (ltb behind ahead || leb long (at + ahead)) then at - 1 - behind else at + ahead
-
--- the place of a node that is next to a place, or the end
-abbrev pub place_near : ℕ → NodeId → List NodeId → ℕ
-place_near near node nodes =
-    let at = min near (length nodes) in
-    nearer at (length nodes) (place_of node (drop at nodes)) (place_of node (reverse (take at nodes)))
 
 -- without a node, in whose place the last comes
 abbrev pub without : NodeId → List NodeId → List NodeId

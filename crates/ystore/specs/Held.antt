@@ -4,14 +4,16 @@ use Rattle.yspec.specs.types.Types as types
 use Rattle.yschema_model.specs.declared.node.SchemaId.{SchemaId}
 use Rattle.ytype.specs.View.{raw_of}
 use Rattle.ycheck.specs.declared.fault.FaultCode.{FaultCode}
-use Rattle.ystore.specs.Children.{nodes_of, room_of}
-use Rattle.ystore.specs.Rows.{Child}
-use Rattle.ystore.specs.declared.row.Row.{Row}
+use Rattle.ystore_rows.specs.Rows.{Child}
+use Rattle.ystore_rows.specs.declared.row.Row.{Row}
 use Rattle.ystore.specs.declared.record.Judged.{Judged}
 use Rattle.ystore.specs.declared.record.Judged.TheVariants.{Right}
 use Rattle.ystore.specs.declared.record.Label as rust
 use Rattle.ystore.specs.declared.record.Told as rust_told
+use Rattle.ystore.specs.declared.record.KeptLabel.{KeptLabel}
+use Rattle.ystore.specs.declared.record.KeptLabel.TheVariants.{Absent, Bare, Valued}
 use Rattle.ystore.specs.declared.record.Record.{Record}
+use Rattle.ystore_rows.specs.Within.{within_of}
 
 -- a node but for the row below it
 pub record Label : Type 0 where
@@ -42,12 +44,18 @@ pub record Held : Type 0 where
 abbrev pub told_of : rust_told.Told → Told
 told_of t = record { judged = t.judged; same = t.same.items; play = t.play.items }
 
+-- a label as a record keeps it
+abbrev pub kept_label : KeptLabel → Option Label
+kept_label Absent = None
+kept_label (Bare schema parent) = Some (record { schema = schema; value = None; parent = parent })
+kept_label (Valued schema parent raw) = Some (record { schema = schema; value = Some (raw_of raw); parent = parent })
+
 abbrev pub held_of : Record → Held
 held_of r = record {
-  shape = record { label = option_map label_of r.label; children = nodes_of r.children };
-  told = told_of r.told;
+  shape = record { label = kept_label r.label; children = (within_of r.extent).children };
+  told = record { judged = r.judged; same = (within_of r.extent).same; play = (within_of r.extent).play };
   total = r.total;
-  room = room_of r.children;
+  room = (within_of r.extent).room;
 }
 
 -- what is held of the top of an empty document

@@ -2,8 +2,8 @@
 use Rattle.std.specs.Prelude.{Option}
 use Rattle.std.specs.Borrow.{LendsIf, MutBor, Fml}
 use Rattle.slab.specs.Slab.{Slab, with_value}
-use Rattle.ystore.specs.declared.row.Row.{Row}
-use Rattle.ystore.specs.declared.row.Row.TheVariants.{Top, Below}
+use Rattle.ystore_rows.specs.declared.row.Row.{Row}
+use Rattle.ystore_rows.specs.declared.row.Row.TheVariants.{Top, Below}
 use Rattle.ystore.specs.declared.record.Record.{Record}
 use Rattle.ystore.specs.declared.nodes.Nodes.{Nodes}
 use Rattle.ystore.specs.contracts.record.Record as record_row

@@ -1,10 +1,8 @@
-pub mod Children
 pub mod Entries
 pub mod Ending
 pub mod Held
 pub mod Index
 pub mod Lending
-pub mod Rows
 pub mod Store
 pub mod Viewed
 pub mod Views

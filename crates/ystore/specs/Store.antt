@@ -8,15 +8,16 @@ use Rattle.std.specs.BTreeMap as map
 use Rattle.slab.specs.Slab as slab
 use Rattle.ycheck.specs.declared.fault.FaultCode.{FaultCode}
 use Rattle.yschema_model.specs.declared.node.SchemaId.{SchemaId}
-use Rattle.ystore.specs.Rows.{Child}
+use Rattle.ystore_rows.specs.Rows.{Child}
 use Rattle.ystore.specs.Held.{Held, Label, held_of}
 pub use Rattle.ystore.specs.Held.{new_held, with_children, with_told, with_total, with_room, with_play, with_judged, with_same}
 use Rattle.ystore.specs.Entries as entries
 use Rattle.ystore.specs.Index.{entry_by}
+use Rattle.ystore_rows.specs.Within.{place_of}
 use Rattle.ystore.specs.contracts.key.KeyOrd.TheImpl.{ghosts}
-use Rattle.ystore.specs.declared.row.NodeId.{NodeId}
-use Rattle.ystore.specs.declared.row.Row.{Row}
-use Rattle.ystore.specs.declared.row.Row.TheVariants.{Top, Below}
+use Rattle.ystore_rows.specs.declared.row.NodeId.{NodeId}
+use Rattle.ystore_rows.specs.declared.row.Row.{Row}
+use Rattle.ystore_rows.specs.declared.row.Row.TheVariants.{Top, Below}
 use Rattle.ystore.specs.declared.key.Key.{Key}
 use Rattle.ystore.specs.declared.entry.Entry.{Entry}
 use Rattle.ystore.specs.declared.record.Record.{Record}
@@ -59,7 +60,7 @@ node_count nodes = slab.slab_len nodes.records
 
 -- at which place among those of its schema node a node was put in its row; rows alone say where it stands since
 abbrev pub place_put : Nodes → NodeId → ℕ
-place_put nodes id = option_map_or (λ r. r.place) (record_at nodes (Below id)) 0
+place_put nodes id = option_map_or (λ r. place_of r.extent) (record_at nodes (Below id)) 0
 
 -- ---- parts of what is held
 

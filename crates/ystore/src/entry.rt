@@ -2,8 +2,8 @@
 
 ghost use Rattle.std.specs.Prelude.{◌+◌, ◌≤◌, length, vec_capacity};
 
-use crate::row::NodeId;
 use std::alloc::{AllocError, Global};
+use ystore_rows::NodeId;
 
 /// How many instances have a value, and the nodes that hold a key. It has room for nodes that are awaited.
 #[derive(Debug, Drop)]

@@ -1,7 +1,7 @@
 //! What nodes are found by.
 
-use crate::row::Row;
 use yschema_model::SchemaId;
+use ystore_rows::Row;
 use ytype::Val;
 
 /// A key of an index. Keys are compared by what they hold.

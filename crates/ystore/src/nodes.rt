@@ -7,12 +7,12 @@ use crate::count::UseCount;
 use crate::entry::Entry;
 use crate::key::Key;
 use crate::record::Record;
-use crate::row::Row;
 pub use counted::Counted;
 use slab::Slab;
 use std::alloc::Global;
 use std::collections::BTreeMap;
 pub use view::View;
+use ystore_rows::Row;
 
 /// The nodes that a document stores, and indexes of them. It counts how often it is lent as a `Counted`, and the reading calls
 /// of that.
@@ -32,7 +32,7 @@ impl Nodes {
     ghost use Rattle.ystore.specs.Held.{nothing_held};
     ghost use Rattle.ystore.specs.Store as store;
     ghost use Rattle.ystore.specs.Store.{Stays};
-    ghost use Rattle.ystore.specs.declared.row.Row.TheVariants.{Top, Below};
+    ghost use Rattle.ystore_rows.specs.declared.row.Row.TheVariants.{Top, Below};
     ghost use Rattle.ystore.specs.Lending.{LendsRecord};
     ghost use Rattle.ystore.specs.Viewed.{viewed};
     ghost use Rattle.ystore.specs.Views.{lent, new_loan, store_of};

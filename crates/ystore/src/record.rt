@@ -1,10 +1,8 @@
 //! What a store holds of each row: the node above it, and the row itself.
 
-use crate::children::Children;
-use crate::row::{NodeId, Row};
-use std::alloc::Global;
-use ycheck::FaultCode;
+use std::alloc::{AllocError, Global};
 use yschema_model::SchemaId;
+use ystore_rows::{Absence, Extent, Row};
 use ytype::Raw;
 
 /// What is told of the value of a leaf or item.
@@ -26,9 +24,6 @@ pub struct Label {
     pub parent: Row,
 }
 
-/// What is told of nodes that aren't stored in a row: a fault, and the schema node of which it is told.
-pub type Absence = (FaultCode, SchemaId);
-
 /// The faults that are told at a node.
 #[derive(Debug, Drop)]
 pub struct Told {
@@ -40,46 +35,86 @@ pub struct Told {
     pub play: Vec<Absence>,
 }
 
-/// What is held of a row: the node above it, of which the top has none, and what is told at that.
+/// A label as a record keeps it; the top has none.
+#[derive(Drop)]
+pub(crate) enum KeptLabel {
+    Absent,
+    Bare(SchemaId, Row),
+    Valued(SchemaId, Row, Raw),
+}
+
+impl KeptLabel {
+    ghost use Rattle.std.specs.Prelude.{◌≡◌, Some};
+    ghost use Rattle.ystore.specs.Held.{kept_label, label_of};
+
+    fn of(label: Label) -> KeptLabel
+        ensures { kept_label result ≡ Some (label_of label) }
+    {
+        let Label {
+            schema,
+            value,
+            parent,
+        } = label;
+        match value {
+            Some(raw) => KeptLabel::Valued(schema, parent, raw),
+            None => KeptLabel::Bare(schema, parent),
+        }
+    }
+}
+
+/// What is held of a row: the node above it, of which the top has none, what stands in it, and what is told at that.
 #[derive(Drop)]
 pub(crate) struct Record {
-    pub(crate) label: Option<Label>,
-    pub(crate) children: Children,
-    pub(crate) told: Told,
+    label: KeptLabel,
+    pub(crate) extent: Extent,
+    pub(crate) judged: Judged,
     /// How many faults are told of the node and of all below it.
     pub(crate) total: usize,
-    /// At which place among those of its schema node the node was put in its row; it may stand elsewhere since.
-    pub(crate) place: usize,
 }
 
 impl Record {
-    ghost use Rattle.std.specs.Prelude.{◌≡◌, option_map, option_and_then};
+    ghost use Rattle.std.specs.Prelude.{◌≡◌, option_map, option_and_then, IfOk};
     ghost use Rattle.ytype.specs.View.{raw_of};
-    ghost use Rattle.ystore.specs.Held.{held_of, nothing_held, with_told, with_same};
+    ghost use Rattle.ystore.specs.Held.{held_of, label_of, new_held, nothing_held, told_of};
 
     /// That of the top of an empty document.
     pub(crate) fn top(alloc: Global) -> Record
         ensures { held_of result ≡ nothing_held }
     {
         Record {
-            label: None,
-            children: Children::new(alloc),
-            told: Told {
-                judged: Judged::Right,
-                same: Vec::new(alloc),
-                play: Vec::new(alloc),
-            },
+            label: KeptLabel::Absent,
+            extent: Extent::empty(alloc),
+            judged: Judged::Right,
             total: 0,
-            place: 0,
         }
+    }
+
+    /// That of a node without children, with room for so many.
+    pub(crate) fn new(
+        alloc: Global,
+        label: Label,
+        told: Told,
+        total: usize,
+        room: usize,
+    ) -> Result<Record, AllocError>
+        ensures { IfOk result (λ made. held_of made ≡ new_held (label_of label) (told_of told) total room) }
+    {
+        let Told { judged, same, play } = told;
+        Ok(Record {
+            label: KeptLabel::of(label),
+            extent: Extent::new(alloc, same, play, room)?,
+            judged,
+            total,
+        })
     }
 
     pub(crate) fn schema(&self) -> Option<SchemaId>
         ensures { result ≡ option_map (λ l. l.schema) (held_of self.now).shape.label }
     {
         match &self.label {
-            Some(label) => Some(label.schema),
-            None => None,
+            KeptLabel::Absent => None,
+            KeptLabel::Bare(schema, _) => Some(*schema),
+            KeptLabel::Valued(schema, _, _) => Some(*schema),
         }
     }
 
@@ -87,23 +122,10 @@ impl Record {
         ensures { result ≡ option_map (λ l. l.parent) (held_of self.now).shape.label }
     {
         match &self.label {
-            Some(label) => Some(label.parent),
-            None => None,
+            KeptLabel::Absent => None,
+            KeptLabel::Bare(_, parent) => Some(*parent),
+            KeptLabel::Valued(_, parent, _) => Some(*parent),
         }
-    }
-
-    pub(crate) fn set_same(&mut self, number: usize, is_same: bool)
-        ensures { held_of self.new ≡ with_told (with_same number is_same) (held_of self.old) }
-    {
-        if number < self.told.same.len() {
-            self.told.same[number] = is_same;
-        }
-    }
-
-    pub(crate) fn set_place(&mut self, place: usize)
-        ensures { held_of self.new ≡ held_of self.old }
-    {
-        self.place = place;
     }
 
     pub(crate) fn value(&self) -> Option<&Raw>
@@ -111,8 +133,8 @@ impl Record {
             ≡ option_and_then (λ l. l.value) (held_of self.now).shape.label }
     {
         match &self.label {
-            Some(label) => label.value.as_ref(),
-            None => None,
+            KeptLabel::Valued(_, _, raw) => Some(raw),
+            _ => None,
         }
     }
 }

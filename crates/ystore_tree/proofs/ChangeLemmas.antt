@@ -6,16 +6,16 @@ use Rattle.std.proofs.lemmas.Bool.{eq-eqb, ne_eqb}
 use Rattle.yspec.specs.Forest.{end, node, join, weigh}
 use Rattle.yspec.specs.document.Document.{instances_in}
 use Rattle.yschema_model.specs.declared.node.SchemaId.{SchemaId}
-use Rattle.ystore.specs.Rows as rows
-use Rattle.ystore.specs.Rows.{Child, is_child}
+use Rattle.ystore_rows.specs.Rows as rows
+use Rattle.ystore_rows.specs.Rows.{Child, is_child}
 use Rattle.ystore.specs.Held.{with_children}
 use Rattle.ystore.specs.Store.{ChangesRow}
-use Rattle.ystore.specs.declared.row.Row.TheVariants.{Top}
+use Rattle.ystore_rows.specs.declared.row.Row.TheVariants.{Top}
 use Rattle.ystore.specs.declared.nodes.Nodes.{Nodes}
 use Rattle.ystore_tree.specs.Hanging.{Numbered, Branches, child_of, children_of, tree_of, Stands, Keeps, is_number, times}
 use Rattle.ystore_tree.specs.Ways.{Way, around, end_of}
 use Rattle.ystore_tree.specs.Changes.{put_at, with_node, with_node_at}
-use Rattle.ystore.proofs.RowLemmas.{shifted_is}
+use Rattle.ystore_rows.proofs.RowLemmas.{shifted_is}
 use Rattle.ystore_tree.proofs.FoundLemmas.{counted, instances-cons, instances_join}
 use Rattle.ystore_tree.proofs.HangingLemmas.{weigh_join, weigh_around, weigh_put, size_weigh, children_join, stands_join, stands_first, stands_second, stands_put, at_end, apart_kept, hangs_changed, count_kept, is_itself}
 

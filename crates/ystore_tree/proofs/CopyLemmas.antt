@@ -8,11 +8,11 @@ use Rattle.yspec.specs.types.Types.{Raw}
 use Rattle.yspec.specs.document.Document.{Stored, Tree}
 use Rattle.yinst_tree.specs.View.{Labelled, row_of, row_view, view}
 use Rattle.yinst_tree.specs.declared.tree.Stored as tree
-use Rattle.ystore.specs.Rows.{Child}
+use Rattle.ystore_rows.specs.Rows.{Child}
 use Rattle.ystore.specs.Held.{Held, Label, Shape}
 use Rattle.ystore.specs.Store.{held_at, children_at, label_at, node_count}
-use Rattle.ystore.specs.declared.row.Row.{Row}
-use Rattle.ystore.specs.declared.row.Row.TheVariants.{Top, Below}
+use Rattle.ystore_rows.specs.declared.row.Row.{Row}
+use Rattle.ystore_rows.specs.declared.row.Row.TheVariants.{Top, Below}
 use Rattle.ystore.specs.declared.nodes.Nodes.{Nodes}
 use Rattle.ystore_tree.specs.Hanging.{Numbered, Branches, stored_of, tree_of, child_of, children_of, shape_at, shape_of, Stands, Hangs, Holds}
 use Rattle.ystore_tree.specs.Copies.{stored_at, listed_below, row_of_children}

@@ -9,7 +9,7 @@ use Rattle.yspec.specs.document.Document.{Stored, Tree, Step, instances_in}
 use Rattle.yspec.specs.document.Sorting.{IsSorted, StartsAt}
 use Rattle.yspec.specs.edit.Edit.{is_of, edit_at, instance_index}
 use Rattle.yspec.specs.edit.Editing.{Branch, goes_before, instance_branch, moved_branch, with_branch, with_branch_behind, with_instead, with_moved, without}
-use Rattle.ystore.specs.Rows as rows
+use Rattle.ystore_rows.specs.Rows as rows
 use Rattle.ystore_tree.specs.Hanging.{Numbered, Branches, stored_of, tree_of, child_of, children_of}
 use Rattle.ystore_tree.specs.Ways.{Way, Goes, around}
 use Rattle.ystore_tree.specs.Changes.{put_at, with_node, with_node_at}

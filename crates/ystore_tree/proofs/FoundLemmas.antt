@@ -7,11 +7,11 @@ use Rattle.yspec.specs.Forest.{end, node, row, join}
 use Rattle.yspec.specs.document.Document.{Stored, Step, instances_in}
 use Rattle.yspec.specs.edit.Edit.{instance_index}
 use Rattle.yschema_model.specs.declared.node.SchemaId.{SchemaId}
-use Rattle.ystore.specs.Rows.{Child, of_schema}
+use Rattle.ystore_rows.specs.Rows.{Child, of_schema}
 use Rattle.ystore.specs.Store.{children_at}
-use Rattle.ystore.specs.declared.row.NodeId.{NodeId}
-use Rattle.ystore.specs.declared.row.Row.{Row}
-use Rattle.ystore.specs.declared.row.Row.TheVariants.{Below}
+use Rattle.ystore_rows.specs.declared.row.NodeId.{NodeId}
+use Rattle.ystore_rows.specs.declared.row.Row.{Row}
+use Rattle.ystore_rows.specs.declared.row.Row.TheVariants.{Below}
 use Rattle.ystore.specs.declared.nodes.Nodes.{Nodes}
 use Rattle.ystore_tree.specs.Hanging.{Numbered, Branches, stored_of, tree_of, child_of, children_of, Hangs}
 use Rattle.ystore_tree.specs.Ways.{Frame, Way, Goes, Found, around, end_of}

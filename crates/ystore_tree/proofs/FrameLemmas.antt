@@ -7,8 +7,8 @@ use Rattle.yspec.specs.document.Document.{Tree}
 use Rattle.ystore.specs.Held.{Held, Shape, Told, with_told, with_total, with_room}
 use Rattle.ystore.specs.Entries as entries
 use Rattle.ystore.specs.Store.{held_at, children_at, node_count, same_row, there, ChangesRow, ChangesEntry, CountsOne, Stays}
-use Rattle.ystore.specs.declared.row.Row.{Row}
-use Rattle.ystore.specs.declared.row.Row.TheVariants.{Top, Below}
+use Rattle.ystore_rows.specs.declared.row.Row.{Row}
+use Rattle.ystore_rows.specs.declared.row.Row.TheVariants.{Top, Below}
 use Rattle.ystore.specs.declared.key.Key.{Key}
 use Rattle.ystore.specs.declared.nodes.Nodes.{Nodes}
 use Rattle.ystore_tree.specs.Hanging.{Branches, shape_at, Stands, Hangs, Keeps, Holds}

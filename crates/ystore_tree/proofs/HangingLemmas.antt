@@ -3,12 +3,12 @@ use Rattle.std.proofs.Common.{◌≡◌, ℕ, zero, suc, ◌+◌, ◌<◌, ◌�
 use Rattle.std.specs.Option.{option_map_or}
 use Rattle.std.proofs.lemmas.Bool.{eq-eqb, ne_eqb}
 use Rattle.yspec.specs.Forest.{end, node, size, join, weigh}
-use Rattle.ystore.specs.Rows.{Child}
+use Rattle.ystore_rows.specs.Rows.{Child}
 use Rattle.ystore.specs.Held.{Held, Shape, with_children}
 use Rattle.ystore.specs.Store.{held_at, children_at, node_count, same_row, there, ChangesRow}
-use Rattle.ystore.specs.declared.row.NodeId.{NodeId}
-use Rattle.ystore.specs.declared.row.Row.{Row}
-use Rattle.ystore.specs.declared.row.Row.TheVariants.{Top, Below}
+use Rattle.ystore_rows.specs.declared.row.NodeId.{NodeId}
+use Rattle.ystore_rows.specs.declared.row.Row.{Row}
+use Rattle.ystore_rows.specs.declared.row.Row.TheVariants.{Top, Below}
 use Rattle.ystore.specs.declared.nodes.Nodes.{Nodes}
 use Rattle.ystore_tree.specs.Hanging.{Numbered, Branches, child_of, children_of, shape_at, shape_of, Stands, Hangs, is_number, times}
 use Rattle.ystore_tree.specs.Ways.{Frame, Way, around, end_of}

@@ -10,12 +10,12 @@ use Rattle.yspec.proofs.ForestLemmas.{join_end, join_assoc}
 use Rattle.yschema_model.specs.declared.node.SchemaId.{SchemaId}
 use Rattle.yinst_tree.specs.View.{view, row_view}
 use Rattle.yinst_tree.specs.declared.tree.Stored as rust
-use Rattle.ystore.specs.Rows as rows
+use Rattle.ystore_rows.specs.Rows as rows
 use Rattle.ystore.specs.Held.{with_children, nothing_held}
 use Rattle.ystore.specs.Store.{held_at, node_count, ChangesRow, MakesRoom}
-use Rattle.ystore.specs.declared.row.NodeId.{NodeId}
-use Rattle.ystore.specs.declared.row.Row.{Row}
-use Rattle.ystore.specs.declared.row.Row.TheVariants.{Top, Below}
+use Rattle.ystore_rows.specs.declared.row.NodeId.{NodeId}
+use Rattle.ystore_rows.specs.declared.row.Row.{Row}
+use Rattle.ystore_rows.specs.declared.row.Row.TheVariants.{Top, Below}
 use Rattle.ystore.specs.declared.nodes.Nodes.{Nodes}
 use Rattle.ystore_tree.specs.Hanging.{Numbered, Branches, stored_of, tree_of, child_of, children_of, Hangs, Keeps, Holds, is_number, times}
 use Rattle.ystore_tree.specs.Changes.{put_at, with_node}

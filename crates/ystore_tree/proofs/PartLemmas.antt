@@ -11,12 +11,12 @@ use Rattle.yschema_model.specs.declared.node.SchemaId.{SchemaId}
 use Rattle.yinst_tree.specs.View.{view, row_view}
 use Rattle.yinst_tree.specs.declared.tree.Stored as rust
 use Rattle.yinst_tree.proofs.RowLemmas.{row_pushed}
-use Rattle.ystore.specs.Rows.{Child}
+use Rattle.ystore_rows.specs.Rows.{Child}
 use Rattle.ystore.specs.Held.{Label, Shape}
 use Rattle.ystore.specs.Store.{held_at, children_at, label_at, entry_at, node_count, reads, CountsOne}
-use Rattle.ystore.specs.declared.row.NodeId.{NodeId}
-use Rattle.ystore.specs.declared.row.Row.{Row}
-use Rattle.ystore.specs.declared.row.Row.TheVariants.{Top, Below}
+use Rattle.ystore_rows.specs.declared.row.NodeId.{NodeId}
+use Rattle.ystore_rows.specs.declared.row.Row.{Row}
+use Rattle.ystore_rows.specs.declared.row.Row.TheVariants.{Top, Below}
 use Rattle.ystore.specs.declared.nodes.Nodes.{Nodes}
 use Rattle.ystore_tree.specs.Hanging.{Numbered, Branches, stored_of, tree_of, child_of, children_of, Stands}
 use Rattle.ystore_tree.specs.Copies.{ids_of}

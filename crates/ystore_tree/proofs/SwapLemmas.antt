@@ -9,16 +9,16 @@ use Rattle.yspec.specs.Forest.{end, node, join}
 use Rattle.yspec.specs.document.Document.{instances_in}
 use Rattle.yspec.specs.document.Sorting.{IsSorted}
 use Rattle.yschema_model.specs.declared.node.SchemaId.{SchemaId}
-use Rattle.ystore.specs.Rows as rows
-use Rattle.ystore.specs.Rows.{Child}
+use Rattle.ystore_rows.specs.Rows as rows
+use Rattle.ystore_rows.specs.Rows.{Child}
 use Rattle.ystore.specs.Held.{Held, with_children}
 use Rattle.ystore.specs.Store.{held_at, has_room, same_row, there, ChangesRow}
-use Rattle.ystore.specs.declared.row.NodeId.{NodeId}
-use Rattle.ystore.specs.declared.row.Row.{Row}
-use Rattle.ystore.specs.declared.row.Row.TheVariants.{Top}
+use Rattle.ystore_rows.specs.declared.row.NodeId.{NodeId}
+use Rattle.ystore_rows.specs.declared.row.Row.{Row}
+use Rattle.ystore_rows.specs.declared.row.Row.TheVariants.{Top}
 use Rattle.ystore.specs.declared.nodes.Nodes.{Nodes}
-use Rattle.ystore.proofs.CallerLemmas.{added_is_last, out_again}
-use Rattle.ystore.proofs.RowLemmas.{ascends_brought, ascends_remove, count_is, first_before_end, place_at_in_row, shifted_is}
+use Rattle.ystore_rows.proofs.CallerLemmas.{added_is_last, out_again}
+use Rattle.ystore_rows.proofs.RowLemmas.{ascends_brought, ascends_remove, count_is, first_before_end, place_at_in_row, shifted_is}
 use Rattle.ystore_tree.specs.Hanging.{Numbered, Branches, tree_of, child_of, children_of, Keeps, is_number, times}
 use Rattle.ystore_tree.specs.Ways.{Way, around, end_of}
 use Rattle.ystore_tree.specs.Changes.{put_at, with_node_at}

@@ -1,9 +1,9 @@
 -- Changes of a row of nodes, as a store makes them of its lists of children.
 use Rattle.std.specs.Prelude.{◌≡◌, ℕ, zero, suc, ◌+◌, min, length}
 use Rattle.yspec.specs.Forest.{end, node}
-use Rattle.ystore.specs.Rows.{first_place, end_place, of_schema}
+use Rattle.ystore_rows.specs.Rows.{first_place, end_place, of_schema}
 use Rattle.ystore.specs.Store.{node_count}
-use Rattle.ystore.specs.declared.row.Row.{Row}
+use Rattle.ystore_rows.specs.declared.row.Row.{Row}
 use Rattle.ystore.specs.declared.nodes.Nodes.{Nodes}
 use Rattle.ystore_tree.specs.Hanging.{Numbered, Branches, shape_at, children_of}
 

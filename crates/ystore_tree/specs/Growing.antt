@@ -6,15 +6,15 @@ use Rattle.yspec.specs.schema.Schema.{Schema, Kind, list, leaf_list, node_at}
 use Rattle.yspec.specs.document.Document.{Stored, Tree}
 use Rattle.ystore.specs.Held.{Held, Label, Told}
 use Rattle.ystore.specs.Store.{held_at, entry_at, reads, node_count, ChangesRow}
-use Rattle.ystore.specs.declared.row.NodeId.{NodeId}
-use Rattle.ystore.specs.declared.row.Row.{Row}
-use Rattle.ystore.specs.declared.row.Row.TheVariants.{Below}
+use Rattle.ystore_rows.specs.declared.row.NodeId.{NodeId}
+use Rattle.ystore_rows.specs.declared.row.Row.{Row}
+use Rattle.ystore_rows.specs.declared.row.Row.TheVariants.{Below}
 use Rattle.ystore.specs.declared.record.Judged.TheVariants.{Right}
 use Rattle.ystore.specs.declared.key.Key.{Key}
 use Rattle.ystore.specs.declared.nodes.Nodes.{Nodes}
 use Rattle.ystore_tree.specs.Hanging.{Numbered, Branches, tree_of, stored_of, times, Stands, Keeps}
 use Rattle.ystore_tree.specs.Copies.{laid, laid_on, ids_of}
-use Rattle.ystore.specs.declared.row.Row.TheVariants.{Top}
+use Rattle.ystore_rows.specs.declared.row.Row.TheVariants.{Top}
 
 -- what is held stays so, keys have what they had, and no node goes
 pub record Grows (before after : Nodes) : Type 0 where

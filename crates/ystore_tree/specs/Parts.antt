@@ -4,8 +4,8 @@ use Rattle.yspec.specs.Forest.{end, node, size, join}
 use Rattle.yinst_tree.specs.View.{row_view}
 use Rattle.yinst_tree.specs.declared.tree.Stored.{Stored}
 use Rattle.ystore.specs.Store.{held_at, entry_at, reads, node_count}
-use Rattle.ystore.specs.declared.row.NodeId.{NodeId}
-use Rattle.ystore.specs.declared.row.Row.{Row}
+use Rattle.ystore_rows.specs.declared.row.NodeId.{NodeId}
+use Rattle.ystore_rows.specs.declared.row.Row.{Row}
 use Rattle.ystore.specs.declared.key.Key.{Key}
 use Rattle.ystore.specs.declared.nodes.Nodes.{Nodes}
 use Rattle.ystore_tree.specs.Hanging.{Numbered, Branches, tree_of}

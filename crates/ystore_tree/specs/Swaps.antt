@@ -3,8 +3,8 @@ use Rattle.std.specs.Prelude.{◌≡◌, ℕ, List}
 use Rattle.yspec.specs.Forest.{end, node, join}
 use Rattle.yspec.specs.document.Document.{instances_in}
 use Rattle.yschema_model.specs.declared.node.SchemaId.{SchemaId}
-use Rattle.ystore.specs.Rows.{Child, added, put, without_at, brought, shifted, without_last}
-use Rattle.ystore.specs.declared.row.NodeId.{NodeId}
+use Rattle.ystore_rows.specs.Rows.{Child, added, put, without_at, brought, shifted, without_last}
+use Rattle.ystore_rows.specs.declared.row.NodeId.{NodeId}
 use Rattle.ystore_tree.specs.Hanging.{Numbered, Branches, tree_of}
 use Rattle.ystore_tree.specs.Changes.{with_node, with_node_at}
 use Rattle.ystore_tree.specs.declared.swapping.Change.{Change}

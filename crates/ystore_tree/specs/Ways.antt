@@ -4,9 +4,9 @@ use Rattle.yspec.specs.Forest.{node, join}
 use Rattle.yspec.specs.document.Document.{Step, instances_in}
 use Rattle.yspec.specs.edit.Edit.{instance_index}
 use Rattle.yschema_model.specs.declared.node.SchemaId.{SchemaId}
-use Rattle.ystore.specs.declared.row.NodeId.{NodeId}
-use Rattle.ystore.specs.declared.row.Row.{Row}
-use Rattle.ystore.specs.declared.row.Row.TheVariants.{Below}
+use Rattle.ystore_rows.specs.declared.row.NodeId.{NodeId}
+use Rattle.ystore_rows.specs.declared.row.Row.{Row}
+use Rattle.ystore_rows.specs.declared.row.Row.TheVariants.{Below}
 use Rattle.ystore_tree.specs.Hanging.{Numbered, Branches, tree_of}
 
 -- a step down: to a node, with what stands before and after it in its row

@@ -2,8 +2,8 @@
 use Rattle.std.specs.Prelude.{ℕ, Option, Some, None, codes}
 use Rattle.yspec.specs.Forest.{end, node}
 use Rattle.yspec.specs.types.Types.{Raw, text, empty}
-use Rattle.ystore.specs.declared.row.Row.{Row}
-use Rattle.ystore.specs.declared.row.Row.TheVariants.{Below}
+use Rattle.ystore_rows.specs.declared.row.Row.{Row}
+use Rattle.ystore_rows.specs.declared.row.Row.TheVariants.{Below}
 use Rattle.ystore_tree.specs.Hanging.{Numbered, Branches}
 
 abbrev pub stored_as : ℕ → ℕ → Option Raw → Numbered

@@ -7,7 +7,7 @@ ghost use Rattle.ytype.specs.View.{raw_of};
 ghost use Rattle.yinst_tree.specs.View.{row_view, tree_view};
 ghost use Rattle.ystore.specs.Store.{children_at, node_count};
 ghost use Rattle.ystore.specs.Viewed.{viewed};
-ghost use Rattle.ystore.specs.declared.row.Row.TheVariants.{Top};
+ghost use Rattle.ystore_rows.specs.declared.row.Row.TheVariants.{Top};
 ghost use Rattle.ystore_tree.specs.Hanging.{Branches, Hangs, Holds, tree_of};
 ghost use Rattle.ystore_tree.specs.Copies.{listed_below, row_of_children};
 

@@ -10,7 +10,7 @@ ghost use Rattle.ystore.specs.Views.{store_of, lent};
 ghost use Rattle.ystore_tree.specs.Hanging.{Branches, Holds, Keeps};
 ghost use Rattle.ystore_tree.specs.Growing.{Gets, Grows, Inserts, Removes, Freshens};
 ghost use Rattle.ystore_tree.specs.Growing as growing;
-ghost use Rattle.ystore.specs.declared.row.Row.TheVariants.{Top};
+ghost use Rattle.ystore_rows.specs.declared.row.Row.TheVariants.{Top};
 
 use std::alloc::{AllocError, Global};
 use yinst_tree::{Stored, Tree};

@@ -5,8 +5,8 @@ ghost use Rattle.yspec.specs.Forest.{end, node, levels};
 ghost use Rattle.ytype.specs.View.{raw_of};
 ghost use Rattle.ystore.specs.Store.{children_at, label_at};
 ghost use Rattle.ystore.specs.Views.{store_of, lent, IsRead};
-ghost use Rattle.ystore.specs.declared.row.Row as rust;
-ghost use Rattle.ystore.specs.declared.row.Row.TheVariants.{Below};
+ghost use Rattle.ystore_rows.specs.declared.row.Row as rust;
+ghost use Rattle.ystore_rows.specs.declared.row.Row.TheVariants.{Below};
 ghost use Rattle.ystore_tree.specs.Hanging.{Numbered, Branches, Stands, children_of};
 ghost use Rattle.ystore_tree.specs.Parts.{CopiesBut, OnlyReads};
 

@@ -5,7 +5,7 @@ ghost use Rattle.yspec.specs.document.Sorting.{IsSorted};
 ghost use Rattle.ystore.specs.Held.{with_children};
 ghost use Rattle.ystore.specs.Store.{has_room, ChangesRow};
 ghost use Rattle.ystore.specs.Views.{store_of, lent};
-ghost use Rattle.ystore.specs.declared.row.Row.TheVariants.{Top};
+ghost use Rattle.ystore_rows.specs.declared.row.Row.TheVariants.{Top};
 ghost use Rattle.ystore.specs.declared.nodes.Nodes.{Nodes};
 ghost use Rattle.ystore_tree.specs.Hanging.{Branches, Keeps, tree_of};
 ghost use Rattle.ystore_tree.specs.Parts.{OnlyReads};
@@ -53,7 +53,7 @@ impl Swap {
     ghost use Rattle.ystore.specs.Held.{with_children};
     ghost use Rattle.ystore.specs.Store.{has_room, ChangesRow};
     ghost use Rattle.ystore.specs.Views.{store_of, lent};
-    ghost use Rattle.ystore.specs.declared.row.Row.TheVariants.{Top};
+    ghost use Rattle.ystore_rows.specs.declared.row.Row.TheVariants.{Top};
     ghost use Rattle.ystore_tree.specs.Hanging.{Branches, Keeps};
     ghost use Rattle.ystore_tree.specs.Swaps.{Swaps, swapped, swapped_back};
     ghost use Rattle.ystore_tree.specs.Ways.{Way, around, end_of};

@@ -4,7 +4,7 @@ ghost use Rattle.std.specs.Prelude.{◌≡◌, [], ◌∷◌, codes, Some, None}
 ghost use Rattle.yspec.specs.Forest.{end, node};
 ghost use Rattle.yspec.specs.types.Types.{text, empty};
 ghost use Rattle.ystore.specs.Store.{children_at, held_at};
-ghost use Rattle.ystore.specs.declared.row.Row.TheVariants.{Top, Below};
+ghost use Rattle.ystore_rows.specs.declared.row.Row.TheVariants.{Top, Below};
 ghost use Rattle.ystore.specs.declared.nodes.Nodes.{Nodes};
 ghost use Rattle.ystore_tree.specs.Hanging.{Hangs, child_of, shape_at, shape_of, times, tree_of};
 ghost use Rattle.ystore_tree.specs.Changes.{with_node, with_node_at};

@@ -1,14 +1,13 @@
 //! What an edit may call of a store.
 
 use super::Nodes;
-use crate::children::Children;
 use crate::entry::Entry;
 use crate::index::await_at;
 use crate::key::Key;
-use crate::record::{Absence, Judged, Label, Record, Told};
-use crate::row::{NodeId, Row};
+use crate::record::{Judged, Label, Record, Told};
 use std::alloc::{AllocError, Global};
 use yschema_model::SchemaId;
+use ystore_rows::{Absence, NodeId, Row};
 use ytype::Raw;
 
 /// A store whose reading calls are counted. Each is given a node or a row, or a key, perhaps with a place, and answers
@@ -24,7 +23,7 @@ impl<'a> Counted<'a> {
     ghost use Rattle.std.specs.Borrow.{sem};
     ghost use Rattle.slab.specs.Slab.{HasRoomFor};
     ghost use Rattle.ytype.specs.View.{raw_of};
-    ghost use Rattle.ystore.specs.Rows as rows;
+    ghost use Rattle.ystore_rows.specs.Rows as rows;
     ghost use Rattle.ystore.specs.Held.{label_of, told_of};
     ghost use Rattle.ystore.specs.Entries as entries;
     ghost use Rattle.ystore.specs.Index.{made_ready, tidied};
@@ -32,7 +31,7 @@ impl<'a> Counted<'a> {
     ghost use Rattle.ystore.specs.Store.{ChangesRow, ChangesEntry, MakesRoom, Stays};
     ghost use Rattle.ystore.specs.Views.{store_of, lent, IsRead};
     ghost use Rattle.ystore.specs.Ending.{EndsRead};
-    ghost use Rattle.ystore.specs.declared.row.Row.TheVariants.{Top, Below};
+    ghost use Rattle.ystore_rows.specs.declared.row.Row.TheVariants.{Top, Below};
 
     // ---- not counted
 
@@ -108,7 +107,7 @@ impl<'a> Counted<'a> {
     {
         self.nodes.count.count_read();
         match self.nodes.record(row) {
-            Some(record) => record.told.play.len(),
+            Some(record) => record.extent.play().len(),
             None => 0,
         }
     }
@@ -120,7 +119,7 @@ impl<'a> Counted<'a> {
     {
         self.nodes.count.count_read();
         match self.nodes.record(row) {
-            Some(record) => record.told.play.get(place).copied(),
+            Some(record) => record.extent.play().get(place).copied(),
             None => None,
         }
     }
@@ -132,7 +131,7 @@ impl<'a> Counted<'a> {
     {
         self.nodes.count.count_read();
         match self.nodes.record(row) {
-            Some(record) => record.children.len(),
+            Some(record) => record.extent.len(),
             None => 0,
         }
     }
@@ -145,7 +144,7 @@ impl<'a> Counted<'a> {
     {
         self.nodes.count.count_read();
         match self.nodes.record(row) {
-            Some(record) => record.children.get(place),
+            Some(record) => record.extent.get(place),
             None => None,
         }
     }
@@ -158,7 +157,7 @@ impl<'a> Counted<'a> {
     {
         self.nodes.count.count_read();
         match self.nodes.record(row) {
-            Some(record) => record.children.get_of(schema, place),
+            Some(record) => record.extent.get_of(schema, place),
             None => None,
         }
     }
@@ -171,7 +170,7 @@ impl<'a> Counted<'a> {
     {
         self.nodes.count.count_read();
         match self.nodes.record(row) {
-            Some(record) => record.children.count_of(schema),
+            Some(record) => record.extent.count_of(schema),
             None => 0,
         }
     }
@@ -183,7 +182,7 @@ impl<'a> Counted<'a> {
     {
         self.nodes.count.count_read();
         match self.nodes.record(Row::Below(id)) {
-            Some(record) => record.place,
+            Some(record) => record.extent.place(),
             None => 0,
         }
     }
@@ -196,7 +195,7 @@ impl<'a> Counted<'a> {
     {
         self.nodes.count.count_read();
         match self.nodes.record(row) {
-            Some(record) => record.children.index_near(schema, node, near),
+            Some(record) => record.extent.index_near(schema, node, near),
             None => 0,
         }
     }
@@ -256,8 +255,9 @@ impl<'a> Counted<'a> {
         ensures err { OnErr result (Stays (store_of self.old) (store_of self.new)) }
         ensures same_reference { lent self.new ≡ lent self.old }
     {
+        let alloc = self.nodes.alloc;
         match self.nodes.record_mut(row) {
-            Some(record) => record.children.reserve(),
+            Some(record) => record.extent.reserve(alloc),
             None => Ok(()),
         }
     }
@@ -306,13 +306,7 @@ impl<'a> Counted<'a> {
         if number > u32::MAX as usize {
             return Err(AllocError);
         }
-        let record = Record {
-            label: Some(label),
-            children: Children::with_capacity(self.nodes.alloc, room)?,
-            told,
-            total,
-            place: 0,
-        };
+        let record = Record::new(self.nodes.alloc, label, told, total, room)?;
         match self.nodes.records.insert(record) {
             Ok(_) => Ok(NodeId(number as u32)),
             Err(_) => Err(AllocError),
@@ -327,7 +321,7 @@ impl<'a> Counted<'a> {
         ensures same_reference { lent self.new ≡ lent self.old }
     {
         if let Some(record) = self.nodes.record_mut(Row::Below(id)) {
-            record.set_place(place);
+            record.extent.set_place(place);
         }
     }
 
@@ -339,7 +333,7 @@ impl<'a> Counted<'a> {
         ensures same_reference { lent self.new ≡ lent self.old }
     {
         match self.nodes.record_mut(row) {
-            Some(record) => record.children.add(child),
+            Some(record) => record.extent.add(child),
             None => 0,
         }
     }
@@ -364,7 +358,7 @@ impl<'a> Counted<'a> {
         ensures same_reference { lent self.new ≡ lent self.old }
     {
         if let Some(record) = self.nodes.record_mut(row) {
-            record.children.add_at((schema, child), place);
+            record.extent.add_at((schema, child), place);
         }
     }
 
@@ -375,7 +369,7 @@ impl<'a> Counted<'a> {
         ensures same_reference { lent self.new ≡ lent self.old }
     {
         match self.nodes.record_mut(row) {
-            Some(record) => record.children.put(child, new),
+            Some(record) => record.extent.put(child, new),
             None => 0,
         }
     }
@@ -398,7 +392,7 @@ impl<'a> Counted<'a> {
         ensures same_reference { lent self.new ≡ lent self.old }
     {
         if let Some(record) = self.nodes.record_mut(row) {
-            record.children.take_at(schema, place);
+            record.extent.take_at(schema, place);
         }
     }
 
@@ -409,7 +403,7 @@ impl<'a> Counted<'a> {
         ensures same_reference { lent self.new ≡ lent self.old }
     {
         if let Some(record) = self.nodes.record_mut(row) {
-            record.children.take_last(schema);
+            record.extent.take_last(schema);
         }
     }
 
@@ -427,7 +421,7 @@ impl<'a> Counted<'a> {
         ensures same_reference { lent self.new ≡ lent self.old }
     {
         match self.nodes.record_mut(row) {
-            Some(record) => record.children.shift_at(schema, from, to),
+            Some(record) => record.extent.shift_at(schema, from, to),
             None => None,
         }
     }
@@ -451,7 +445,7 @@ impl<'a> Counted<'a> {
         ensures same_reference { lent self.new ≡ lent self.old }
     {
         if let Some(record) = self.nodes.record_mut(row) {
-            record.told.play = play;
+            record.extent.set_play(play);
         }
     }
 
@@ -462,7 +456,7 @@ impl<'a> Counted<'a> {
         ensures same_reference { lent self.new ≡ lent self.old }
     {
         if let Some(record) = self.nodes.record_mut(Row::Below(id)) {
-            record.told.judged = judged;
+            record.judged = judged;
         }
     }
 
@@ -473,7 +467,7 @@ impl<'a> Counted<'a> {
         ensures same_reference { lent self.new ≡ lent self.old }
     {
         if let Some(record) = self.nodes.record_mut(Row::Below(id)) {
-            record.set_same(number, is_same);
+            record.extent.set_same(number, is_same);
         }
     }
 

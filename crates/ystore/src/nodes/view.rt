@@ -1,9 +1,9 @@
 //! What a store holds, without a count.
 
 use super::Nodes;
-use crate::record::{Absence, Judged};
-use crate::row::{NodeId, Row};
+use crate::record::Judged;
 use yschema_model::SchemaId;
+use ystore_rows::{Absence, NodeId, Row};
 use ytype::Raw;
 
 /// A store that is only read. Its reads aren't counted.
@@ -17,7 +17,7 @@ impl<'a> View<'a> {
     ghost use Rattle.ytype.specs.View.{raw_of};
     ghost use Rattle.ystore.specs.Store as store;
     ghost use Rattle.ystore.specs.Viewed.{viewed};
-    ghost use Rattle.ystore.specs.declared.row.Row.TheVariants.{Below};
+    ghost use Rattle.ystore_rows.specs.declared.row.Row.TheVariants.{Below};
 
     /// How many nodes are stored.
     pub fn node_count(self) -> usize
@@ -31,7 +31,7 @@ impl<'a> View<'a> {
         ensures { result ≡ length (store.children_at (viewed self.entry) row) }
     {
         match self.nodes.record(row) {
-            Some(record) => record.children.len(),
+            Some(record) => record.extent.len(),
             None => 0,
         }
     }
@@ -41,7 +41,7 @@ impl<'a> View<'a> {
         ensures { result ≡ slice_get (store.children_at (viewed self.entry) row) place }
     {
         match self.nodes.record(row) {
-            Some(record) => record.children.child_at(place),
+            Some(record) => record.extent.child_at(place),
             None => None,
         }
     }
@@ -83,7 +83,7 @@ impl<'a> View<'a> {
             ≡ option_map (λ held. held.told.judged) (store.held_at (viewed self.entry) (Below id)) }
     {
         match self.nodes.record(Row::Below(id)) {
-            Some(record) => Some(&record.told.judged),
+            Some(record) => Some(&record.judged),
             None => None,
         }
     }
@@ -93,7 +93,7 @@ impl<'a> View<'a> {
         ensures { result.now ≡ store.same_at (viewed self.entry) id }
     {
         match self.nodes.record(Row::Below(id)) {
-            Some(record) => record.told.same.as_slice(),
+            Some(record) => record.extent.same(),
             None => &[],
         }
     }
@@ -103,7 +103,7 @@ impl<'a> View<'a> {
         ensures { result.now ≡ store.play_at (viewed self.entry) row }
     {
         match self.nodes.record(row) {
-            Some(record) => record.told.play.as_slice(),
+            Some(record) => record.extent.play(),
             None => &[],
         }
     }

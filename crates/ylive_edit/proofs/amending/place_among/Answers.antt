@@ -1,11 +1,11 @@
 use Rattle.std.proofs.Common.{[], ap, subst, ◌≡◌, ◌∙◌}
 use Rattle.std.specs.Option.{option_map_or}
 use Rattle.ystore.specs.Entries.{StandsOnce, place_of}
-use Rattle.ystore.specs.Rows.{of_schema}
+use Rattle.ystore_rows.specs.Rows.{of_schema}
 use Rattle.ystore.specs.Store.{children_at}
 use Rattle.ystore.specs.Views.{store_of}
 use Rattle.ystore.specs.declared.nodes.Nodes.{Nodes}
-use Rattle.ystore.proofs.CallerLemmas.{near_once}
+use Rattle.ystore_rows.proofs.CallerLemmas.{near_once}
 use Rattle.ylive_edit.proofs.amending.place_among.Goals as goal
 
 pub returns-clause-place : goal.returns-clause-place

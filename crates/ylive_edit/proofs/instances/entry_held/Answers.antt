@@ -7,7 +7,7 @@ use Rattle.yinst_path.specs.Binding.{node_of}
 use Rattle.yinst_path.specs.declared.edit.EditCode.TheVariants.{E6}
 use Rattle.ystore.specs.Views.{store_of}
 use Rattle.ystore.specs.Store.{holders_at}
-use Rattle.ystore.specs.declared.row.NodeId.{NodeId}
+use Rattle.ystore_rows.specs.declared.row.NodeId.{NodeId}
 use Rattle.ystore_tree.specs.Hanging.{tree_of}
 use Rattle.ystore_tree.specs.Ways.{Found}
 use Rattle.ystore_tree.proofs.PartLemmas.{one_read}

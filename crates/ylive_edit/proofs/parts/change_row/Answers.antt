@@ -1,7 +1,7 @@
 use Rattle.yschema_model.specs.View as schema_view
 use Rattle.ystore.specs.Views.{store_of}
 use Rattle.ystore_tree.specs.Ways.{around, end_of}
-use Rattle.ystore.specs.declared.row.Row.TheVariants.{Top}
+use Rattle.ystore_rows.specs.declared.row.Row.TheVariants.{Top}
 use Rattle.ylive_retell.specs.Standing.{standing}
 use Rattle.ylive_edit.proofs.BesideLemmas.{fresh_roomed, told_roomed}
 use Rattle.ylive_retell.proofs.StillLemmas.{on_err}

@@ -3,7 +3,7 @@ use Rattle.yspec.specs.edit.Editing.{with_moved}
 use Rattle.yschema_model.specs.View as schema_view
 use Rattle.yschema_model.proofs.CallerLemmas.{numbered}
 use Rattle.ystore.specs.Views.{store_of}
-use Rattle.ystore.specs.declared.row.Row.TheVariants.{Top}
+use Rattle.ystore_rows.specs.declared.row.Row.TheVariants.{Top}
 use Rattle.yspec.specs.Forest.{end}
 use Rattle.ystore_tree.specs.Ways.{around}
 use Rattle.ystore_tree.specs.declared.swapping.Change.TheVariants.{Move}

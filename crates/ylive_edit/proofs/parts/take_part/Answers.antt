@@ -2,7 +2,7 @@ use Rattle.std.proofs.Common.{[], ap, refl, subst, sym, ◌∙◌}
 use Rattle.yspec.specs.Forest.{end}
 use Rattle.yschema_model.specs.View as schema_view
 use Rattle.ystore.specs.Views.{store_of}
-use Rattle.ystore.specs.declared.row.Row.TheVariants.{Top}
+use Rattle.ystore_rows.specs.declared.row.Row.TheVariants.{Top}
 use Rattle.ystore_tree.specs.Ways.{around}
 use Rattle.ystore_tree.specs.declared.swapping.Change.TheVariants.{Take}
 use Rattle.ylive_edit.specs.Places.{Swapping}

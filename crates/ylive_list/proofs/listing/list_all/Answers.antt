@@ -1,7 +1,7 @@
 use Rattle.std.proofs.Common.{None, ap, ◌∙◌}
 use Rattle.yschema_model.specs.View as schema_view
 use Rattle.ystore.specs.Viewed.{viewed}
-use Rattle.ystore.specs.declared.row.Row.TheVariants.{Top}
+use Rattle.ystore_rows.specs.declared.row.Row.TheVariants.{Top}
 use Rattle.ylive_list.specs.Listed.{row_told}
 use Rattle.ylive_list.proofs.FoundLemmas.{all_found}
 use Rattle.ylive_list.proofs.listing.list_all.Goals as goal

@@ -3,7 +3,7 @@ use Rattle.std.proofs.lemmas.Bool.{eq-eqb, ne_eqb}
 use Rattle.ystore.specs.Entries.{with_node}
 use Rattle.ystore.specs.Held.{with_judged}
 use Rattle.ystore.specs.Views.{store_of}
-use Rattle.ystore.specs.declared.row.Row.TheVariants.{Below}
+use Rattle.ystore_rows.specs.declared.row.Row.TheVariants.{Below}
 use Rattle.ystore.specs.declared.record.Judged.TheVariants.{Missing}
 use Rattle.ylive_marks.specs.Keys.{found_at}
 use Rattle.ylive_marks.proofs.KeyLemmas.{found_still}

@@ -1,7 +1,7 @@
 use Rattle.std.proofs.Common.{◌∙◌, ap}
 use Rattle.ystore.specs.Held.{with_judged}
 use Rattle.ystore.specs.Views.{store_of}
-use Rattle.ystore.specs.declared.row.Row.TheVariants.{Below}
+use Rattle.ystore_rows.specs.declared.row.Row.TheVariants.{Below}
 use Rattle.ylive_marks.proofs.TotalLemmas.{mark}
 use Rattle.ylive_marks.proofs.TellLemmas.{told_reads, told_so, judged_totals, told_beside}
 use Rattle.ylive_marks.proofs.telling.tell_judged.Goals as goal

@@ -1,4 +1,4 @@
-use Rattle.ystore.specs.declared.row.Row.TheVariants.{Below}
+use Rattle.ystore_rows.specs.declared.row.Row.TheVariants.{Below}
 use Rattle.std.proofs.Common.{arith, ◌∙◌, sym, ap, length}
 use Rattle.ystore.specs.Held.{with_play}
 use Rattle.ystore.specs.Views.{store_of}

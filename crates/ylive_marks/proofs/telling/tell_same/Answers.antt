@@ -1,6 +1,6 @@
 use Rattle.ystore.specs.Held.{with_same}
 use Rattle.ystore.specs.Views.{store_of}
-use Rattle.ystore.specs.declared.row.Row.TheVariants.{Below}
+use Rattle.ystore_rows.specs.declared.row.Row.TheVariants.{Below}
 use Rattle.ylive_marks.proofs.TellLemmas.{told_reads, told_so, same_totals, told_beside}
 use Rattle.ylive_marks.proofs.telling.tell_same.Goals as goal
 

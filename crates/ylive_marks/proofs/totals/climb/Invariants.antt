@@ -3,7 +3,7 @@ use Rattle.ystore_tree.specs.Hanging.{Branches}
 use Rattle.ystore_tree.specs.Ways.{Way, around, end_of}
 use Rattle.ystore.specs.Store.{reads}
 use Rattle.ystore.specs.Views.{store_of, lent}
-use Rattle.ystore.specs.declared.row.Row.TheVariants.{Top}
+use Rattle.ystore_rows.specs.declared.row.Row.TheVariants.{Top}
 use Rattle.ylive_marks.specs.Totals.{IsTree, OnlyFaults, SameTold, moved}
 use Rattle.ylive_marks.proofs.ClimbLemmas.{SoFar}
 use Rattle.ylive_marks.proofs.totals.climb.Given as goal

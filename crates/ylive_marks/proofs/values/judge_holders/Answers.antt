@@ -4,7 +4,7 @@ use Rattle.ystore.specs.Held.{with_judged}
 use Rattle.ystore.specs.Store.{holders_at}
 use Rattle.ystore.specs.Store as store
 use Rattle.ystore.specs.Views.{store_of}
-use Rattle.ystore.specs.declared.row.Row.TheVariants.{Below}
+use Rattle.ystore_rows.specs.declared.row.Row.TheVariants.{Below}
 use Rattle.ystore.specs.declared.record.Judged.{Judged}
 use Rattle.ystore.specs.declared.record.Judged.TheVariants.{Right, Missing}
 use Rattle.ylive_marks.specs.Totals.{ChangesTold}

@@ -3,8 +3,8 @@ use Rattle.yspec.specs.Forest.{levels}
 use Rattle.ystore.specs.Held.{with_judged}
 use Rattle.ystore.specs.Store.{holders_at, reads, total_at}
 use Rattle.ystore.specs.Views.{store_of, lent}
-use Rattle.ystore.specs.declared.row.NodeId.{NodeId}
-use Rattle.ystore.specs.declared.row.Row.TheVariants.{Below}
+use Rattle.ystore_rows.specs.declared.row.NodeId.{NodeId}
+use Rattle.ystore_rows.specs.declared.row.Row.TheVariants.{Below}
 use Rattle.ystore.specs.declared.record.Judged.TheVariants.{Right, Missing}
 use Rattle.ystore_tree.specs.Hanging.{Branches, times}
 use Rattle.ylive_marks.specs.Totals.{IsTree, OnlyFaults, StandsIn, Totals, judged_at}

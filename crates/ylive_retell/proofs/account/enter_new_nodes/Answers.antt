@@ -2,7 +2,7 @@ use Rattle.std.proofs.Common.{◌∙◌, map, get_or, refl, sym, ap, arith}
 use Rattle.std.proofs.lemmas.List.{at_drop_more, at_drop_all}
 use Rattle.yschema_model.specs.View as schema_view
 use Rattle.ystore.specs.Views.{store_of}
-use Rattle.ystore.specs.declared.row.NodeId.{NodeId}
+use Rattle.ystore_rows.specs.declared.row.NodeId.{NodeId}
 use Rattle.ystore_tree.proofs.PartLemmas.{reads_nothing, reads_on}
 use Rattle.ylive_facts.specs.InPlay.{absence_views}
 use Rattle.ylive_facts.specs.Judging.{judged_view}

@@ -2,7 +2,7 @@ use Rattle.std.proofs.Common.{◌∙◌, get_or, refl, sym, arith}
 use Rattle.std.proofs.lemmas.List.{at_drop_more, at_drop_all}
 use Rattle.yschema_model.specs.View as schema_view
 use Rattle.ystore.specs.Views.{store_of}
-use Rattle.ystore.specs.declared.row.NodeId.{NodeId}
+use Rattle.ystore_rows.specs.declared.row.NodeId.{NodeId}
 use Rattle.ystore_tree.proofs.PartLemmas.{reads_nothing, reads_on}
 use Rattle.ylive_retell.specs.Standing.{standing}
 use Rattle.ylive_retell.proofs.AccountLemmas.{next, next_stands, none_yet, enters_none, enters_more, enters_same, all_done, there_read}

@@ -4,7 +4,7 @@ use Rattle.yschema_model.specs.View as schema_view
 use Rattle.yspec_reach.specs.Sizes.{levels}
 use Rattle.ystore.specs.Store.{reads}
 use Rattle.ystore.specs.Views.{store_of, lent}
-use Rattle.ystore.specs.declared.row.Row as rows
+use Rattle.ystore_rows.specs.declared.row.Row as rows
 use Rattle.ystore_tree.specs.Hanging.{Branches, Stands}
 use Rattle.ystore_tree.specs.Copies.{ids_of}
 use Rattle.ystore_tree.specs.Parts.{OnlyReads}

@@ -3,7 +3,7 @@ use Rattle.yspec.specs.Forest.{size}
 use Rattle.yschema_model.specs.View as schema_view
 use Rattle.ystore.specs.Store.{node_count, reads}
 use Rattle.ystore.specs.Views.{store_of, lent}
-use Rattle.ystore.specs.declared.row.Row.TheVariants.{Top}
+use Rattle.ystore_rows.specs.declared.row.Row.TheVariants.{Top}
 use Rattle.ystore_tree.specs.Hanging.{Branches, Hangs}
 use Rattle.ystore_tree.specs.Parts.{OnlyReads}
 use Rattle.ystore_tree.specs.Ways.{Way, around, end_of}

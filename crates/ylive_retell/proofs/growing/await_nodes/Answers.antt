@@ -1,6 +1,6 @@
 use Rattle.std.proofs.Common.{◌∙◌, ap, arith}
 use Rattle.ystore.specs.Views.{store_of}
-use Rattle.ystore.specs.declared.row.NodeId.{NodeId}
+use Rattle.ystore_rows.specs.declared.row.NodeId.{NodeId}
 use Rattle.ystore.specs.declared.key.Key.{Key}
 use Rattle.ylive_facts.specs.Keys.{key_view}
 use Rattle.ylive_retell.proofs.GrowingLemmas.{grows_on, node_grows, node_awaits, one_awaited, copy_same, one_touches}

@@ -3,7 +3,7 @@ use Rattle.std.specs.Prelude.{option_map}
 use Rattle.yschema_model.specs.View as schema_view
 use Rattle.yschema_model.specs.View.{child_view}
 use Rattle.ystore.specs.Views.{store_of}
-use Rattle.ystore.specs.declared.row.Row.TheVariants.{Top}
+use Rattle.ystore_rows.specs.declared.row.Row.TheVariants.{Top}
 use Rattle.ystore_tree.specs.Hanging.{tree_of}
 use Rattle.ystore_tree.specs.Ways.{around}
 use Rattle.ylive_facts.specs.Keys.{holdings}

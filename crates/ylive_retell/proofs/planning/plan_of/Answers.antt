@@ -6,8 +6,8 @@ use Rattle.yschema_model.specs.View.{child_view}
 use Rattle.yschema_model.proofs.CallerLemmas.{numbered}
 use Rattle.ystore.specs.Store.{play_at}
 use Rattle.ystore.specs.Views.{store_of}
-use Rattle.ystore.specs.declared.row.Row.{Row}
-use Rattle.ystore.specs.declared.row.Row.TheVariants.{Top}
+use Rattle.ystore_rows.specs.declared.row.Row.{Row}
+use Rattle.ystore_rows.specs.declared.row.Row.TheVariants.{Top}
 use Rattle.ystore_tree.specs.Hanging.{tree_of, Stands}
 use Rattle.ystore_tree.specs.Ways.{around, end_of}
 use Rattle.ystore_tree.proofs.HangingLemmas.{at_end}

@@ -4,8 +4,8 @@ use Rattle.ystore.specs.Store.{play_at}
 use Rattle.ystore.specs.Views.{store_of}
 use Rattle.ystore_tree.specs.Hanging.{tree_of}
 use Rattle.ystore_tree.specs.Ways.{around, end_of}
-use Rattle.ystore.specs.declared.row.Row.{Row}
-use Rattle.ystore.specs.declared.row.Row.TheVariants.{Top}
+use Rattle.ystore_rows.specs.declared.row.Row.{Row}
+use Rattle.ystore_rows.specs.declared.row.Row.TheVariants.{Top}
 use Rattle.ylive_facts.specs.InPlay.{absence_views}
 use Rattle.ylive_marks.proofs.AgreeLemmas.{entries_keys, keys_on}
 use Rattle.ylive_retell.specs.Plans.{row_schema}

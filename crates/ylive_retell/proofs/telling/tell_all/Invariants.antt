@@ -2,7 +2,7 @@ use Rattle.std.proofs.Common.{◌≡◌, ◌+◌, ◌*◌, ◌≤◌, length}
 use Rattle.yspec.specs.Forest.{levels}
 use Rattle.ystore.specs.Store.{reads}
 use Rattle.ystore.specs.Views.{store_of, lent}
-use Rattle.ystore.specs.declared.row.Row as rows
+use Rattle.ystore_rows.specs.declared.row.Row as rows
 use Rattle.ystore_tree.specs.Hanging.{Branches}
 use Rattle.ylive_marks.specs.Totals.{IsTree, OnlyFaults, Totals, told_at}
 use Rattle.ylive_retell.specs.Telling.{AreNew, told_by}

@@ -2,7 +2,7 @@ use Rattle.std.proofs.Common.{◌≡◌, ◌+◌, ◌-◌, ◌*◌, length, map,
 use Rattle.yinst_tree.specs.View.{view}
 use Rattle.ystore.specs.Store.{children_at}
 use Rattle.ystore.specs.Viewed.{viewed}
-use Rattle.ystore.specs.declared.row.Row.TheVariants.{Below}
+use Rattle.ystore_rows.specs.declared.row.Row.TheVariants.{Below}
 use Rattle.ystore_tree.specs.Copies.{stored_at, listed_below}
 use Rattle.ystore_tree.proofs.copying.+copies.Given as goal
 

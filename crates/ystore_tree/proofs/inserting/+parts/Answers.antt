@@ -4,8 +4,8 @@ use Rattle.yspec.specs.document.Document.{Stored, Tree}
 use Rattle.yschema_model.specs.View as schema_view
 use Rattle.ytype.specs.View.{raw_of}
 use Rattle.yinst_tree.specs.View.{row_view, view}
-use Rattle.ystore.specs.Rows.{added}
-use Rattle.ystore.specs.declared.row.Row.TheVariants.{Below}
+use Rattle.ystore_rows.specs.Rows.{added}
+use Rattle.ystore_rows.specs.declared.row.Row.TheVariants.{Below}
 use Rattle.ystore.specs.Held.{Label, told_of}
 use Rattle.ystore.specs.Views.{store_of}
 use Rattle.ystore_tree.specs.Growing.{Inserts, has_room_for}

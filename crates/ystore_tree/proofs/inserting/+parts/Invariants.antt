@@ -3,7 +3,7 @@ use Rattle.yspec.specs.Forest.{join}
 use Rattle.yspec.specs.document.Document.{Tree}
 use Rattle.yinst_tree.specs.View.{view, row_view}
 use Rattle.ystore.specs.Views.{store_of, lent}
-use Rattle.ystore.specs.declared.row.Row.TheVariants.{Below}
+use Rattle.ystore_rows.specs.declared.row.Row.TheVariants.{Below}
 use Rattle.yschema_model.specs.View as schema_view
 use Rattle.ystore_tree.specs.Growing.{Inserts, Freshens, has_room_for}
 use Rattle.ystore_tree.proofs.inserting.+parts.Given as goal

@@ -2,9 +2,9 @@ use Rattle.std.proofs.Common.{arith, ap, sym, ◌≡◌, ◌∙◌, ◌+◌, dro
 use Rattle.yspec.specs.Forest.{end, node, join}
 use Rattle.yinst_tree.specs.View.{Labelled, view, tree_view, row_view}
 use Rattle.yschema_model.specs.View as schema_view
-use Rattle.ystore.specs.Rows as rows
+use Rattle.ystore_rows.specs.Rows as rows
 use Rattle.ystore.specs.Views.{store_of}
-use Rattle.ystore.specs.declared.row.Row.TheVariants.{Top}
+use Rattle.ystore_rows.specs.declared.row.Row.TheVariants.{Top}
 use Rattle.ystore_tree.specs.Hanging.{tree_of}
 use Rattle.ystore_tree.proofs.FreshLemmas.{fresh_children, fresh_room, fresh_on, fresh_stays}
 use Rattle.ystore_tree.proofs.OpenLemmas.{top_more, next_stored, all_stored, tree_more}

@@ -2,7 +2,7 @@ use Rattle.std.proofs.Common.{◌≡◌, drop}
 use Rattle.yspec.specs.Forest.{end, join}
 use Rattle.yinst_tree.specs.View.{tree_view, row_view}
 use Rattle.ystore.specs.Views.{store_of, lent}
-use Rattle.ystore.specs.declared.row.Row.TheVariants.{Top}
+use Rattle.ystore_rows.specs.declared.row.Row.TheVariants.{Top}
 use Rattle.yschema_model.specs.View as schema_view
 use Rattle.ystore_tree.specs.Hanging.{Branches, tree_of, Keeps}
 use Rattle.ystore_tree.specs.Copies.{laid_on}

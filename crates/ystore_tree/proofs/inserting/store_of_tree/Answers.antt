@@ -2,7 +2,7 @@ use Rattle.std.proofs.Common.{rules, ◌∙◌}
 use Rattle.yspec.specs.Forest.{end}
 use Rattle.yinst_tree.specs.View.{tree_view}
 use Rattle.ystore.specs.Views.{store_of}
-use Rattle.ystore.specs.declared.row.Row.TheVariants.{Top}
+use Rattle.ystore_rows.specs.declared.row.Row.TheVariants.{Top}
 use Rattle.ystore_tree.proofs.OpenLemmas.{holds_sorted, keeps_nothing, same_store}
 use Rattle.ystore_tree.proofs.inserting.store_of_tree.Goals as goal
 

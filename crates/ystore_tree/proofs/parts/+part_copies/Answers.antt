@@ -3,7 +3,7 @@ use Rattle.std.proofs.lemmas.Option.{same_Some, none-some}
 use Rattle.yspec.specs.Forest.{end, node}
 use Rattle.ystore.specs.Held.{Label}
 use Rattle.ystore.specs.Views.{store_of}
-use Rattle.ystore.specs.declared.row.Row.TheVariants.{Below}
+use Rattle.ystore_rows.specs.declared.row.Row.TheVariants.{Below}
 use Rattle.ystore.proofs.StoreLemmas.{on_ok}
 use Rattle.ystore_tree.proofs.PartLemmas.{one_read, reads_on, stands_read, child_found, child_copied, goes_on, ends, value_same, within_row, label_read, reads_nothing}
 use Rattle.ystore_tree.proofs.parts.+part_copies.Goals as goal

@@ -4,7 +4,7 @@ use Rattle.ytype.specs.View.{raw_of}
 use Rattle.ystore.specs.Store.{label_at}
 use Rattle.yspec.specs.Forest.{end, node, levels}
 use Rattle.ystore.specs.Views.{store_of, lent}
-use Rattle.ystore.specs.declared.row.Row.{Row}
+use Rattle.ystore_rows.specs.declared.row.Row.{Row}
 use Rattle.ystore_tree.specs.Hanging.{Numbered, Branches, Stands}
 use Rattle.ystore_tree.specs.Parts.{OnlyReads}
 use Rattle.ystore_tree.proofs.PartLemmas.{SoFar}

@@ -2,8 +2,8 @@ use Rattle.std.proofs.Common.{true, false, Bool, Some, None, Option, option_map,
 use Rattle.std.proofs.lemmas.Bool.{false≢true}
 use Rattle.std.proofs.lemmas.Option.{none-some}
 use Rattle.ystore.specs.Held.{Label, Shape}
-use Rattle.ystore.specs.declared.row.Row.{Row}
-use Rattle.ystore.specs.declared.row.Row.TheVariants.{Top, Below}
+use Rattle.ystore_rows.specs.declared.row.Row.{Row}
+use Rattle.ystore_rows.specs.declared.row.Row.TheVariants.{Top, Below}
 use Rattle.ystore_tree.proofs.worked.hanging_trees.Goals as goal
 
 abbrev is_top : Row → Bool

@@ -1,8 +1,0 @@
-use Rattle.std.proofs.Common.{◌-◌}
-use Rattle.ystore.specs.Children.{nodes_of}
-use Rattle.ystore.proofs.RowLemmas.{ascends_remove}
-use Rattle.ystore.proofs.children.Children.take_last.Goals as goal
-
-pub invariant_of-self : goal.invariant_of-self
-invariant_of-self c =
-    record { ascending = rw c.remove.ensures.row (ascends_remove (nodes_of c.args.self.now) (c.end_place-end.result - 1) c.args.self.now.ascending) }

@@ -1,0 +1,3 @@
+pub mod CallerLemmas
+pub mod NearLemmas
+pub mod RowLemmas
