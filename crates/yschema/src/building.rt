@@ -12,12 +12,13 @@ ghost use Rattle.yspec.specs.linking.NodeCounts.{node_count};
 ghost use Rattle.yspec.specs.linking.Compiling as spec;
 ghost use Rattle.yspec.specs.linking.Compiling.{compiled, linking_phases, IsCompiled};
 ghost use Rattle.yschema.specs.Added.{HoldsThose};
-ghost use Rattle.yschema.specs.Phases.{expansion_part, plan_part, rule_part};
+ghost use Rattle.yschema.specs.Phases.{expansion_part, plan_part, rule_part, target_breaks};
 ghost use Rattle.yspec.specs.linking.Source.{sources_of};
+ghost use Rattle.yspec_wide.specs.Language.{core};
 ghost use Rattle.ytext.specs.View.{modules_view};
 ghost use Rattle.ybase_preorder.specs.Layout.{places};
-ghost use Rattle.yschema_expand.specs.Knowing.{AreCounts};
-ghost use Rattle.yschema_expand.specs.NamedView.{modules_of};
+ghost use Rattle.yschema_expand.specs.Knowing.{AreCounts, Knows};
+ghost use Rattle.yschema_expand.specs.NamedView.{language_of, modules_of};
 ghost use Rattle.yschema_expand.specs.TableView.{parts_in};
 ghost use Rattle.yschema_plan.specs.PlanView as plans;
 ghost use Rattle.ylink.specs.LinkedView as statements;
@@ -39,7 +40,7 @@ use ylink_grammar::{
     BrokenRule, CompileCode, Language, Source, argument_of, argument_with, broken,
 };
 use yschema_augment::augmented;
-use yschema_expand::{Groupings, Named, NodeTable, augments_of};
+use yschema_expand::{Groupings, Made, Named, NodeTable, augments_of};
 use yschema_model::{Schema, SchemaModule};
 use yschema_plan::{Plan, broken_name_rule};
 use yschema_resolve::{Resolved, broken_node_rule};
@@ -81,11 +82,29 @@ fn compile_linked<'t>(
     if let Some(found) = broken_count_rule(modules, &named, &groupings, &augments) {
         return Err(CompileFault::from(found));
     }
-    let made = augmented(alloc, &named, &groupings, &augments)?;
+    let made = all_nodes(alloc, &named, &groupings, &augments)?;
     if let Some(found) = made.told {
         return Err(CompileFault::from(found));
     }
     compile_nodes(alloc, modules, linked, &made.table)
+}
+
+/// The nodes that the modules of the core define, with all that augments add, and the least of the refines that aren't fit and
+/// the augments that are left (C14).
+fn all_nodes<'a, 't>(
+    alloc: Global,
+    named: &'a Named<'a, 't>,
+    groupings: &'a Groupings,
+    augments: &[Node<'a, Source<'t>>],
+) -> Result<Made<'a, 't>, AllocError>
+    requires core { language_of named.now ≡ core }
+    requires known { Knows groupings.now (language_of named.now) (modules_of named.now) }
+    requires augments { augments_seen augments.now ≡ augments_of (modules_of named.now) }
+    ensures nodes { IfOk result (λ made. parts_in made.table
+        ≡ places None 0 (augmented (modules_of named.entry.now)).0) }
+    ensures told { IfOk result (λ made. seen made.told ≡ least_from None (target_breaks (modules_of named.entry.now))) }
+{
+    augmented(alloc, named, groupings, augments)
 }
 
 /// Compiles modules whose nodes are made, and are no more than they may be.

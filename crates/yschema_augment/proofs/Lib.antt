@@ -1,4 +1,3 @@
-pub mod CoreLemmas
 pub mod HangingLemmas
 pub mod PathLemmas
 pub mod SearchLemmas
@@ -17,3 +16,4 @@ pub mod ResolvingLemmas
 pub mod StartingLemmas
 pub mod PreparedLemmas
 pub mod AugmentingLemmas
+pub mod HoldingLemmas

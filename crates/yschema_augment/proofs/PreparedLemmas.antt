@@ -11,7 +11,8 @@ use Rattle.yspec.specs.linking.Source.{Source}
 use Rattle.yspec.specs.linking.Parts.{Part}
 use Rattle.yspec.specs.linking.Prefixes.{NodeName}
 use Rattle.yspec.specs.linking.Planned.{same_number}
-use Rattle.yspec.specs.linking.Expansion.{laid as laid_parts, replaced}
+use Rattle.yspec.specs.linking.Expansion.{laid as laid_parts}
+use Rattle.yspec_wide.specs.Language.{Language}
 use Rattle.yspec.specs.linking.Augments.{Augment, target_steps}
 use Rattle.yspec.proofs.LinkingProofs.ExpansionLemmas.{size_join}
 use Rattle.ybase_preorder.specs.Layout.{Place, places, laid, seen, numbered_by, forest_of}
@@ -26,7 +27,7 @@ use Rattle.yschema_expand.specs.NodeView.{numbered_part, part_view}
 use Rattle.yschema_augment.specs.Arranging.{own_rows, rows_of}
 use Rattle.yschema_expand.specs.NumberedView.{rows_between, with_number, Numbered}
 use Rattle.yschema_augment.specs.Asking.{AreNames}
-use Rattle.yschema_augment.specs.Bodies.{bodies_of, body_of, starts_from}
+use Rattle.yschema_expand.specs.Bodies.{bodies_of, body_of, starts_from}
 use Rattle.yschema_augment.specs.Hanging.{numbered, plain, times}
 use Rattle.yschema_augment.specs.Picking.{is_waiting, source_at, nothing}
 use Rattle.yschema_augment.specs.Resolving.{AreApart, Stands}
@@ -81,50 +82,50 @@ count_parts slots = length-seen numbered_part 0 (laid slots) ∙ length-laid slo
 
 -- ---- what augments add, where it lies
 
-module _ (m : Forest Source) where
-  nothing_added : body_of m no_augment ≡ end
-  unfolding laid_parts replaced
+module _ (language : Language) (m : Forest Source) where
+  nothing_added : body_of language m no_augment ≡ end
+  unfolding laid_parts
   nothing_added = refl
 
-  start_first : (n last : ℕ) (augments : List Augment) → last ≡ n + size (bodies_of m augments) → get_or (starts_from m n augments) 0 last ≡ n
+  start_first : (n last : ℕ) (augments : List Augment) → last ≡ n + size (bodies_of language m augments) → get_or (starts_from language m n augments) 0 last ≡ n
   start_first n last [] is = omega (arith, is)
   start_first n last (a ∷ augments) is = refl
 
-  starts_after : (n last : ℕ) (augments : List Augment) (j : ℕ) → last ≡ n + size (bodies_of m augments) → n ≤ get_or (starts_from m n augments) j last
+  starts_after : (n last : ℕ) (augments : List Augment) (j : ℕ) → last ≡ n + size (bodies_of language m augments) → n ≤ get_or (starts_from language m n augments) j last
   starts_after n last [] j is = omega (arith, is)
   starts_after n last (a ∷ augments) zero is = omega arith
   starts_after n last (a ∷ augments) (suc j) is =
-      let later = starts_after (n + size (body_of m a)) last augments j (omega (arith, is, size_join (body_of m a) (bodies_of m augments))) in omega (arith, later)
+      let later = starts_after (n + size (body_of language m a)) last augments j (omega (arith, is, size_join (body_of language m a) (bodies_of language m augments))) in omega (arith, later)
 
-  ends_before : (n last : ℕ) (augments : List Augment) (i j : ℕ) → last ≡ n + size (bodies_of m augments) → i < j
-      → get_or (starts_from m n augments) i last + size (body_of m (augment_at augments i)) ≤ get_or (starts_from m n augments) j last
+  ends_before : (n last : ℕ) (augments : List Augment) (i j : ℕ) → last ≡ n + size (bodies_of language m augments) → i < j
+      → get_or (starts_from language m n augments) i last + size (body_of language m (augment_at augments i)) ≤ get_or (starts_from language m n augments) j last
   ends_before n last [] i j is less = omega (arith, ap size nothing_added)
   ends_before n last (a ∷ augments) i zero is less = absurd (omega (arith, less))
   ends_before n last (a ∷ augments) zero (suc j) is less =
-      starts_after (n + size (body_of m a)) last augments j (omega (arith, is, size_join (body_of m a) (bodies_of m augments)))
+      starts_after (n + size (body_of language m a)) last augments j (omega (arith, is, size_join (body_of language m a) (bodies_of language m augments)))
   ends_before n last (a ∷ augments) (suc i) (suc j) is less =
-      ends_before (n + size (body_of m a)) last augments i j (omega (arith, is, size_join (body_of m a) (bodies_of m augments))) (omega (arith, less))
+      ends_before (n + size (body_of language m a)) last augments i j (omega (arith, is, size_join (body_of language m a) (bodies_of language m augments))) (omega (arith, less))
 
   body_lies : (n : ℕ) (augments : List Augment) (slots : Rows) (before : List (Place Part)) → length before ≡ n
-      → length slots ≡ n + size (bodies_of m augments) → parts slots ≡ before ++ places None n (bodies_of m augments) → (j : ℕ)
-      → rows_between (get_or (starts_from m n augments) j (length slots)) (get_or (starts_from m n augments) (j + 1) (length slots)) slots
-      ≡ numbered (get_or (starts_from m n augments) j (length slots)) (body_of m (augment_at augments j))
+      → length slots ≡ n + size (bodies_of language m augments) → parts slots ≡ before ++ places None n (bodies_of language m augments) → (j : ℕ)
+      → rows_between (get_or (starts_from language m n augments) j (length slots)) (get_or (starts_from language m n augments) (j + 1) (length slots)) slots
+      ≡ numbered (get_or (starts_from language m n augments) j (length slots)) (body_of language m (augment_at augments j))
   body_lies n [] slots before count last is j =
       let all = sym (append-nil (parts slots)) in
       rows_lie (length slots) (length slots) slots (parts slots) [] None end (count_parts slots) (omega arith) all
       ∙ ap (numbered (length slots)) (sym nothing_added)
   body_lies n (a ∷ augments) slots before count last is zero =
-      let body = body_of m a in
-      let later = bodies_of m augments in
+      let body = body_of language m a in
+      let later = bodies_of language m augments in
       let there : length slots ≡ n + size body + size later = omega (arith, last, size_join body later) in
-      rows_lie n (get_or (starts_from m (n + size body) augments) 0 (length slots)) slots before (places None (n + size body) later) None body count
+      rows_lie n (get_or (starts_from language m (n + size body) augments) 0 (length slots)) slots before (places None (n + size body) later) None body count
       (sym (start_first (n + size body) (length slots) augments there))
       (is ∙ ap (λ ps. before ++ ps) (places-join None n body later))
   body_lies n (a ∷ augments) slots before count last is (suc j) =
-      let body = body_of m a in
-      let later = bodies_of m augments in
+      let body = body_of language m a in
+      let later = bodies_of language m augments in
       let next : suc j + 1 ≡ suc (j + 1) = omega arith in
-      let starts = n ∷ starts_from m (n + size body) augments in
+      let starts = n ∷ starts_from language m (n + size body) augments in
       ap (λ i. rows_between (get_or starts (suc j) (length slots)) (get_or starts i (length slots)) slots) next
       ∙ body_lies (n + size body) augments slots (before ++ places None n body)
       (length-append before (places None n body) ∙ omega (arith, count, length-places None n body))
@@ -237,12 +238,12 @@ agrees_both : (look : Lookup) (source : ℕ → Source) (k : ℕ) (f g : Forest 
 agrees_both look source k f g both =
     agrees_parts look source (numbered k f) (numbered (k + size f) g) (subst (Agrees look source) (numbered_join k f g) both)
 
-agrees_each : (m : Forest Source) (look : Lookup) (source : ℕ → Source) (n last : ℕ) (augments : List Augment) → Agrees look source (numbered n (bodies_of m augments)) → (j : ℕ)
-    → Agrees look source (numbered (get_or (starts_from m n augments) j last) (body_of m (augment_at augments j)))
-agrees_each m look source n last [] all j = subst (λ f. Agrees look source (numbered last f)) (sym (nothing_added m)) tt
-agrees_each m look source n last (a ∷ augments) all zero = (agrees_both look source n (body_of m a) (bodies_of m augments) all).0
-agrees_each m look source n last (a ∷ augments) all (suc j) =
-    agrees_each m look source (n + size (body_of m a)) last augments (agrees_both look source n (body_of m a) (bodies_of m augments) all).1 j
+agrees_each : (language : Language) (m : Forest Source) (look : Lookup) (source : ℕ → Source) (n last : ℕ) (augments : List Augment) → Agrees look source (numbered n (bodies_of language m augments)) → (j : ℕ)
+    → Agrees look source (numbered (get_or (starts_from language m n augments) j last) (body_of language m (augment_at augments j)))
+agrees_each language m look source n last [] all j = subst (λ f. Agrees look source (numbered last f)) (sym (nothing_added language m)) tt
+agrees_each language m look source n last (a ∷ augments) all zero = (agrees_both look source n (body_of language m a) (bodies_of language m augments) all).0
+agrees_each language m look source n last (a ∷ augments) all (suc j) =
+    agrees_each language m look source (n + size (body_of language m a)) last augments (agrees_both look source n (body_of language m a) (bodies_of language m augments) all).1 j
 
 -- ---- paths
 
@@ -260,43 +261,43 @@ steps_at texts (p ∷ paths) steps (a ∷ augments) is (suc j) less =
 
 -- ---- all of it
 
-module _ (m : Forest Source) (augments : List Augment) (slots : Rows) (starts : List ℕ) (e : Forest Part)
-    (lie : parts slots ≡ places None 0 (join e (bodies_of m augments))) (begin : starts ≡ starts_from m (size e) augments) where
-  last : length slots ≡ size e + size (bodies_of m augments)
-  last = sym (count_parts slots) ∙ (ap length lie ∙ (length-places None 0 (join e (bodies_of m augments)) ∙ size_join e (bodies_of m augments)))
+module _ (language : Language) (m : Forest Source) (augments : List Augment) (slots : Rows) (starts : List ℕ) (e : Forest Part)
+    (lie : parts slots ≡ places None 0 (join e (bodies_of language m augments))) (begin : starts ≡ starts_from language m (size e) augments) where
+  last : length slots ≡ size e + size (bodies_of language m augments)
+  last = sym (count_parts slots) ∙ (ap length lie ∙ (length-places None 0 (join e (bodies_of language m augments)) ∙ size_join e (bodies_of language m augments)))
 
-  apart_parts : parts slots ≡ places None 0 e ++ places None (size e) (bodies_of m augments)
+  apart_parts : parts slots ≡ places None 0 e ++ places None (size e) (bodies_of language m augments)
   apart_parts =
       let plain_size : 0 + size e ≡ size e = omega arith in
-      lie ∙ (places-join None 0 e (bodies_of m augments) ∙ ap (λ n. places None 0 e ++ places None n (bodies_of m augments)) plain_size)
+      lie ∙ (places-join None 0 e (bodies_of language m augments) ∙ ap (λ n. places None 0 e ++ places None n (bodies_of language m augments)) plain_size)
 
   first_is : get_or starts 0 (length slots) ≡ size e
-  first_is = ap (λ xs. get_or xs 0 (length slots)) begin ∙ start_first m (size e) (length slots) augments last
+  first_is = ap (λ xs. get_or xs 0 (length slots)) begin ∙ start_first language m (size e) (length slots) augments last
 
   pub own_is : own_rows starts slots ≡ numbered 0 e
   own_is = ap (λ n. rows_between 0 n slots) first_is
-      ∙ rows_lie 0 (size e) slots [] (places None (size e) (bodies_of m augments)) None e refl (omega arith) apart_parts
+      ∙ rows_lie 0 (size e) slots [] (places None (size e) (bodies_of language m augments)) None e refl (omega arith) apart_parts
 
   abbrev start : ℕ → ℕ
   start j = get_or starts j (length slots)
 
   abbrev body : ℕ → Forest Part
-  body j = body_of m (augment_at augments j)
+  body j = body_of language m (augment_at augments j)
 
   rows_are : (j : ℕ) → rows_of starts slots j ≡ numbered (start j) (body j)
   rows_are j = subst (λ xs. rows_of xs slots j ≡ numbered (get_or xs j (length slots)) (body j)) (sym begin)
-      (body_lies m (size e) augments slots (places None 0 e) (length-places None 0 e) last apart_parts j)
+      (body_lies language m (size e) augments slots (places None 0 e) (length-places None 0 e) last apart_parts j)
 
   ordered : (i j : ℕ) → i < j → start i + size (body i) ≤ start j
   ordered i j less = subst (λ xs. get_or xs i (length slots) + size (body i) ≤ get_or xs j (length slots)) (sym begin)
-      (ends_before m (size e) (length slots) augments i j last less)
+      (ends_before language m (size e) (length slots) augments i j last less)
 
   behind_own : (j : ℕ) → size e ≤ start j
-  behind_own j = subst (λ xs. size e ≤ get_or xs j (length slots)) (sym begin) (starts_after m (size e) (length slots) augments j last)
+  behind_own j = subst (λ xs. size e ≤ get_or xs j (length slots)) (sym begin) (starts_after language m (size e) (length slots) augments j last)
 
   module _ (paths : Paths) (s : Search) (look : (above : Option ℕ) (name : NodeName) → look_in s above name ≡ first_child (get_or starts 0 (length slots)) above name 0 (parts slots)) where
     all : Forest Part
-    all = join e (bodies_of m augments)
+    all = join e (bodies_of language m augments)
 
     found : (above : Option ℕ) (name : NodeName) → look_in s above name ≡ first_child (size e) above name 0 (parts slots)
     found above name = look above name ∙ ap (λ n. first_child n above name 0 (parts slots)) first_is
@@ -309,25 +310,25 @@ module _ (m : Forest Source) (augments : List Augment) (slots : Rows) (starts : 
         let plain_i : 0 + i ≡ i = omega arith in
         ap (source_at slots) plain_i ∙ source_seen 0 slots i p (ap (λ ps. slice_get ps i) lie ∙ at)))
 
-    both_agree : Agrees (look_in s) (source_at slots) (numbered 0 e) × Agrees (look_in s) (source_at slots) (numbered (size e) (bodies_of m augments))
+    both_agree : Agrees (look_in s) (source_at slots) (numbered 0 e) × Agrees (look_in s) (source_at slots) (numbered (size e) (bodies_of language m augments))
     unfolding all
     both_agree =
         let plain_size : 0 + size e ≡ size e = omega arith in
-        let both = agrees_both (look_in s) (source_at slots) 0 e (bodies_of m augments) all_agree in
-        (both.0, subst (λ n. Agrees (look_in s) (source_at slots) (numbered n (bodies_of m augments))) plain_size both.1)
+        let both = agrees_both (look_in s) (source_at slots) 0 e (bodies_of language m augments) all_agree in
+        (both.0, subst (λ n. Agrees (look_in s) (source_at slots) (numbered n (bodies_of language m augments))) plain_size both.1)
 
     top_agrees : (name : NodeName) → look_in s None name ≡ first_in name (numbered 0 e)
     top_agrees name = found None name ∙ (ap (first_child (size e) None name 0) apart_parts
-        ∙ (first_append (size e) None name 0 (places None 0 e) (places None (size e) (bodies_of m augments))
+        ∙ (first_append (size e) None name 0 (places None 0 e) (places None (size e) (bodies_of language m augments))
         ∙ (ap₂ first_of (at_top (size e) name 0 e (omega arith))
-        (ap (λ n. first_child (size e) None name n (places None (size e) (bodies_of m augments))) (omega (arith, length-places None 0 e))
-        ∙ none_at_top (size e) name (size e) (bodies_of m augments) (omega arith))
+        (ap (λ n. first_child (size e) None name n (places None (size e) (bodies_of language m augments))) (omega (arith, length-places None 0 e))
+        ∙ none_at_top (size e) name (size e) (bodies_of language m augments) (omega arith))
         ∙ of_none _)))
 
     each_agrees : (j : ℕ) → Agrees (look_in s) (source_at slots) (rows_of starts slots j)
     each_agrees j = subst (Agrees (look_in s) (source_at slots)) (sym (rows_are j))
         (subst (λ xs. Agrees (look_in s) (source_at slots) (numbered (get_or xs j (length slots)) (body j))) (sym begin)
-        (agrees_each m (look_in s) (source_at slots) (size e) (length slots) augments both_agree.1 j))
+        (agrees_each language m (look_in s) (source_at slots) (size e) (length slots) augments both_agree.1 j))
 
     stands : Stands (source_at slots) (rows_of starts slots) (λ j. is_waiting (replicate (length augments) true) j) (look_in s) (own_rows starts slots)
     stands = record {
@@ -339,7 +340,7 @@ module _ (m : Forest Source) (augments : List Augment) (slots : Rows) (starts : 
 
     pub prepared : AreNames (texts_of s.index) slots → map (λ p. names_by (texts_of s.index) p.items) paths ≡ map (target_steps m) augments
         → ((j n : ℕ) (step : Step) → slice_get (path_at paths j) n ≡ Some step → step.text < length (texts_of s.index))
-        → ((key : _) → waiters_at s.waiting key ≡ []) → Prepared m augments slots starts paths s
+        → ((key : _) → waiters_at s.waiting key ≡ []) → Prepared language m augments slots starts paths s
     prepared names steps within none = record {
       steps = steps_at (texts_of s.index) paths (target_steps m) augments steps;
       ranged = within;

@@ -9,45 +9,47 @@ use Rattle.yspec.specs.linking.Keyword as word
 use Rattle.yspec.specs.linking.Source.{Source, is_source_of, first_with}
 use Rattle.yspec.specs.linking.Prefixes.{NodeName}
 use Rattle.yspec.specs.linking.Parts.{Part, as_cases, within}
-use Rattle.yspec.specs.linking.Expansion.{laid, groupings_of, stands_for}
-use Rattle.yspec.specs.linking.Augments.{Augment, target_steps, added_nodes, may_take, is_ready, marked, added_below, applied, first_that, done_first, in_turn}
+use Rattle.yspec.specs.linking.Expansion.{laid}
+use Rattle.yspec.specs.linking.Augments.{Augment, target_steps, marked, first_that, done_first, in_turn}
+use Rattle.yspec_wide.specs.Language.{Language}
+use Rattle.yspec_wide.specs.Expansion.{added_nodes_in, may_take_in, is_ready_in, added_below_in, applied_in}
 use Rattle.yschema_augment.specs.Hanging.{put, times, plain, inner, marked_by, label_at}
 use Rattle.yschema_expand.specs.NumberedView.{Numbered}
 use Rattle.yschema_augment.specs.Searching.{Lookup, target_in, Agrees, AgreesAll, looked_behind}
 use Rattle.yschema_augment.specs.Arranging.{taken_for}
-use Rattle.yschema_augment.specs.Bodies.{body_of}
-use Rattle.yschema_augment.specs.Resolving.{may_hold, is_found, hung_by, row_for, Stands, AreApart}
+use Rattle.yschema_expand.specs.Bodies.{body_of}
+use Rattle.yschema_augment.specs.Resolving.{is_old, may_hold, is_found, hung_by, row_for, Stands, AreApart}
 use Rattle.yschema_augment.proofs.HangingLemmas.{Nodes}
 use Rattle.yschema_augment.proofs.PathLemmas.{part_plain, changed_plain}
 use Rattle.yschema_augment.proofs.SearchLemmas.{target_found, label_known, agrees_other}
 use Rattle.yschema_augment.proofs.PutLemmas.{agrees_all_put, times_put, times_marked, times_inner, agrees_marked, agrees_inner}
-use Rattle.yschema_augment.proofs.TakenLemmas.{laid_lacks, cases_replaced, inner_replaced, plain_marked, plain_inner}
+use Rattle.yschema_augment.proofs.TakenLemmas.{laid_lacks, cases_asked, inner_asked, plain_marked, plain_inner}
 
 abbrev Parts : Type 0
 Parts = Nodes Part
 
 -- ---- the target
 
-pub ready_found : (look : Lookup) (source : ℕ → Source) (modules : Forest Source) (a : Augment) (f : Parts) → AgreesAll look source f
-    → is_ready modules (plain f) a ≡ is_found look source modules a
-ready_found look source modules a f agrees =
-    ap (λ o. option_map_or (λ p. may_take p a.given) o false) (part_plain steps f)
+pub ready_found : (look : Lookup) (source : ℕ → Source) (language : Language) (modules : Forest Source) (a : Augment) (f : Parts) → AgreesAll look source f
+    → is_ready_in language modules (plain f) a ≡ is_found look source language modules a
+ready_found look source language modules a f agrees =
+    ap (λ o. option_map_or (may_take_in language modules a) o false) (part_plain steps f)
     ∙ by (label_at steps f) refl (target_found look source steps f agrees)
   where
     steps : List NodeName
     steps = target_steps modules a
 
     by : (o : Option (Numbered Part)) → label_at steps f ≡ o → option_map (λ l. l.number) o ≡ target_in look steps
-        → option_map_or (λ p. may_take p a.given) (option_map (λ l. l.label) o) false ≡ is_found look source modules a
-    by None e is = ap (λ t. option_map_or (λ n. may_hold (source n) a.given) t false) is
-    by (Some l) e is = ap (λ s. may_hold s a.given) (label_known look source steps f l agrees.1 e)
-        ∙ ap (λ t. option_map_or (λ n. may_hold (source n) a.given) t false) is
+        → option_map_or (may_take_in language modules a) (option_map (λ l. l.label) o) false ≡ is_found look source language modules a
+    by None e is = ap (λ t. option_map_or (λ n. may_hold (is_old language modules a.source.home) (source n) a.given) t false) is
+    by (Some l) e is = ap (λ s. may_hold (is_old language modules a.source.home) s a.given) (label_known look source steps f l agrees.1 e)
+        ∙ ap (λ t. option_map_or (λ n. may_hold (is_old language modules a.source.home) (source n) a.given) t false) is
 
 -- the node at the target's number
-pub label_of_target : (look : Lookup) (source : ℕ → Source) (modules : Forest Source) (a : Augment) (target : ℕ) (f : Parts) → AgreesAll look source f
+pub label_of_target : (look : Lookup) (source : ℕ → Source) (language : Language) (modules : Forest Source) (a : Augment) (target : ℕ) (f : Parts) → AgreesAll look source f
     → target_in look (target_steps modules a) ≡ Some target
     → (l : Numbered Part) × (label_at (target_steps modules a) f ≡ Some l) × (l.number ≡ target) × (l.label.source ≡ source target)
-label_of_target look source modules a target f agrees found = by (label_at steps f) refl (target_found look source steps f agrees ∙ found)
+label_of_target look source language modules a target f agrees found = by (label_at steps f) refl (target_found look source steps f agrees ∙ found)
   where
     steps : List NodeName
     steps = target_steps modules a
@@ -68,28 +70,27 @@ none_of k given e = by (first_with k given) e
     by None e = refl
     by (Some s) e = absurd cc
 
-taken_is : (modules : Forest Source) (a : Augment) (s : Source) (rows : Parts) → plain rows ≡ body_of modules a → may_hold s a.given ≡ true
-    → marked a.source.number (within s (added_nodes modules a)) ≡ plain (row_for a rows s)
-taken_is modules a s rows is holds =
-    by (is_source_of word.choice_word s) (and_parts _ _ holds).1 ∙ sym (plain_marked a.source.number (taken_for s rows))
+taken_is : (language : Language) (modules : Forest Source) (a : Augment) (s : Source) (rows : Parts) → plain rows ≡ body_of language modules a → may_hold (is_old language modules a.source.home) s a.given ≡ true
+    → marked a.source.number (within s (added_nodes_in language modules a)) ≡ plain (row_for a rows s)
+taken_is language modules a s rows is holds =
+    by (is_source_of word.choice_word s) (and_parts _ _ (and_parts _ _ holds).1).0 ∙ sym (plain_marked a.source.number (taken_for s rows))
   where
-    meant : Part → Forest Part
-    meant = stands_for modules (groupings_of modules) a.source.home (suc (size modules))
-
     by : (b : Bool) → not (is_some (first_with (cond b word.uses_word word.case_word) a.given)) ≡ true
-        → marked a.source.number (cond b (as_cases (added_nodes modules a)) (added_nodes modules a)) ≡ marked a.source.number (plain (cond b rows (inner rows)))
-    by true none = ap (marked a.source.number) (cases_replaced meant a.source.home (laid a.given) (laid_lacks word.uses_word a.given (none_of word.uses_word a.given none)) ∙ sym is)
-    by false none = ap (marked a.source.number) (sym (inner_replaced meant a.source.home (laid a.given) (laid_lacks word.case_word a.given (none_of word.case_word a.given none)))
+        → marked a.source.number (cond b (as_cases (added_nodes_in language modules a)) (added_nodes_in language modules a)) ≡ marked a.source.number (plain (cond b rows (inner rows)))
+    by true none = ap (marked a.source.number) (cases_asked language modules a.source.home (suc (size modules)) a.given (laid a.given)
+        (laid_lacks word.uses_word a.given (none_of word.uses_word a.given none)) ∙ sym is)
+    by false none = ap (marked a.source.number) (sym (inner_asked language modules a.source.home (suc (size modules)) a.given (laid a.given)
+        (laid_lacks word.case_word a.given (none_of word.case_word a.given none)))
         ∙ (ap inner (sym is) ∙ sym (plain_inner rows)))
 
-pub applied_there : (look : Lookup) (source : ℕ → Source) (modules : Forest Source) (a : Augment) (rows : Parts) (target : ℕ) (f : Parts) → AgreesAll look source f
-    → times target f ≤ 1 → plain rows ≡ body_of modules a → target_in look (target_steps modules a) ≡ Some target → may_hold (source target) a.given ≡ true
-    → applied modules a (plain f) ≡ plain (put (hung_by a rows target) f)
-applied_there look source modules a rows target f agrees few is found holds =
-    let there = label_of_target look source modules a target f agrees found in
+pub applied_there : (look : Lookup) (source : ℕ → Source) (language : Language) (modules : Forest Source) (a : Augment) (rows : Parts) (target : ℕ) (f : Parts) → AgreesAll look source f
+    → times target f ≤ 1 → plain rows ≡ body_of language modules a → target_in look (target_steps modules a) ≡ Some target → may_hold (is_old language modules a.source.home) (source target) a.given ≡ true
+    → applied_in language modules a (plain f) ≡ plain (put (hung_by a rows target) f)
+applied_there look source language modules a rows target f agrees few is found holds =
+    let there = label_of_target look source language modules a target f agrees found in
     let l = there.0 in
-    changed_plain (target_steps modules a) (hung_by a rows target) (added_below a.source.number (added_nodes modules a)) l
-    (λ below after. ap (λ g. node l.label (join below g) after) (taken_is modules a l.label.source rows is (ap (λ s. may_hold s a.given) there.3 ∙ holds)))
+    changed_plain (target_steps modules a) (hung_by a rows target) (added_below_in language a (added_nodes_in language modules a)) l
+    (λ below after. ap (λ g. node l.label (join below g) after) (taken_is language modules a l.label.source rows is (ap (λ s. may_hold (is_old language modules a.source.home) s a.given) there.3 ∙ holds)))
     f there.1 there.2 few
 
 -- ---- once it is hung there

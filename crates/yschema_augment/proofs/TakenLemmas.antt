@@ -7,9 +7,14 @@ use Rattle.yspec.specs.linking.Keyword.{Keyword}
 use Rattle.yspec.specs.linking.Keyword as word
 use Rattle.yspec.specs.linking.Source.{Source, is_source_of, first_with}
 use Rattle.yspec.specs.linking.Parts.{Part, defines_node, part_of, case_for, as_cases, within}
-use Rattle.yspec.specs.linking.Expansion.{is_uses, laid, owned_by, replaced}
+use Rattle.yspec.specs.linking.Expansion.{groupings_of, is_uses, laid, owned_by, replaced}
+use Rattle.yspec_wide.specs.Language.{Language}
+use Rattle.yspec_wide.specs.Sources.{condition_row}
+use Rattle.yspec_wide.specs.Expansion.{conditioned, stands_for_in}
 use Rattle.yspec.specs.linking.Augments.{marked}
 use Rattle.yspec.proofs.ForestLemmas.{join_end}
+use Rattle.yschema_expand.specs.Bodies.{body_nodes}
+use Rattle.yschema_expand.specs.Walk.{nodes_for}
 use Rattle.yschema_augment.specs.Hanging.{plain, inner, marked_by}
 use Rattle.yschema_augment.proofs.HangingLemmas.{Nodes}
 use Rattle.yschema_augment.proofs.PathLemmas.{plain_join}
@@ -48,34 +53,57 @@ module _ (meant : Part → Forest Part) (owner : ℕ) where
       by true = ap (λ f. join f (replaced meant owner after)) (sym (join_end (meant p)))
       by false = refl
 
-  -- where nothing is used right there, cases may come before or after
-  pub cases_replaced : (f : Forest Part) → Lacks word.uses_word f → as_cases (replaced meant owner f) ≡ replaced meant owner (as_cases f)
+module _ (language : Language) (modules : Forest Source) (owner depth : ℕ) (given : Forest Source) where
+  abbrev meant : Part → Forest Part
+  meant = stands_for_in language modules (groupings_of modules) owner depth
+
+  abbrev nodes : Forest Part → Forest Part
+  nodes = nodes_for language modules owner depth
+
+  abbrev asked : Forest Part → Forest Part
+  asked f = conditioned language given (nodes f)
+
+  abbrev body : Forest Part → Forest Part
+  body = body_nodes language modules owner depth given
+
+  conditioned_join : (f g : Forest Part) → conditioned language given (join f g) ≡ join (conditioned language given f) (conditioned language given g)
+  conditioned_join end g = refl
+  conditioned_join (node p below after) g =
+      ap (node (record p { own = join p.own (condition_row language given) }) below) (conditioned_join after g)
+
+  -- a node alone
+  asked_one : (p : Part) (below : Forest Part) → is_uses p ≡ false
+      → asked (node p below end) ≡ node (record (owned_by owner p) { own = join p.own (condition_row language given) }) (nodes below) end
   unfolding replaced
-  cases_replaced end none = refl
-  cases_replaced (node p below after) none =
-      ap as_cases (ap (λ b. cond b (join (meant p) (replaced meant owner after)) (node (owned_by owner p) (replaced meant owner below) (replaced meant owner after))) none.0)
-      ∙ by (is_source_of word.case_word p.source) (cases_replaced after none.1)
+  asked_one p below unused =
+      ap (λ b. conditioned language given (cond b (join (meant p) end) (node (owned_by owner p) (nodes below) end))) unused
+
+  -- where nothing is used right there, cases may come behind the conditions or before them
+  pub cases_asked : (f : Forest Part) → Lacks word.uses_word f → as_cases (asked f) ≡ body f
+  unfolding replaced
+  cases_asked end none = refl
+  cases_asked (node p below after) none =
+      ap (λ b. as_cases (conditioned language given (cond b (join (meant p) (nodes after)) (node (owned_by owner p) (nodes below) (nodes after))))) none.0
+      ∙ by (is_source_of word.case_word p.source) (cases_asked after none.1)
     where
-      own : Forest Part → Forest Part
-      own rest = cond (is_uses p) (join (meant p) rest) (node (owned_by owner p) (replaced meant owner below) rest)
+      own : Part
+      own = record (owned_by owner p) { own = join p.own (condition_row language given) }
 
-      one : (rest : Forest Part) → node (owned_by owner p) (replaced meant owner below) rest ≡ own rest
-      one rest = sym (ap (λ b. cond b (join (meant p) rest) (node (owned_by owner p) (replaced meant owner below) rest)) none.0)
+      by : (b : Bool) → as_cases (asked after) ≡ body after
+          → cond b (node own (nodes below) (as_cases (asked after))) (node (case_for own) (node own (nodes below) end) (as_cases (asked after)))
+          ≡ join (cond b (asked (node p below end)) (node (owned_by owner (case_for p)) (asked (node p below end)) end)) (body after)
+      by true later = ap (node own (nodes below)) later ∙ ap (λ f. join f (body after)) (sym (asked_one p below none.0))
+      by false later = ap₂ (λ f g. node (owned_by owner (case_for p)) f g) (sym (asked_one p below none.0)) later
 
-      by : (b : Bool) → as_cases (replaced meant owner after) ≡ replaced meant owner (as_cases after)
-          → cond b (node (owned_by owner p) (replaced meant owner below) (as_cases (replaced meant owner after)))
-          (node (case_for (owned_by owner p)) (node (owned_by owner p) (replaced meant owner below) end) (as_cases (replaced meant owner after)))
-          ≡ replaced meant owner (cond b (node p below (as_cases after)) (node (case_for p) (node p below end) (as_cases after)))
-      by true later = ap (node (owned_by owner p) (replaced meant owner below)) later ∙ one (replaced meant owner (as_cases after))
-      by false later = ap₂ (node (case_for (owned_by owner p))) (one end) later
-
-  -- without the cases it is what was laid out
-  pub inner_replaced : (f : Forest Part) → Lacks word.case_word f → inner (replaced meant owner (as_cases f)) ≡ replaced meant owner f
+  -- without the cases it is what is laid out, asked the conditions
+  pub inner_asked : (f : Forest Part) → Lacks word.case_word f → inner (body f) ≡ asked f
   unfolding replaced
-  inner_replaced end none = refl
-  inner_replaced (node p below after) none =
-      ap (λ b. inner (replaced meant owner (cond b (node p below (as_cases after)) (node (case_for p) (node p below end) (as_cases after))))) none.0
-      ∙ (ap (join (replaced meant owner (node p below end))) (inner_replaced after none.1) ∙ sym (first_alone p below after))
+  inner_asked end none = refl
+  inner_asked (node p below after) none =
+      ap (λ b. inner (join (cond b (asked (node p below end)) (node (owned_by owner (case_for p)) (asked (node p below end)) end)) (body after))) none.0
+      ∙ (ap (join (asked (node p below end))) (inner_asked after none.1)
+      ∙ (sym (conditioned_join (nodes (node p below end)) (nodes after))
+      ∙ ap (conditioned language given) (sym (first_alone meant owner p below after))))
 
 -- ---- with numbers
 

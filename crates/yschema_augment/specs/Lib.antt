@@ -1,4 +1,3 @@
-pub mod Bodies
 pub mod Augmenting
 pub mod Hanging
 pub mod Searching

@@ -2,24 +2,34 @@
 use Rattle.std.specs.Prelude.{◌≡◌, ◌≤◌, ◌&&◌, ℕ, Bool, true, false, not, is_some, if◌then◌else◌}
 use Rattle.std.specs.Option.{option_map_or}
 use Rattle.yspec.specs.Forest.{Forest}
+use Rattle.yspec.specs.linking.Keyword.{Keyword, same_keyword}
 use Rattle.yspec.specs.linking.Keyword as word
-use Rattle.yspec.specs.linking.Source.{Source, is_source_of, first_with}
+use Rattle.yspec.specs.linking.Source.{Source, first_with}
 use Rattle.yspec.specs.linking.Parts.{Part}
 use Rattle.yspec.specs.linking.Augments.{Augment, may_be_augmented, target_steps}
+use Rattle.yspec_wide.specs.Language.{Language, is_yang_1, version_of}
 use Rattle.yschema_augment.specs.Hanging.{Hung, times, marked_by}
 use Rattle.yschema_expand.specs.NumberedView.{Numbered}
 use Rattle.yschema_augment.specs.Searching.{Lookup, target_in, Agrees, AgreesAll}
 use Rattle.yschema_augment.specs.Arranging.{taken_for}
 
--- whether the node of a statement may take what an augment states
-abbrev pub may_hold : Source → Forest Source → Bool
-may_hold s given = may_be_augmented s.keyword
-    && not (is_some (first_with (if is_source_of word.choice_word s then word.uses_word else word.case_word) given))
+-- whether the module of a number is one of YANG 1
+abbrev pub is_old : Language → Forest Source → ℕ → Bool
+is_old language modules home = is_yang_1 (version_of language modules home)
+
+-- whether a node of a keyword may take what an augment states, given whether that stands in a module of YANG 1
+abbrev pub may_take : Bool → Keyword → Forest Source → Bool
+may_take old k given = may_be_augmented k
+    && (not (is_some (first_with (if same_keyword word.choice_word k then word.uses_word else word.case_word) given))
+    && not (old && (same_keyword word.choice_word k && is_some (first_with word.choice_word given))))
+
+abbrev pub may_hold : Bool → Source → Forest Source → Bool
+may_hold old s given = may_take old s.keyword given
 
 -- whether an augment finds a target that may take it
-abbrev pub is_found : Lookup → (ℕ → Source) → Forest Source → Augment → Bool
-is_found look source modules a =
-    option_map_or (λ n. may_hold (source n) a.given) (target_in look (target_steps modules a)) false
+abbrev pub is_found : Lookup → (ℕ → Source) → Language → Forest Source → Augment → Bool
+is_found look source language modules a =
+    option_map_or (λ n. may_hold (is_old language modules a.source.home) (source n) a.given) (target_in look (target_steps modules a)) false
 
 -- what it hangs below the node of a number, given its nodes as they lie
 abbrev pub hung_by : Augment → Forest (Numbered Part) → ℕ → Hung Part

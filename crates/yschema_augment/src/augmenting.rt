@@ -4,16 +4,15 @@
 ghost use Rattle.std.specs.Prelude.{◌≡◌, ◌++◌, ◌∷◌, [], IfOk, None, length, map};
 ghost use Rattle.std.specs.List.{flat_map};
 ghost use Rattle.yspec.specs.Forest.{join, size};
-ghost use Rattle.yspec.specs.linking.Augments as spec;
-ghost use Rattle.yspec.specs.linking.Expansion.{expanded_parts, unfit_breaks};
+ghost use Rattle.yspec.specs.linking.Augments.{augments_of, in_turn};
 ghost use Rattle.yspec.specs.schema.Breaks as breaks;
-ghost use Rattle.yspec_wide.specs.Language.{core};
+ghost use Rattle.yspec_wide.specs.Expansion as spec;
 ghost use Rattle.ybase_preorder.specs.Layout.{places};
 ghost use Rattle.ylink_grammar.specs.BreakView.{seen};
 ghost use Rattle.ybase_index.specs.Index.{texts_of};
 ghost use Rattle.yschema_augment.specs.Arranging.{own_rows};
 ghost use Rattle.yschema_expand.specs.AugmentView.{augments_seen};
-ghost use Rattle.yschema_augment.specs.Bodies.{bodies_of, starts_from};
+ghost use Rattle.yschema_expand.specs.Bodies.{bodies_of, starts_from};
 ghost use Rattle.yschema_augment.specs.Augmenting.{breaks_of};
 ghost use Rattle.yschema_augment.specs.Hanging.{plain};
 ghost use Rattle.yschema_expand.specs.Knowing.{Knows};
@@ -29,6 +28,7 @@ use crate::starting::index_of;
 use crate::targets::{Resolved, Targets};
 use std::alloc::{AllocError, Global};
 use ybase_preorder::Node;
+use ylink_features::Versions;
 use ylink_grammar::{BrokenRule, CompileCode, Source, broken, least};
 use yschema_expand::{Context, Groupings, Made, Named, NodeTable, add_bodies, expanded};
 
@@ -40,25 +40,27 @@ fn resolved<'a, 't>(
     nodes: &NodeTable<'a, 't>,
     starts: &[u32],
 ) -> Result<Resolved, AllocError>
-    requires laid { let m = modules_of named.now in parts_in nodes.now
-        ≡ places None 0 (join (expanded_parts m) (bodies_of m (augments_seen augments.now))) }
-    requires starts { let m = modules_of named.now in
-        starts.now ≡ starts_from m (size (expanded_parts m)) (augments_seen augments.now) }
-    ensures { IfOk result (λ r. let m = modules_of named.now in
+    requires laid { let l = language_of named.now in let m = modules_of named.now in parts_in nodes.now
+        ≡ places None 0 (join (spec.expanded_parts_in l m) (bodies_of l m (augments_seen augments.now))) }
+    requires starts { let l = language_of named.now in let m = modules_of named.now in
+        starts.now ≡ starts_from l m (size (spec.expanded_parts_in l m)) (augments_seen augments.now) }
+    ensures { IfOk result (λ r. let l = language_of named.now in let m = modules_of named.now in
         let augments = augments_seen augments.now in
         (plain (placed starts.now (slots_of nodes.now) augments r.order.items), left_of r.waits.items augments)
-        ≡ spec.in_turn (spec.is_ready m) (spec.applied m) (length augments) (expanded_parts m) augments) }
+        ≡ in_turn (spec.is_ready_in l m) (spec.applied_in l m) (length augments) (spec.expanded_parts_in l m) augments) }
 {
     let Asked { texts, paths } = asked_names(alloc, named, augments, nodes)?;
     let first = number_at(starts, 0, nodes.len());
     let index = index_of(alloc, texts, nodes, first)?;
     let mut search = Search::new(alloc, index)?;
+    let versions = Versions::of(alloc, named.language(), named.sources())?;
     let targets = Targets {
         nodes,
         augments,
         paths: paths.as_slice(),
         starts,
         named,
+        versions: &versions,
     };
     targets.resolve(alloc, &mut search)
 }
@@ -94,21 +96,20 @@ fn numbers_of(alloc: Global, augments: &[Node<'_, Source<'_>>]) -> Result<Vec<u3
 }
 
 /// The nodes that all modules define, each `uses` replaced and each augment applied that finds its target, always the first
-/// that does by then; and the least of the refines that aren't fit and the augments that are left (C14). Modules are those of
-/// the core.
+/// that does by then; and the least of the refines that aren't fit and the augments that are left (C14).
 pub fn augmented<'a, 't>(
     alloc: Global,
     named: &'a Named<'a, 't>,
     groupings: &'a Groupings,
     augments: &[Node<'a, Source<'t>>],
 ) -> Result<Made<'a, 't>, AllocError>
-    requires core { language_of named.now ≡ core }
     requires known { Knows groupings.now (language_of named.now) (modules_of named.now) }
-    requires augments { augments_seen augments.now ≡ spec.augments_of (modules_of named.now) }
+    requires augments { augments_seen augments.now ≡ augments_of (modules_of named.now) }
     ensures nodes { IfOk result (λ made. parts_in made.table
-        ≡ places None 0 (spec.augmented (modules_of named.entry.now)).0) }
-    ensures told { let m = modules_of named.entry.now in
-        IfOk result (λ made. seen made.told ≡ breaks.least_from None (unfit_breaks m ++ spec.augment_breaks m)) }
+        ≡ places None 0 (spec.augmented_in (language_of named.entry.now) (modules_of named.entry.now)).0) }
+    ensures told { let l = language_of named.entry.now in let m = modules_of named.entry.now in
+        IfOk result (λ made. seen made.told
+        ≡ breaks.least_from None (spec.unfit_breaks_in l m ++ spec.augment_breaks_in l m)) }
 {
     let mut made = expanded(alloc, named, groupings)?;
     if augments.is_empty() {

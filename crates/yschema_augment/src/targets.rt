@@ -1,15 +1,24 @@
 //! Which augments are applied, in which order, and where (RFC 7950, 7.17).
 
-ghost use Rattle.std.specs.Prelude.{◌≡◌, ◌<◌, ℕ, length, true, replicate, IfOk};
+ghost use Rattle.std.specs.Prelude.{◌≡◌, ◌<◌, ◌&&◌, ℕ, length, true, not, is_some, replicate, IfOk};
+ghost use Rattle.yspec.specs.linking.Keyword.{case_word, choice_word, uses_word};
+ghost use Rattle.yspec.specs.linking.Source.{first_with};
+ghost use Rattle.ybase_preorder.specs.View.{row_by};
+ghost use Rattle.ybase_words.specs.KeywordView.{keyword_view};
+ghost use Rattle.ylink_features.specs.VersionView.{AreVersionsOf};
+ghost use Rattle.ylink_grammar.specs.SourceView.{source_view};
+ghost use Rattle.yschema_augment.specs.Resolving.{may_take};
 ghost use Rattle.yschema_augment.specs.Settling.{Among};
+ghost use Rattle.yschema_expand.specs.NamedView.{language_of, modules_of};
 
 use crate::applied::Applied;
 use crate::arranging::body_of;
 use crate::search::{Search, Step};
 use crate::waiting::Waiter;
 use std::alloc::{AllocError, Global};
-use ybase_preorder::Node;
+use ybase_preorder::{Node, Siblings};
 use ybase_words::Keyword;
+use ylink_features::Versions;
 use ylink_grammar::{Source, first_with};
 use yschema_expand::{Named, NodeTable};
 
@@ -22,7 +31,10 @@ pub(crate) struct Targets<'b, 'a, 't> {
     /// Where what each augment adds begins among the nodes.
     pub starts: &'b [u32],
     pub named: &'b Named<'a, 't>,
+    /// The versions of modules.
+    pub versions: &'b Versions,
     ghost paired: { length paths.now ≡ length augments.now },
+    ghost dated: { AreVersionsOf versions.now (language_of named.now) (modules_of named.now) },
 }
 
 /// Which augments are applied, in order, and which wait still.
@@ -55,6 +67,40 @@ fn all_true(alloc: Global, count: usize) -> Result<Vec<bool>, AllocError>
     Ok(waits)
 }
 
+/// Whether a choice takes the statements of an augment: no `uses`, and no choice in a module of YANG 1 (RFC 6020, 7.9.2).
+fn choice_takes(old: bool, statements: Siblings<'_, Source<'_>>) -> bool
+    ensures { let given = row_by source_view statements.entry in
+        result ≡ (not (is_some (first_with uses_word given)) && not (old && is_some (first_with choice_word given))) }
+{
+    if first_with(Keyword::Uses, statements).is_some() {
+        return false;
+    }
+    if !old {
+        return true;
+    }
+    first_with(Keyword::Choice, statements).is_none()
+}
+
+/// Whether a node that is no choice takes the statements of an augment: no case.
+fn node_takes(statements: Siblings<'_, Source<'_>>) -> bool
+    ensures { result ≡ not (is_some (first_with case_word (row_by source_view statements.entry))) }
+{
+    first_with(Keyword::Case, statements).is_none()
+}
+
+/// Whether a node of a keyword may take the statements of an augment, given whether they stand in a module of YANG 1.
+fn may_take(old: bool, keyword: Keyword, statements: Siblings<'_, Source<'_>>) -> bool
+    ensures { result ≡ may_take old (keyword_view keyword) (row_by source_view statements.entry) }
+{
+    match keyword {
+        Keyword::Choice => choice_takes(old, statements),
+        Keyword::Container => node_takes(statements),
+        Keyword::List => node_takes(statements),
+        Keyword::Case => node_takes(statements),
+        _ => false,
+    }
+}
+
 impl<'b, 'a, 't> Targets<'b, 'a, 't> {
     ghost use Rattle.std.specs.Prelude.{◌≡◌, ◌<◌, length, true, false, [], Some, MatchOption, IfOk, OnOk, replicate};
     ghost use Rattle.yschema_augment.specs.Searching.{target_in};
@@ -65,29 +111,25 @@ impl<'b, 'a, 't> Targets<'b, 'a, 't> {
     ghost use Rattle.yspec.specs.linking.Keyword.{choice_word};
     ghost use Rattle.yspec.specs.linking.Source.{is_source_of};
     ghost use Rattle.yschema_expand.specs.AugmentView.{augments_seen};
-    ghost use Rattle.yschema_augment.specs.Picking.{found_at, holds_at, is_waiting, left_of, source_at, AllSettled, Picks};
+    ghost use Rattle.yschema_augment.specs.Picking.{are_old, found_at, holds_at, is_waiting, left_of, source_at, AllSettled, Picks};
     ghost use Rattle.yschema_expand.specs.TableView.{slots_of};
-    ghost use Rattle.yschema_expand.specs.NamedView.{modules_of};
+    ghost use Rattle.yschema_expand.specs.NamedView.{language_of, modules_of};
     ghost use Rattle.yschema_augment.specs.Hanging.{plain};
     ghost use Rattle.yschema_augment.specs.Turning.{placed, Goes, Prepared};
-    ghost use Rattle.yspec.specs.linking.Augments.{applied, in_turn, is_ready};
+    ghost use Rattle.yspec.specs.linking.Augments.{in_turn};
+    ghost use Rattle.yspec_wide.specs.Expansion.{applied_in, is_ready_in};
 
     /// Whether the node of a number may take what an augment states.
     fn may_hold(&self, target: u32, augment: usize) -> bool
         requires { augment < length self.now.augments.now }
-        ensures { result ≡ holds_at (slots_of self.now.nodes.now) (augments_seen self.now.augments.now) target augment }
+        ensures { result ≡ holds_at (are_old self.now.named.now) (slots_of self.now.nodes.now) (augments_seen self.now.augments.now) target augment }
     {
-        let statements = self.augments[augment].children();
+        let augment = self.augments[augment];
+        let old = self.versions.is_yang_1(augment.label().home);
         let Some(node) = self.nodes.node(target) else {
             return false;
         };
-        match node.keyword() {
-            Keyword::Choice => first_with(Keyword::Uses, statements).is_none(),
-            Keyword::Container | Keyword::List | Keyword::Case => {
-                first_with(Keyword::Case, statements).is_none()
-            }
-            _ => false,
-        }
+        may_take(old, node.keyword(), augment.children())
     }
 
     /// The node below which an augment that waits may be applied now.
@@ -95,10 +137,10 @@ impl<'b, 'a, 't> Targets<'b, 'a, 't> {
         requires { length waits.now ≡ length self.now.paths.now }
         ensures { MatchOption result
             (is_waiting waits.now augment ≡ true
-            → found_at (slots_of self.now.nodes.now) (augments_seen self.now.augments.now) self.now.paths.now search.now augment ≡ false)
+            → found_at (are_old self.now.named.now) (slots_of self.now.nodes.now) (augments_seen self.now.augments.now) self.now.paths.now search.now augment ≡ false)
             (λ target. (is_waiting waits.now augment ≡ true)
             × (target_in (look_in search.now) (steps_of search.now self.now.paths.now augment) ≡ Some target)
-            × (holds_at (slots_of self.now.nodes.now) (augments_seen self.now.augments.now) target augment ≡ true)) }
+            × (holds_at (are_old self.now.named.now) (slots_of self.now.nodes.now) (augments_seen self.now.augments.now) target augment ≡ true)) }
     {
         if waits.get(augment) != Some(&true) {
             return None;
@@ -114,9 +156,9 @@ impl<'b, 'a, 't> Targets<'b, 'a, 't> {
     /// The first augment that waits and may be applied now; those before it that have arrived are passed over.
     fn next(&self, waits: &[bool], search: &mut Search<'t>) -> Option<Applied>
         requires lengths { length waits.now ≡ length self.now.paths.now }
-        requires settled { AllSettled (slots_of self.now.nodes.now) (augments_seen self.now.augments.now)
+        requires settled { AllSettled (are_old self.now.named.now) (slots_of self.now.nodes.now) (augments_seen self.now.augments.now)
             self.now.paths.now waits.now search.old }
-        ensures { Picks (slots_of self.now.nodes.now) (augments_seen self.now.augments.now)
+        ensures { Picks (are_old self.now.named.now) (slots_of self.now.nodes.now) (augments_seen self.now.augments.now)
             self.now.paths.now waits.now result search.old search.new }
     {
         while let Some(augment) = search.pop() {
@@ -161,9 +203,9 @@ impl<'b, 'a, 't> Targets<'b, 'a, 't> {
 
     /// Lets all augments go on from the top.
     fn start(&self, alloc: Global, search: &mut Search<'t>) -> Result<(), AllocError>
-        requires { Prepared (modules_of self.now.named.now) (augments_seen self.now.augments.now)
+        requires { Prepared (language_of self.now.named.now) (modules_of self.now.named.now) (augments_seen self.now.augments.now)
             (slots_of self.now.nodes.now) self.now.starts.now self.now.paths.now search.old }
-        ensures { OnOk result (Goes (modules_of self.now.named.now) (augments_seen self.now.augments.now)
+        ensures { OnOk result (Goes (language_of self.now.named.now) (modules_of self.now.named.now) (augments_seen self.now.augments.now)
             (slots_of self.now.nodes.now) self.now.starts.now self.now.paths.now search.old
             (replicate (length self.now.augments.now) true) [] search.new) }
     {
@@ -173,13 +215,13 @@ impl<'b, 'a, 't> Targets<'b, 'a, 't> {
 
     /// Applies always the first augment that may be applied by then, until none may.
     pub fn resolve(&self, alloc: Global, search: &mut Search<'t>) -> Result<Resolved, AllocError>
-        requires { Prepared (modules_of self.now.named.now) (augments_seen self.now.augments.now)
+        requires { Prepared (language_of self.now.named.now) (modules_of self.now.named.now) (augments_seen self.now.augments.now)
             (slots_of self.now.nodes.now) self.now.starts.now self.now.paths.now search.old }
-        ensures { IfOk result (λ r. let m = modules_of self.now.named.now in
+        ensures { IfOk result (λ r. let l = language_of self.now.named.now in let m = modules_of self.now.named.now in
             let augments = augments_seen self.now.augments.now in
             let slots = slots_of self.now.nodes.now in
             (plain (placed self.now.starts.now slots augments r.order.items), left_of r.waits.items augments)
-            ≡ in_turn (is_ready m) (applied m) (length augments) (plain (own_rows self.now.starts.now slots)) augments) }
+            ≡ in_turn (is_ready_in l m) (applied_in l m) (length augments) (plain (own_rows self.now.starts.now slots)) augments) }
     {
         self.start(alloc, search)?;
         let mut waits = all_true(alloc, self.paths.len())?;

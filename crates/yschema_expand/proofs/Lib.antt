@@ -1,5 +1,4 @@
 pub mod LanguageLemmas
-pub mod KeepingLemmas
 pub mod ConditionLemmas
 pub mod GroupingLemmas
 pub mod UsedLemmas
@@ -15,7 +14,6 @@ pub mod WalkLemmas
 pub mod OrderLemmas
 pub mod ToldLemmas
 pub mod LeastLemmas
-pub mod StatingLemmas
 pub mod TaskLemmas
 pub mod TurnLemmas
 pub mod BodyLemmas

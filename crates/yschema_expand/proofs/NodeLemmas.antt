@@ -3,8 +3,9 @@ use Rattle.std.proofs.Common.{◌≡◌, List, [], ◌∷◌, ◌++◌, refl, ap
 use Rattle.yspec.specs.Forest.{Forest}
 use Rattle.yspec.specs.linking.Source.{Source}
 use Rattle.yspec.specs.linking.Parts.{Part}
-use Rattle.yschema_expand.specs.NodeView.{stated_after, stated_with, with_given}
-use Rattle.yschema_expand.specs.declared.given.Given.{Given}
+use Rattle.yschema_expand.specs.NodeView.{with_given}
+use Rattle.yschema_given.specs.GivenView.{stated_after, stated_with}
+use Rattle.yschema_given.specs.declared.given.Given.{Given}
 
 stated_last : (own : Forest Source) (given : List Given) (one : Given) → stated_after own (given ++ one ∷ []) ≡ stated_with one (stated_after own given)
 stated_last own [] one = refl

@@ -132,6 +132,13 @@ laid_node s below is unused = laid_so s below true false (by (defines_node s.key
     by true e = refl
     by false e = absurd cc
 
+pub laid_one : (s : Source) (below : Forest Source) → is_laid s ≡ true → (inside : Forest Part) × (laid (node s below end) ≡ node (part_of s below) inside end)
+laid_one s below is = by (is_source_of uses_word s) refl
+  where
+    by : (u : Bool) → is_source_of uses_word s ≡ u → (inside : Forest Part) × (laid (node s below end) ≡ node (part_of s below) inside end)
+    by true used = (end, laid_uses s below used)
+    by false unused = (within s (laid below), laid_node s below is unused)
+
 -- a single one of a choice
 pub laid_single : (c : Bool) (s : Source) (below : Forest Source) → is_laid s ≡ true → (c && not (same_keyword case_word s.keyword)) ≡ true
     → chosen c (laid (node s below end)) ≡ node (case_for (part_of s below)) (laid (node s below end)) end
@@ -211,6 +218,20 @@ adds_none parent f bs m none untold = (
   sym (ap (least_from (seen m.told)) untold),
 )
 
+-- a node is opened, all below it is added, and it is closed
+pub adds_around : (parent : Option ℕ) (q : Part) (inner : Forest Part) (bs : List Break) (l : ExpandedNode) (n : ℕ) (old mid full new : Made) → part_view l ≡ q
+    → layout.laid (slots_of mid.table) ≡ layout.laid (slots_of old.table) ++ opened parent l ∷ [] → n ≡ length (slots_of old.table) → mid.told ≡ old.told
+    → Adds (Some n) inner bs mid full → layout.laid (slots_of new.table) ≡ closed n (layout.laid (slots_of full.table)) → new.told ≡ full.told
+    → Adds parent (node q inner end) bs old new
+adds_around parent q inner bs l n old mid full new label mid_is n_is mid_told full_is new_is new_told =
+    let k = length (slots_of old.table) in (
+      grown numbered_part (slots_of old.table) (slots_of mid.table) (slots_of full.table) (slots_of new.table) parent l n inner mid_is n_is full_is.0 new_is
+          ∙ ap (λ ps. parts_in old.table ++ ps)
+          (ap₂ (λ (p : Part) m. record { parent = parent; label = p; below = size inner } ∷ places (Some m) (m + 1) inner) label n_is
+          ∙ sym (append-nil (record { parent = parent; label = q; below = size inner } ∷ places (Some k) (k + 1) inner))),
+      ap seen new_told ∙ (full_is.1 ∙ ap (λ o. least_from (seen o) bs) mid_told),
+    )
+
 -- ---- what comes of a row
 
 module _ (language : Language) (modules : Forest Source) (owner depth : ℕ) where
@@ -278,13 +299,9 @@ module _ (language : Language) (modules : Forest Source) (owner depth : ℕ) whe
       → AddsParts language modules parent owner depth (node p below end) old new
   adds_node parent p below l n old mid full new other label mid_is n_is mid_told full_is new_is new_told =
       let k = length (slots_of old.table) in
-      let inner = nodes below in (
-        grown numbered_part (slots_of old.table) (slots_of mid.table) (slots_of full.table) (slots_of new.table) parent l n inner mid_is n_is full_is.0 new_is
-            ∙ ap (λ ps. parts_in old.table ++ ps)
-            (ap₂ (λ (q : Part) m. record { parent = parent; label = q; below = size inner } ∷ places (Some m) (m + 1) inner) label n_is
-            ∙ (sym (append-nil (record { parent = parent; label = owned_by owner p; below = size inner } ∷ places (Some k) (k + 1) inner))
-            ∙ ap (places parent k) (sym (nodes_node p below other)))),
-        ap seen new_told ∙ (full_is.1 ∙ (ap (λ o. least_from (seen o) (breaks below)) mid_told ∙ ap (least_from (seen old.told)) (sym (breaks_node p below other)))),
+      let one = adds_around parent (owned_by owner p) (nodes below) (breaks below) l n old mid full new label mid_is n_is mid_told full_is new_is new_told in (
+        one.0 ∙ ap (λ f. parts_in old.table ++ places parent k f) (sym (nodes_node p below other)),
+        one.1 ∙ ap (least_from (seen old.told)) (sym (breaks_node p below other)),
       )
 
 -- ---- and no `uses` leads over too many

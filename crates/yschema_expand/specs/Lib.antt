@@ -1,5 +1,4 @@
 pub mod NamedView
-pub mod Keeping
 pub mod AugmentView
 pub mod Bodies
 pub mod NodeView
@@ -10,6 +9,5 @@ pub mod Walk
 pub mod Counting
 pub mod Knowing
 pub mod Indexing
-pub mod Stating
 pub mod Tasks
 pub mod Turns

@@ -14,6 +14,7 @@ use Rattle.ylink_grammar.specs.LinkView.{view}
 use Rattle.ylink_grammar.specs.SourceView.{source_view}
 use Rattle.ylink_grammar.specs.declared.source.Source as held
 use Rattle.yschema_expand.specs.declared.named.Named.{Named}
+pub use Rattle.yschema_given.specs.GivenView.{row_or_none}
 
 -- the language in which they are read
 abbrev pub language_of : Named → Language
@@ -21,10 +22,6 @@ language_of n = language_view n.language.now
 
 abbrev pub modules_of : Named → Forest Source
 modules_of n = view n.sources.now
-
--- a row of statements that may not be there
-abbrev pub row_or_none : Option (Siblings held.Source) → Forest Source
-row_or_none row = option_map_or (row_by source_view) row end
 
 -- the row of the grouping that the statement of a number uses
 abbrev pub row_named : Forest Source → ℕ → Forest Part

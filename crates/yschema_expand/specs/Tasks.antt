@@ -1,5 +1,5 @@
 -- What tasks do, and how many come of them.
-use Rattle.std.specs.Prelude.{◌≡◌, ◌+◌, ℕ, zero, suc, List, if◌then◌else◌}
+use Rattle.std.specs.Prelude.{◌≡◌, ◌+◌, ℕ, zero, suc, true, List, if◌then◌else◌}
 use Rattle.yspec.specs.Forest.{Forest, end, node, size}
 use Rattle.yspec.specs.linking.Source.{Source}
 use Rattle.yspec.specs.linking.Parts.{Part, own_of}
@@ -13,6 +13,7 @@ use Rattle.ylink_grammar.specs.SourceView.{source_view}
 use Rattle.yschema_expand.specs.TableView.{slots_of}
 use Rattle.yschema_expand.specs.Turns.{Leaves}
 use Rattle.yschema_expand.specs.Walk.{chosen, AddsParts, AllEnd, Changes}
+use Rattle.yschema_given.specs.Keeping.{are_kept_right}
 use Rattle.yschema_expand.specs.declared.expanding.Made.{Made}
 use Rattle.yschema_expand.specs.declared.walking.Task.{Task}
 use Rattle.yschema_expand.specs.declared.walking.Task.TheVariants.{Add, Close, Change}
@@ -31,12 +32,13 @@ Does language modules (Change owner first statements) old new = (nodes : Forest 
     → Changes first nodes (changed_by language modules owner (row_by source_view statements) nodes)
     (refine_breaks_in language modules owner (row_by source_view statements) nodes) old new
 
--- no `uses` of a task leads over more groupings than its place has
-abbrev pub TaskEnds : Forest Source → Task → Type 0
-TaskEnds modules (Add place in_choice statements) =
+-- no `uses` of a task leads over more groupings than its place has, and conditions are kept as such
+abbrev pub TaskEnds : Language → Forest Source → Task → Type 0
+TaskEnds language modules (Add place in_choice statements) =
     AllEnd modules place.depth (chosen in_choice (laid (row_by source_view statements)))
-TaskEnds modules (Close number) = Unit {0}
-TaskEnds modules (Change owner first statements) = Unit {0}
+    × (are_kept_right language (row_by source_view statements) ≡ true)
+TaskEnds language modules (Close number) = Unit {0}
+TaskEnds language modules (Change owner first statements) = are_kept_right language (row_by source_view statements) ≡ true
 
 -- ---- how many tasks come of one
 
@@ -62,4 +64,4 @@ toll modules (Change owner first statements) = 0
 
 -- what a step leaves behind
 abbrev pub Leads : Language → Forest Source → (Made → Made → Type 0) → ℕ → List Task → List Task → Made → Made → Type 0
-Leads language modules = Leaves (Does language modules) (toll modules) (TaskEnds modules)
+Leads language modules = Leaves (Does language modules) (toll modules) (TaskEnds language modules)

@@ -3,10 +3,8 @@
 
 mod augments;
 mod bodies;
-mod conditions;
 mod counting;
 mod expanding;
-mod given;
 mod groupings;
 mod indexing;
 mod laying;

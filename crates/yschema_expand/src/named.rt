@@ -1,8 +1,11 @@
 //! Statements with what the names in them mean.
 
+ghost use Rattle.std.specs.Prelude.{◌≡◌, true};
+ghost use Rattle.ylink_grammar.specs.LanguageView.{language_view};
 ghost use Rattle.ylink_grammar.specs.LinkView.{view};
 ghost use Rattle.ylink_names.specs.MeaningView.{AreMeanings};
 ghost use Rattle.ylink_names.specs.PrefixView.{IsOf};
+ghost use Rattle.yschema_given.specs.Keeping.{are_kept_right};
 
 use ybase_preorder::Siblings;
 use ybase_words::Keyword;
@@ -18,19 +21,22 @@ pub struct Named<'a, 't> {
     meanings: &'a [Option<u32>],
     ghost prefixed: { IsOf prefixes.now (view sources.now) },
     ghost meant: { AreMeanings meanings.now (view sources.now) },
+    ghost kept: { are_kept_right (language_view language.now) (view sources.now) ≡ true },
 }
 
 impl<'a, 't> Named<'a, 't> {
-    ghost use Rattle.std.specs.Prelude.{◌≡◌, ◌≤◌, IfSome};
+    ghost use Rattle.std.specs.Prelude.{◌≡◌, ◌≤◌, IfSome, true};
     ghost use Rattle.yspec.specs.Forest.{size};
     ghost use Rattle.yspec.specs.linking.DerivedTypes.{number_named};
     ghost use Rattle.yspec.specs.linking.Expansion.{groupings_of, laid, row_in};
-    ghost use Rattle.ybase_preorder.specs.View.{row_view};
+    ghost use Rattle.ybase_preorder.specs.View.{row_by, row_view};
     ghost use Rattle.ylink_grammar.specs.LanguageView.{language_view};
     ghost use Rattle.ylink_grammar.specs.LinkView.{view};
+    ghost use Rattle.ylink_grammar.specs.SourceView.{source_view};
     ghost use Rattle.ylink_names.specs.MeaningView.{AreMeanings};
     ghost use Rattle.ylink_names.specs.PrefixView.{IsOf};
     ghost use Rattle.yschema_expand.specs.NamedView.{language_of, modules_of, row_named, row_or_none};
+    ghost use Rattle.yschema_given.specs.Keeping.{are_kept_right};
 
     /// Those of a set, given the language and what names in it mean.
     pub fn new(
@@ -41,6 +47,7 @@ impl<'a, 't> Named<'a, 't> {
     ) -> Named<'a, 't>
         requires prefixed { IsOf prefixes.now (view sources.now) }
         requires meant { AreMeanings meanings.now (view sources.now) }
+        requires kept { are_kept_right (language_view language.now) (view sources.now) ≡ true }
         ensures language { language_of result ≡ language_view language.entry.now }
         ensures modules { modules_of result ≡ view sources.entry.now }
     {
@@ -85,6 +92,8 @@ impl<'a, 't> Named<'a, 't> {
         ensures row { laid (row_or_none result) ≡ row_in (groupings_of (modules_of self.now)) number }
         ensures within { IfSome result
             (λ row. size (row_view row) ≤ size (modules_of self.now)) }
+        ensures kept { IfSome result
+            (λ row. are_kept_right (language_of self.now) (row_by source_view row) ≡ true) }
     {
         let slot = self.sources.slots().get(number)?;
         if Keyword::Grouping.is(slot.label.keyword) {
@@ -99,6 +108,8 @@ impl<'a, 't> Named<'a, 't> {
         ensures row { laid (row_or_none result) ≡ row_named (modules_of self.now) number }
         ensures within { IfSome result
             (λ row. size (row_view row) ≤ size (modules_of self.now)) }
+        ensures kept { IfSome result
+            (λ row. are_kept_right (language_of self.now) (row_by source_view row) ≡ true) }
     {
         self.grouping(self.meaning(number)? as usize)
     }

@@ -1,29 +1,29 @@
 //! Nodes that stand for statements.
 
-use crate::given::Given;
 use std::alloc::{AllocError, Global};
 use ybase_preorder::{Node, Siblings};
 use ybase_words::Keyword;
 use ylink_grammar::{BrokenRule, CompileCode, Language, Source, argument_of, broken};
+use yschema_given::Given;
 
 /// A node that a statement defines, or the case that a single node of a choice stands for (RFC 7950, 7.9.2), where a module
 /// uses it.
 #[derive(Drop)]
 pub struct ExpandedNode<'a, 't> {
     // Its statement, wherever it stands. What it states of the node is changed by what the node is given.
-    source: Node<'a, Source<'t>>,
+    pub source: Node<'a, Source<'t>>,
     // Whether it is the case that its statement stands for, and not the node itself.
-    is_implied: bool,
+    pub is_implied: bool,
     // The number of the module to which it belongs.
     owner: usize,
     // The number of the augment that put it below its target.
     added_by: Option<u32>,
-    // What refines and each `uses` give it, one after another.
-    pub(crate) given: Vec<Given<'a, 't>>,
+    // What it is given, one after another.
+    pub given: Vec<Given<'a, 't>>,
 }
 
 impl<'a, 't> ExpandedNode<'a, 't> {
-    ghost use Rattle.std.specs.Prelude.{◌≡◌, ◌++◌, ◌∷◌, [], IfOk, OnOk};
+    ghost use Rattle.std.specs.Prelude.{◌≡◌, ◌++◌, ◌∷◌, [], IfOk, OnOk, true};
     ghost use Rattle.yspec.specs.linking.Source as sources;
     ghost use Rattle.yspec.specs.schema.Breaks as breaks;
     ghost use Rattle.ylink_grammar.specs.BreakView.{break_view, code_number};
@@ -35,6 +35,7 @@ impl<'a, 't> ExpandedNode<'a, 't> {
     ghost use Rattle.yschema_expand.specs.NamedView.{row_or_none};
     ghost use Rattle.yschema_expand.specs.NodeView.{marked_with, part_for, part_view, plain_part};
     ghost use Rattle.yschema_expand.specs.TableView.{conditioned_part, refined_part};
+    ghost use Rattle.yschema_given.specs.Keeping.{are_kept_right};
 
     /// The node that a statement defines, or the case that it stands for, in a module, before refines.
     pub(crate) fn new(
@@ -79,34 +80,34 @@ impl<'a, 't> ExpandedNode<'a, 't> {
     /// Gives it the statements of a refine, which take the place of its own of the same kinds; conditions come to its own.
     pub(crate) fn refine(
         &mut self,
-        language: &Language,
+        language: &'a Language,
         row: Siblings<'a, Source<'t>>,
     ) -> Result<(), AllocError>
+        requires { are_kept_right (language_view language.now) (row_by source_view row) ≡ true }
         ensures { OnOk result (part_view self.new
             ≡ refined_part (language_view language.now) (row_by source_view row.entry) (part_view self.old)) }
     {
-        let given = Given::of_refine(language, row)?;
-        self.given.push(given)?;
+        self.given.push(Given::of_refine(language, row))?;
         Ok(())
     }
 
     /// Asks the conditions of a row of it besides its own.
     pub(crate) fn condition(
         &mut self,
-        language: &Language,
+        language: &'a Language,
         row: Siblings<'a, Source<'t>>,
     ) -> Result<(), AllocError>
+        requires { are_kept_right (language_view language.now) (row_by source_view row) ≡ true }
         ensures { OnOk result (part_view self.new
             ≡ conditioned_part (language_view language.now) (own_of (row_by source_view row.entry))
             (part_view self.old)) }
     {
-        let given = Given::of_conditions(language, row)?;
-        self.given.push(given)?;
+        self.given.push(Given::of_conditions(language, row))?;
         Ok(())
     }
 
     /// The row in which its own statements stand, besides those that define nodes; a case that is implied has none.
-    pub(crate) fn own(&self) -> Option<Siblings<'a, Source<'t>>>
+    pub fn own(&self) -> Option<Siblings<'a, Source<'t>>>
         ensures { own_of (row_or_none result) ≡ (plain_part self.now).own }
     {
         if self.is_implied {

@@ -1,6 +1,6 @@
 //! Refines (RFC 7950, 7.13.2).
 
-ghost use Rattle.std.specs.Prelude.{◌≡◌, ◌++◌, ◌&&◌, ℕ, List, Option, Some, None, IfOk, IfSome, OnOk, false, length, not, option_and_then, if◌then◌else◌};
+ghost use Rattle.std.specs.Prelude.{◌≡◌, ◌++◌, ◌&&◌, ℕ, List, Option, Some, None, IfOk, IfSome, OnOk, false, length, not, option_and_then, true, if◌then◌else◌};
 ghost use Rattle.std.specs.Option.{option_map_or};
 ghost use Rattle.yspec.specs.Forest.{Forest};
 ghost use Rattle.yspec.specs.linking.Expansion.{is_refine};
@@ -17,8 +17,8 @@ ghost use Rattle.yschema_expand.specs.Indexing.{part_in, Indexes};
 ghost use Rattle.yschema_expand.specs.TableView.{parts_in, slots_of};
 ghost use Rattle.yschema_expand.specs.Targets.{target_in};
 ghost use Rattle.yschema_expand.specs.Walk.{Changes};
+ghost use Rattle.yschema_given.specs.Keeping.{are_kept_right};
 
-use crate::conditions::may_bear_in;
 use crate::expanding::Made;
 use crate::indexing::TargetIndex;
 use crate::table::NodeTable;
@@ -29,6 +29,7 @@ use ybase_words::Keyword;
 use ylink_arguments::relative_path;
 use ylink_grammar::{CompileCode, Language, Source, argument_of, broken, least};
 use ylink_names::Prefixes;
+use yschema_given::may_bear_in;
 
 /// How many statements a `uses` has at least whose refines find their targets by an index.
 const MANY: usize = 64;
@@ -41,6 +42,7 @@ fn bears(
     number: u32,
     given: Siblings<'_, Source<'_>>,
 ) -> Result<bool, AllocError>
+    requires { are_kept_right (language_view language.now) (row_by source_view given) ≡ true }
     ensures { let l = language_view language.now in IfOk result (λ may. may
         ≡ option_map_or (λ p. spec.may_bear_in l p (row_by source_view given.entry))
         (part_in (slots_of table.now) number) false) }
@@ -59,6 +61,7 @@ fn fit(
     number: Option<u32>,
     given: Siblings<'_, Source<'_>>,
 ) -> Result<Option<u32>, AllocError>
+    requires { are_kept_right (language_view language.now) (row_by source_view given) ≡ true }
     ensures { let l = language_view language.now in IfOk result (λ fit. fit
         ≡ option_and_then (λ n. if option_map_or (λ p. spec.may_bear_in l p
         (row_by source_view given.entry)) (part_in (slots_of table.now) n) false
@@ -83,7 +86,8 @@ fn target_in(
     refine: Node<'_, Source<'_>>,
     nodes: LastNodes<'_, '_, '_>,
 ) -> Result<Option<u32>, AllocError>
-    requires { IfSome nodes.index (λ x. Indexes nodes.first x.now (parts_in nodes.table.now)) }
+    requires index { IfSome nodes.index (λ x. Indexes nodes.first x.now (parts_in nodes.table.now)) }
+    requires kept { are_kept_right (language_view language.now) (row_by source_view refine.children) ≡ true }
     ensures { let first = nodes.entry.first in
         (modules : Forest sources.Source) (earlier : List (Place Part)) (parent : Option ℕ) (f : Forest Part)
         → IsOf prefixes.now modules → length earlier ≡ first
@@ -103,7 +107,7 @@ fn target_in(
 /// nothing.
 fn apply<'a, 't>(
     alloc: Global,
-    language: &Language,
+    language: &'a Language,
     prefixes: &Prefixes<'t>,
     owner: usize,
     first: u32,
@@ -111,7 +115,8 @@ fn apply<'a, 't>(
     refine: Node<'a, Source<'t>>,
     made: &mut Made<'a, 't>,
 ) -> Result<(), AllocError>
-    requires { IfSome index (λ x. Indexes first x.now (parts_in made.old.table)) }
+    requires index { IfSome index (λ x. Indexes first x.now (parts_in made.old.table)) }
+    requires kept { are_kept_right (language_view language.now) (row_by source_view refine.children) ≡ true }
     ensures changes { let s = label_by source_view refine.entry in
         let given = row_by source_view refine.entry.children in
         let l = language_view language.now in
@@ -159,13 +164,14 @@ fn index_for<'t>(
 /// Applies the refines of a row, one after another, to the nodes from that of a number on.
 pub(crate) fn refine<'a, 't>(
     alloc: Global,
-    language: &Language,
+    language: &'a Language,
     prefixes: &Prefixes<'t>,
     owner: usize,
     first: u32,
     statements: Siblings<'a, Source<'t>>,
     made: &mut Made<'a, 't>,
 ) -> Result<(), AllocError>
+    requires { are_kept_right (language_view language.now) (row_by source_view statements) ≡ true }
     ensures { let l = language_view language.now in let own = row_by source_view statements.entry in
         (modules : Forest sources.Source) (nodes : Forest Part) → IsOf prefixes.now modules
         → OnOk result (Changes first nodes (spec.refined_in l modules owner own nodes)

@@ -1,30 +1,9 @@
 //! What nodes state with all that they are given (RFC 7950, 7.13.2).
 
-ghost use Rattle.std.specs.Prelude.{◌≡◌};
-ghost use Rattle.std.specs.List.{list_any};
-ghost use Rattle.yspec.specs.Forest.{row};
-ghost use Rattle.yspec.specs.linking.Source.{is_source_of};
-ghost use Rattle.ybase_preorder.specs.View.{row_by};
-ghost use Rattle.ybase_words.specs.KeywordView.{keyword_view};
-ghost use Rattle.ylink_grammar.specs.SourceView.{source_view};
-
 use crate::nodes::ExpandedNode;
 use ybase_preorder::{Node, Siblings};
 use ybase_words::Keyword;
 use ylink_grammar::{Source, argument_with, found_with};
-
-/// Whether a row has a statement of a keyword.
-pub(crate) fn has_any(keyword: Keyword, statements: Siblings<'_, Source<'_>>) -> bool
-    ensures { result ≡ list_any (is_source_of (keyword_view keyword))
-        (row (row_by source_view statements.entry)) }
-{
-    for statement in statements {
-        if keyword.is(statement.label().keyword) {
-            return true;
-        }
-    }
-    false
-}
 
 impl<'a, 't> ExpandedNode<'a, 't> {
     ghost use Rattle.std.specs.Prelude.{◌≡◌, false, option_map};
@@ -34,8 +13,8 @@ impl<'a, 't> ExpandedNode<'a, 't> {
     ghost use Rattle.ybase_words.specs.KeywordView.{keyword_view};
     ghost use Rattle.ylink_grammar.specs.SourceView.{node_view};
     ghost use Rattle.yschema_expand.specs.NodeView.{part_view};
-    ghost use Rattle.yschema_expand.specs.NamedView.{row_or_none};
-    ghost use Rattle.yschema_expand.specs.Stating.{SameFor};
+    ghost use Rattle.yschema_given.specs.GivenView.{row_or_none};
+    ghost use Rattle.yschema_given.specs.Stating.{SameFor};
 
     /// The row in which what it states with a keyword stands, which is none of those that define nodes, nor that of conditions:
     /// that of the last refine that gives such statements, else its own.

@@ -10,12 +10,12 @@ use ylink_grammar::{Language, Source};
 /// Nodes in preorder. One is opened, then those below it, and then it is closed; refines change it afterwards.
 #[derive(Drop)]
 pub struct NodeTable<'a, 't> {
-    slots: Vec<Slot<ExpandedNode<'a, 't>>>,
+    pub slots: Vec<Slot<ExpandedNode<'a, 't>>>,
     ghost numbered: { vec_len slots < 2 ^ 32 },
 }
 
 impl<'a, 't> NodeTable<'a, 't> {
-    ghost use Rattle.std.specs.Prelude.{◌≡◌, ◌++◌, ◌∷◌, [], ◌<◌, ◌^◌, ℕ, List, Option, vec_len, IfOk, OnOk, length, drop, option_map, slice_get};
+    ghost use Rattle.std.specs.Prelude.{◌≡◌, ◌++◌, ◌∷◌, [], ◌<◌, ◌^◌, ℕ, List, Option, vec_len, IfOk, OnOk, length, drop, option_map, slice_get, true};
     ghost use Rattle.yspec.specs.Forest.{Forest};
     ghost use Rattle.yspec.specs.linking.Parts.{Part, own_of};
     ghost use Rattle.yspec_wide.specs.Expansion.{conditioned};
@@ -26,6 +26,7 @@ impl<'a, 't> NodeTable<'a, 't> {
     ghost use Rattle.yschema_expand.specs.NodeView.{numbered_part};
     ghost use Rattle.yschema_expand.specs.NumberedView.{rows_between, with_number};
     ghost use Rattle.yschema_expand.specs.TableView.{slots_of, parts_in, conditioned_part, nodes_in, refined_part, changed_place};
+    ghost use Rattle.yschema_given.specs.Keeping.{are_kept_right};
 
     /// A table without nodes.
     pub fn new(alloc: Global) -> NodeTable<'a, 't>
@@ -134,10 +135,11 @@ impl<'a, 't> NodeTable<'a, 't> {
     /// Gives the node of a number what a refine gives.
     pub(crate) fn refine(
         &mut self,
-        language: &Language,
+        language: &'a Language,
         number: u32,
         given: Siblings<'a, Source<'t>>,
     ) -> Result<(), AllocError>
+        requires { are_kept_right (language_view language.now) (row_by source_view given) ≡ true }
         ensures { OnOk result (parts_in self.new ≡ changed_place number
             (refined_part (language_view language.now) (row_by source_view given.entry))
             (parts_in self.old)) }
@@ -161,10 +163,11 @@ impl<'a, 't> NodeTable<'a, 't> {
     /// Asks the conditions of a row of the node of a number.
     fn condition(
         &mut self,
-        language: &Language,
+        language: &'a Language,
         number: usize,
         given: Siblings<'a, Source<'t>>,
     ) -> Result<(), AllocError>
+        requires { are_kept_right (language_view language.now) (row_by source_view given) ≡ true }
         ensures { OnOk result (parts_in self.new ≡ changed_place number
             (conditioned_part (language_view language.now) (own_of (row_by source_view given.entry)))
             (parts_in self.old)) }
@@ -178,10 +181,11 @@ impl<'a, 't> NodeTable<'a, 't> {
     /// Asks the conditions of a row of the top ones among the nodes from that of a number on.
     pub(crate) fn condition_from(
         &mut self,
-        language: &Language,
+        language: &'a Language,
         first: u32,
         given: Siblings<'a, Source<'t>>,
     ) -> Result<(), AllocError>
+        requires { are_kept_right (language_view language.now) (row_by source_view given) ≡ true }
         ensures { (earlier : List (Place Part)) (parent : Option ℕ) (f : Forest Part) → length earlier ≡ first
             → parts_in self.old ≡ earlier ++ places parent first f
             → OnOk result (parts_in self.new ≡ earlier ++ places parent first

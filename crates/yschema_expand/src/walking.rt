@@ -13,8 +13,9 @@ ghost use Rattle.yschema_expand.specs.NamedView.{language_of, modules_of, row_na
 ghost use Rattle.yschema_expand.specs.Walk.{chosen, is_laid, AddsParts, AllEnd, Changes};
 ghost use Rattle.yschema_expand.specs.Knowing.{Knows};
 ghost use Rattle.yschema_expand.specs.Tasks.{changed_by, toll, toll_of, Does, Leads, TaskEnds};
+ghost use Rattle.yschema_expand.specs.Turns.{AllGood, Runs};
+ghost use Rattle.yschema_given.specs.Keeping.{are_kept_right};
 
-use crate::conditions::bears_condition;
 use crate::expanding::{Context, Made, Place};
 use crate::groupings::least_of;
 use crate::laying::{has_keyword, is_laid, is_single};
@@ -24,6 +25,7 @@ use std::alloc::{AllocError, Global};
 use ybase_preorder::{Node, Siblings};
 use ybase_words::Keyword;
 use ylink_grammar::Source;
+use yschema_given::bears_condition;
 
 /// What is still to be done.
 #[derive(Clone, Copy)]
@@ -46,6 +48,7 @@ pub(crate) fn add_nodes<'a, 't>(
     made: &mut Made<'a, 't>,
 ) -> Result<(), AllocError>
     requires known { Knows context.now.groupings.now (language_of context.now.named.now) (modules_of context.now.named.now) }
+    requires kept { are_kept_right (language_of context.now.named.now) (row_by source_view statements) ≡ true }
     requires ends { AllEnd (modules_of context.now.named.now) place.depth
         (chosen in_choice (laid (row_by source_view statements))) }
     ensures { OnOk result (AddsParts (language_of context.now.named.now) (modules_of context.now.named.now) place.parent place.owner place.depth
@@ -53,8 +56,43 @@ pub(crate) fn add_nodes<'a, 't>(
 {
     let mut tasks = Vec::new(alloc);
     tasks.push(Task::Add(place, in_choice, statements))?;
+    finish(alloc, context, &mut tasks, made)
+}
+
+/// Adds the nodes that a statement defines or uses, with all below them, whether or not it stands for a case.
+pub(crate) fn add_one<'a, 't>(
+    alloc: Global,
+    context: &Context<'a, 't>,
+    place: Place,
+    statement: Node<'a, Source<'t>>,
+    made: &mut Made<'a, 't>,
+) -> Result<(), AllocError>
+    requires known { Knows context.now.groupings.now (language_of context.now.named.now) (modules_of context.now.named.now) }
+    requires kept { are_kept_right (language_of context.now.named.now) (row_by source_view statement.children) ≡ true }
+    requires laid { is_laid (label_by source_view statement) ≡ true }
+    requires ends { AllEnd (modules_of context.now.named.now) place.depth
+        (laid (node (label_by source_view statement) (row_by source_view statement.children) end)) }
+    ensures { OnOk result (AddsParts (language_of context.now.named.now) (modules_of context.now.named.now) place.parent place.owner place.depth
+        (laid (node (label_by source_view statement.entry) (row_by source_view statement.entry.children) end)) made.old made.new) }
+{
+    let mut tasks = Vec::new(alloc);
+    add_alone(alloc, context, place, statement, &mut tasks, made)?;
+    finish(alloc, context, &mut tasks, made)
+}
+
+/// Does all that is still to be done.
+fn finish<'a, 't>(
+    alloc: Global,
+    context: &Context<'a, 't>,
+    tasks: &mut Vec<Task<'a, 't>>,
+    made: &mut Made<'a, 't>,
+) -> Result<(), AllocError>
+    requires known { Knows context.now.groupings.now (language_of context.now.named.now) (modules_of context.now.named.now) }
+    requires ends { AllGood (TaskEnds (language_of context.now.named.now) (modules_of context.now.named.now)) tasks.old.items }
+    ensures { OnOk result (Runs (Does (language_of context.now.named.now) (modules_of context.now.named.now)) tasks.old.items made.old made.new) }
+{
     while let Some(task) = tasks.pop() {
-        perform(alloc, context, task, &mut tasks, made)?;
+        perform(alloc, context, task, tasks, made)?;
     }
     Ok(())
 }
@@ -68,7 +106,7 @@ fn perform<'a, 't>(
     made: &mut Made<'a, 't>,
 ) -> Result<(), AllocError>
     requires known { Knows context.now.groupings.now (language_of context.now.named.now) (modules_of context.now.named.now) }
-    requires ends { TaskEnds (modules_of context.now.named.now) task }
+    requires ends { TaskEnds (language_of context.now.named.now) (modules_of context.now.named.now) task }
     ensures { let l = language_of context.now.named.now in
         let m = modules_of context.now.named.now in
         OnOk result (Leads l m (Does l m task.entry) (toll m task.entry) tasks.old.items tasks.new.items made.old made.new) }
@@ -97,6 +135,7 @@ fn change<'a, 't>(
     statements: Siblings<'a, Source<'t>>,
     made: &mut Made<'a, 't>,
 ) -> Result<(), AllocError>
+    requires { are_kept_right (language_of context.now.named.now) (row_by source_view statements) ≡ true }
     ensures { let l = language_of context.now.named.now in
         let m = modules_of context.now.named.now in
         let own = row_by source_view statements.entry in
@@ -123,6 +162,7 @@ fn add_first<'a, 't>(
     made: &mut Made<'a, 't>,
 ) -> Result<(), AllocError>
     requires known { Knows context.now.groupings.now (language_of context.now.named.now) (modules_of context.now.named.now) }
+    requires kept { are_kept_right (language_of context.now.named.now) (row_by source_view statements) ≡ true }
     requires ends { AllEnd (modules_of context.now.named.now) place.depth
         (chosen in_choice (laid (row_by source_view statements))) }
     ensures { let l = language_of context.now.named.now in
@@ -151,6 +191,7 @@ fn add_statement<'a, 't>(
     made: &mut Made<'a, 't>,
 ) -> Result<(), AllocError>
     requires known { Knows context.now.groupings.now (language_of context.now.named.now) (modules_of context.now.named.now) }
+    requires kept { are_kept_right (language_of context.now.named.now) (row_by source_view statement.children) ≡ true }
     requires ends { AllEnd (modules_of context.now.named.now) place.depth (chosen in_choice
         (laid (node (label_by source_view statement) (row_by source_view statement.children) end))) }
     ensures { let l = language_of context.now.named.now in
@@ -180,6 +221,7 @@ fn add_case<'a, 't>(
     made: &mut Made<'a, 't>,
 ) -> Result<(), AllocError>
     requires known { Knows context.now.groupings.now (language_of context.now.named.now) (modules_of context.now.named.now) }
+    requires kept { are_kept_right (language_of context.now.named.now) (row_by source_view statement.children) ≡ true }
     requires laid { is_laid (label_by source_view statement) ≡ true }
     requires ends { AllEnd (modules_of context.now.named.now) place.depth
         (laid (node (label_by source_view statement) (row_by source_view statement.children) end)) }
@@ -212,6 +254,7 @@ fn add_alone<'a, 't>(
     made: &mut Made<'a, 't>,
 ) -> Result<(), AllocError>
     requires known { Knows context.now.groupings.now (language_of context.now.named.now) (modules_of context.now.named.now) }
+    requires kept { are_kept_right (language_of context.now.named.now) (row_by source_view statement.children) ≡ true }
     requires laid { is_laid (label_by source_view statement) ≡ true }
     requires ends { AllEnd (modules_of context.now.named.now) place.depth
         (laid (node (label_by source_view statement) (row_by source_view statement.children) end)) }
@@ -238,6 +281,7 @@ fn add_node<'a, 't>(
     tasks: &mut Vec<Task<'a, 't>>,
     made: &mut Made<'a, 't>,
 ) -> Result<(), AllocError>
+    requires kept { are_kept_right (language_of context.now.named.now) (row_by source_view statement.children) ≡ true }
     requires node { is_uses (part_of (label_by source_view statement)
         (row_by source_view statement.children)) ≡ false }
     requires ends { let s = label_by source_view statement in
@@ -273,6 +317,7 @@ fn add_uses<'a, 't>(
     made: &mut Made<'a, 't>,
 ) -> Result<(), AllocError>
     requires known { Knows context.now.groupings.now (language_of context.now.named.now) (modules_of context.now.named.now) }
+    requires kept { are_kept_right (language_of context.now.named.now) (row_by source_view uses.children) ≡ true }
     requires uses { is_uses (part_of (label_by source_view uses)
         (row_by source_view uses.children)) ≡ true }
     requires ends { let m = modules_of context.now.named.now in

@@ -5,15 +5,20 @@ use Rattle.yspec.specs.linking.NodeCounts.{node_count}
 use Rattle.yspec.specs.linking.Compiling.{compiled}
 use Rattle.ytext.specs.View.{modules_view}
 use Rattle.yschema_expand.specs.NamedView.{modules_of}
+use Rattle.ylink_grammar.specs.LinkView.{view}
 use Rattle.ylink.specs.LinkedView as statements
 use Rattle.ylink.specs.Told.{seen, told_by, break_view}
 use Rattle.ylink.proofs.LinkingLemmas.{passed}
 use Rattle.yschema.specs.Phases.{target_breaks}
 use Rattle.yschema.proofs.ToldLemmas.{in_expansion, many_told, targets_told}
+use Rattle.yschema_given.proofs.KeepingLemmas.{core_keeps}
 use Rattle.yschema.proofs.building.compile_linked.Goals as goal
 
-pub augmented-requires-clause-core : goal.augmented-requires-clause-core
-augmented-requires-clause-core c = c.new-named.ensures.language
+pub new-named-requires-clause-kept : goal.new-named-requires-clause-kept
+new-named-requires-clause-kept c = core_keeps (view c.sources.result.now)
+
+pub all_nodes-requires-clause-core : goal.all_nodes-requires-clause-core
+all_nodes-requires-clause-core c = c.new-named.ensures.language
 
 pub returns-in-Some : goal.returns-in-Some
 returns-in-Some c =

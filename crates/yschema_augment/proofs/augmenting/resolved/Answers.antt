@@ -1,13 +1,15 @@
 use Rattle.std.proofs.Common.{◌<◌, get_or, length, map, sym, ap, subst, ◌∙◌}
 use Rattle.std.proofs.lemmas.Result.{IfOk-weaker}
 use Rattle.std.proofs.lemmas.List.{length-map}
-use Rattle.yspec.specs.linking.Augments as spec
-use Rattle.yspec.specs.linking.Expansion.{expanded_parts}
+use Rattle.yspec.specs.linking.Augments.{in_turn, target_steps}
+use Rattle.yspec_wide.specs.Expansion as spec
 use Rattle.ybase_index.specs.Index.{texts_of}
+use Rattle.ylink_features.specs.VersionView.{AreVersionsOf}
+use Rattle.ylink_grammar.specs.LinkView.{view}
 use Rattle.yschema_augment.specs.Asking.{AreNames, texts_seen}
 use Rattle.yschema_expand.specs.AugmentView.{augment_view, augments_seen}
 use Rattle.yschema_augment.specs.Hanging.{plain}
-use Rattle.yschema_expand.specs.NamedView.{modules_of}
+use Rattle.yschema_expand.specs.NamedView.{language_of, modules_of}
 use Rattle.yschema_augment.specs.SearchView.{look_by, names_by}
 use Rattle.yschema_augment.specs.Starting.{first_child}
 use Rattle.yschema_expand.specs.TableView.{parts_in, slots_of}
@@ -21,12 +23,15 @@ invariant_of-targets c = record {
   paired = ap length c.as_slice.ensures.value
       ∙ (sym (length-map c.in_ok-texts.field-0.paths.items (λ p. names_by (texts_seen c.in_ok-texts.field-0.texts.items) p.items))
       ∙ (ap length c.in_ok-texts.ensures.paths
-      ∙ (length-map (augments_seen c.args.augments.now) (spec.target_steps (modules_of c.args.named.now))
+      ∙ (length-map (augments_seen c.args.augments.now) (target_steps (modules_of c.args.named.now))
       ∙ length-map c.args.augments.now augment_view)));
+  dated = subst (AreVersionsOf c.in_ok-versions.versions (language_of c.args.named.now)) c.sources.ensures
+      (subst (λ l. AreVersionsOf c.in_ok-versions.versions l (view c.sources.result.now)) c.language.ensures c.in_ok-versions.ensures);
 }
 
 pub resolve-requires : goal.resolve-requires
 resolve-requires c =
+    let l = language_of c.args.named.now in
     let m = modules_of c.args.named.now in
     let augments = augments_seen c.args.augments.now in
     let slots = slots_of c.args.nodes.now in
@@ -35,8 +40,8 @@ resolve-requires c =
     let index = c.in_ok-search.ensures.index in
     let texts = ap texts_of index ∙ c.in_ok-index.ensures.texts in
     let first = c.number_at-first.ensures ∙ ap (get_or starts 0) c.len.ensures in
-    subst (λ paths. Prepared m augments slots starts paths s) (sym c.as_slice.ensures.value)
-    (prepared m augments slots starts (expanded_parts m) c.requires.laid c.requires.starts c.in_ok-texts.field-0.paths.items s
+    subst (λ paths. Prepared l m augments slots starts paths s) (sym c.as_slice.ensures.value)
+    (prepared l m augments slots starts (spec.expanded_parts_in l m) c.requires.laid c.requires.starts c.in_ok-texts.field-0.paths.items s
     (λ above name. ap (λ i. look_by i above name) index ∙ (c.in_ok-index.ensures.look above name
     ∙ ap (λ n. first_child n above name 0 (parts_in c.args.nodes.now)) first))
     (subst (λ ts. AreNames ts slots) (sym texts) c.in_ok-texts.ensures.nodes)
@@ -46,10 +51,11 @@ resolve-requires c =
 
 pub returns : goal.returns
 returns c =
+    let l = language_of c.args.named.now in
     let m = modules_of c.args.named.now in
     let augments = augments_seen c.args.augments.now in
     let slots = slots_of c.args.nodes.now in
     let starts = c.args.starts.now in
-    let own = ap plain (own_is m augments slots starts (expanded_parts m) c.requires.laid c.requires.starts) ∙ plain_numbered 0 (expanded_parts m) in
+    let own = ap plain (own_is l m augments slots starts (spec.expanded_parts_in l m) c.requires.laid c.requires.starts) ∙ plain_numbered 0 (spec.expanded_parts_in l m) in
     IfOk-weaker c.resolve.result _ _
-    (λ r is. is ∙ ap (λ f. spec.in_turn (spec.is_ready m) (spec.applied m) (length augments) f augments) own) c.resolve.ensures
+    (λ r is. is ∙ ap (λ f. in_turn (spec.is_ready_in l m) (spec.applied_in l m) (length augments) f augments) own) c.resolve.ensures

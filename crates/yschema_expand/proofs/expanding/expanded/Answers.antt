@@ -1,4 +1,4 @@
-use Rattle.std.proofs.Common.{rules, ◌≡◌, ◌+◌, suc, None, length, sym, ap, ◌∙◌, subst}
+use Rattle.std.proofs.Common.{rules, true, ◌≡◌, ◌+◌, suc, None, length, sym, ap, ◌∙◌, subst}
 use Rattle.yspec.specs.Forest.{size}
 use Rattle.yspec.specs.linking.Expansion.{laid, groupings_of}
 use Rattle.yspec.specs.linking.Rewriting.{ends_within}
@@ -10,6 +10,8 @@ use Rattle.yschema_expand.specs.NamedView.{language_of, modules_of}
 use Rattle.yschema_expand.specs.Walk.{Adds, AddsParts, nodes_for, breaks_for}
 use Rattle.yschema_expand.specs.declared.expanding.Made.{Made}
 use Rattle.yschema_expand.proofs.WalkLemmas.{adds_join, adds_none, all_pass, begun, depth_of}
+use Rattle.yschema_given.specs.Keeping.{are_kept_right}
+use Rattle.yschema_given.proofs.KeepingLemmas.{kept_parts}
 use Rattle.yschema_expand.proofs.expanding.expanded.Goals as goal
 
 pub loop-top-init : goal.loop-top-init
@@ -23,6 +25,7 @@ loop-top-init c =
     record {
       more = tt;
       ends = tt;
+      kept = ap (are_kept_right l) whole ∙ c.args.named.now.kept;
       so_far = λ final added. subst (λ f. Adds None (expanded_in_from l m groupings f) (unfit_in_from l m groupings f) start final) whole added;
     }
 
@@ -32,6 +35,16 @@ add_nodes-requires-clause-ends c =
     let depth = depth_of m (slots_in c.sources-sources.result.now.table) c.slots.result.now (sym c.sources-sources.ensures) c.slots.ensures in
     all_pass (ends_within m (groupings_of m) (length c.slots.result.now + 1)) (λ u. ap (λ n. ends_within m (groupings_of m) n u) depth ∙ c.requires.0 u)
     (laid (row_by source_view c.children.result))
+
+pub add_nodes-requires-clause-kept : goal.add_nodes-requires-clause-kept
+add_nodes-requires-clause-kept c =
+    let l = language_of c.args.named.now in
+    let after = c.next.new.self in
+    let s = label_by source_view c.in-Some.top in
+    let below = row_by source_view c.in-Some.top.children in
+    let taken = takes_by source_view c.loop-top.top-iterator after c.in-Some.top c.in-Some.ensures.steps in
+    ap (λ r. are_kept_right l (row_by source_view r)) c.children.ensures
+    ∙ (kept_parts l s below (row_by source_view after) (subst (λ f. are_kept_right l f ≡ true) taken c.loop-top.invariant.kept)).1
 
 pub loop-top-preserved : goal.loop-top-preserved
 loop-top-preserved c =
@@ -58,6 +71,7 @@ loop-top-preserved c =
     record {
       more = tt;
       ends = tt;
+      kept = (kept_parts l s below rest (subst (λ f. are_kept_right l f ≡ true) taken c.loop-top.invariant.kept)).2;
       so_far = λ final added. c.loop-top.invariant.so_far final
           (subst (λ f. Adds None (expanded_in_from l m groupings f) (unfit_in_from l m groupings f) now final) (sym taken)
           (adds_join None (nodes_for l m s.home full (laid below)) (expanded_in_from l m groupings rest) (breaks_for l m s.home full (laid below)) (unfit_in_from l m groupings rest) now mid final one added));

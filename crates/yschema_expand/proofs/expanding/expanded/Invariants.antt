@@ -1,4 +1,4 @@
-use Rattle.std.proofs.Common.{None}
+use Rattle.std.proofs.Common.{◌≡◌, true, None}
 use Rattle.yspec.specs.linking.Expansion.{groupings_of}
 use Rattle.yspec_wide.specs.Expansion.{expanded_in_from, unfit_in_from}
 use Rattle.ybase_preorder.specs.View.{row_by}
@@ -6,6 +6,7 @@ use Rattle.ylink_grammar.specs.SourceView.{source_view}
 use Rattle.yschema_expand.specs.NamedView.{language_of, modules_of}
 use Rattle.yschema_expand.specs.Walk.{Adds}
 use Rattle.yschema_expand.specs.declared.expanding.Made.{Made}
+use Rattle.yschema_given.specs.Keeping.{are_kept_right}
 use Rattle.yschema_expand.proofs.expanding.expanded.Given as goal
 
 -- whatever adds the nodes of the modules that are left adds those of all
@@ -17,6 +18,7 @@ invariant-loop-top l =
     record {
       more : (goal.iterator-loop-top).can_next l.top-iterator;
       ends : (goal.iterator-loop-top).is_finite l.top-iterator;
+      kept : are_kept_right language (row_by source_view l.top-iterator) ≡ true;
       so_far : (final : Made) → Adds None (expanded_in_from language m groupings (row_by source_view l.top-iterator)) (unfit_in_from language m groupings (row_by source_view l.top-iterator)) l.made final
           → Adds None (expanded_in_from language m groupings m) (unfit_in_from language m groupings m) l.initial.made final;
     }

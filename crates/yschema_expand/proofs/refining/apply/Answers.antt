@@ -11,7 +11,11 @@ use Rattle.yschema_expand.specs.TableView.{changed_place, refined_part}
 use Rattle.yschema_expand.specs.Targets.{target_in}
 use Rattle.yschema_expand.proofs.IndexedLemmas.{still}
 use Rattle.yschema_expand.proofs.RefineLemmas.{applied, nothing_told, not_applied, told}
+use Rattle.yschema_given.specs.Keeping.{are_kept_right}
 use Rattle.yschema_expand.proofs.refining.apply.Goals as goal
+
+pub refine-requires : goal.refine-requires
+refine-requires c = ap (λ r. are_kept_right (language_view c.args.language.now) (row_by source_view r)) c.children.ensures ∙ c.requires.kept
 
 pub returns-in-Some : goal.returns-in-Some
 returns-in-Some c = record {

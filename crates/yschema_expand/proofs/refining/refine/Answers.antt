@@ -1,4 +1,4 @@
-use Rattle.std.proofs.Common.{◌++◌, ◌∙◌, ◌&&◌, not, sym, ap}
+use Rattle.std.proofs.Common.{◌≡◌, true, subst, ◌++◌, ◌∙◌, ◌&&◌, not, sym, ap}
 use Rattle.std.proofs.lemmas.Option.{IfSome_then}
 use Rattle.yspec.specs.linking.Expansion.{is_refine}
 use Rattle.yspec_wide.specs.Expansion.{after_refine_in, refined_in, refine_breaks_in, is_fit_in}
@@ -12,6 +12,8 @@ use Rattle.ylink_grammar.specs.LanguageView.{language_view}
 use Rattle.ylink_grammar.specs.SourceView.{source_view}
 use Rattle.yschema_expand.proofs.IndexedLemmas.{by_ref}
 use Rattle.yschema_expand.proofs.RefineLemmas.{refined_first, refined_none}
+use Rattle.yschema_given.specs.Keeping.{are_kept_right}
+use Rattle.yschema_given.proofs.KeepingLemmas.{kept_parts}
 use Rattle.yschema_expand.proofs.refining.refine.Goals as goal
 
 pub loop-statement-preserved : goal.loop-statement-preserved
@@ -27,6 +29,7 @@ loop-statement-preserved c =
     record {
       more = tt;
       ends = tt;
+      kept = (kept_parts l s given rest (subst (λ f. are_kept_right l f ≡ true) taken c.loop-statement.invariant.kept)).2;
       indexed = IfSome_then c.loop-statement.index-1 c.loop-statement.invariant.indexed (λ x holds. c.in_ok-apply.ensures.indexed x holds);
       so_far = λ modules nodes earlier parent of_it count at.
           let here = c.loop-statement.invariant.so_far modules nodes earlier parent of_it count at in
@@ -43,8 +46,17 @@ loop-statement-preserved c =
           );
     }
 
-pub apply-requires : goal.apply-requires
-apply-requires c = by_ref c.as_ref.result c.loop-statement.index-1 _ c.as_ref.ensures.value c.loop-statement.invariant.indexed
+pub apply-requires-clause-kept : goal.apply-requires-clause-kept
+apply-requires-clause-kept c =
+    let l = language_view c.args.language.now in
+    let after = c.next.new.self in
+    let s = label_by source_view c.in-Some.statement in
+    let given = row_by source_view c.in-Some.statement.children in
+    let taken = takes_by source_view c.loop-statement.statement-iterator after c.in-Some.statement c.in-Some.ensures.steps in
+    (kept_parts l s given (row_by source_view after) (subst (λ f. are_kept_right l f ≡ true) taken c.loop-statement.invariant.kept)).1
+
+pub apply-requires-clause-index : goal.apply-requires-clause-index
+apply-requires-clause-index c = by_ref c.as_ref.result c.loop-statement.index-1 _ c.as_ref.ensures.value c.loop-statement.invariant.indexed
 
 pub returns : goal.returns
 returns c = λ modules nodes of_it. λ earlier parent count at.

@@ -13,7 +13,11 @@ use Rattle.yschema_expand.specs.Indexing.{part_in}
 use Rattle.yschema_expand.specs.TableView.{slots_of}
 use Rattle.yschema_expand.specs.Targets.{found_at}
 use Rattle.yschema_expand.proofs.IndexedLemmas.{fit_there}
+use Rattle.yschema_given.specs.Keeping.{are_kept_right}
 use Rattle.yschema_expand.proofs.refining.target_in.Goals as goal
+
+pub fit-requires : goal.fit-requires
+fit-requires c = ap (λ r. are_kept_right (language_view c.args.language.now) (row_by source_view r)) c.children.ensures ∙ c.requires.kept
 
 pub returns : goal.returns
 returns c = λ modules earlier parent f of_it count at.

@@ -29,7 +29,7 @@ returns c =
     let mid : Made = record { table = c.open.new.self; told = old.told } in
     let inner = laid (node s below end) in
     let whole = tolls_node (toll_for m depth) (case_for (part_of s below)) inner refl in
-    on_ok_weaker c.add_alone.result (λ leads. leaves_behind (Does l m) (toll m) (TaskEnds m) (AddsParts l m (Some n) owner depth inner) (AddsParts l m parent owner depth (node (case_for (part_of s below)) inner end))
+    on_ok_weaker c.add_alone.result (λ leads. leaves_behind (Does l m) (toll m) (TaskEnds l m) (AddsParts l m (Some n) owner depth inner) (AddsParts l m parent owner depth (node (case_for (part_of s below)) inner end))
     (toll_of m depth (size (row_view c.args.statement.children)) inner) (toll_of m depth (size (row_view c.args.statement.children)) (node (case_for (part_of s below)) inner end)) (Close n) c.args.tasks.now.items
     c.add_alone.new.tasks.items old mid c.add_alone.new.made
     (λ full final added closed. adds_node l m owner depth parent (case_for (part_of s below)) inner c.new-label.result n old mid full final refl c.new-label.ensures

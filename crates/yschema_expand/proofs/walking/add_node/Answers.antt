@@ -1,4 +1,4 @@
-use Rattle.std.proofs.Common.{◌≡◌, ◌++◌, cond, suc, [], ◌∷◌, arith, sym, ap, ap₂, ◌∙◌, refl, subst, Some}
+use Rattle.std.proofs.Common.{◌≡◌, ◌++◌, true, cond, suc, [], ◌∷◌, arith, sym, ap, ap₂, ◌∙◌, refl, subst, Some}
 use Rattle.yspec.specs.Forest.{end, node, size}
 use Rattle.yspec.specs.linking.Keyword.{same_keyword, choice_word}
 use Rattle.yspec.specs.linking.Parts.{part_of, within, as_cases}
@@ -15,6 +15,9 @@ use Rattle.yschema_expand.specs.declared.walking.Task.TheVariants.{Add, Close}
 use Rattle.yschema_expand.proofs.TaskLemmas.{tolls_node}
 use Rattle.yschema_expand.proofs.TurnLemmas.{leaves_behind, leaves_task}
 use Rattle.yschema_expand.proofs.WalkLemmas.{adds_node}
+use Rattle.ybase_preorder.specs.declared.siblings.Siblings.{Siblings}
+use Rattle.ylink_grammar.specs.declared.source.Source as held
+use Rattle.yschema_given.specs.Keeping.{are_kept_right}
 use Rattle.yschema_expand.proofs.walking.add_node.Goals as goal
 
 pub returns : goal.returns
@@ -41,9 +44,9 @@ returns c =
     let whole = tolls_node (toll_for m depth) (part_of s below) inner c.requires.node in
     let items = c.in_ok-push-2.ensures.items ∙ ap (λ ts. ts ++ t ∷ []) c.in_ok-push.ensures.items in
     subst (λ ts. Leads l m (AddsParts l m parent owner depth (node (part_of s below) inner end)) (toll_of m depth (size (row_view c.args.statement.children)) (node (part_of s below) inner end)) c.args.tasks.now.items ts old mid) (sym items)
-    (leaves_behind (Does l m) (toll m) (TaskEnds m) (Does l m t) (AddsParts l m parent owner depth (node (part_of s below) inner end)) (suc (toll m t)) (toll_of m depth (size (row_view c.args.statement.children)) (node (part_of s below) inner end)) (Close n) c.args.tasks.now.items
+    (leaves_behind (Does l m) (toll m) (TaskEnds l m) (Does l m t) (AddsParts l m parent owner depth (node (part_of s below) inner end)) (suc (toll m t)) (toll_of m depth (size (row_view c.args.statement.children)) (node (part_of s below) inner end)) (Close n) c.args.tasks.now.items
     ((c.args.tasks.now.items ++ Close n ∷ []) ++ t ∷ []) old mid mid
     (λ full final added closed. adds_node l m owner depth parent (part_of s below) inner c.new-label.result n old mid full final c.requires.node c.new-label.ensures
     c.in_ok-number.ensures.laid c.in_ok-number.ensures.number refl (subst (λ f. AddsParts l m (Some n) owner depth f mid full) inside added) closed.0 closed.1)
     tt (omega (arith, cost, count, whole))
-    (leaves_task (Does l m) (toll m) (TaskEnds m) t (c.args.tasks.now.items ++ Close n ∷ []) mid (subst (AllEnd m depth) (sym inside) c.requires.ends)))
+    (leaves_task (Does l m) (toll m) (TaskEnds l m) t (c.args.tasks.now.items ++ Close n ∷ []) mid (subst (AllEnd m depth) (sym inside) c.requires.ends, subst (λ (r : Siblings held.Source). are_kept_right l (row_by source_view r) ≡ true) (sym c.children.ensures) c.requires.kept)))

@@ -23,7 +23,7 @@ returns-then-not-is_laid c =
     let s = label_by source_view c.args.statement in
     let below = row_by source_view c.args.statement.children in
     let other : is_laid s ≡ false = sym c.is_laid.ensures ∙ c.if-not-is_laid.true in
-    leaves_none (Does l m) (toll m) (TaskEnds m) (AddsParts l m parent owner depth (chosen c.args.in_choice (laid (node s below end)))) _ c.args.tasks.now.items c.args.made.now c.args.made.now
+    leaves_none (Does l m) (toll m) (TaskEnds l m) (AddsParts l m parent owner depth (chosen c.args.in_choice (laid (node s below end)))) _ c.args.tasks.now.items c.args.made.now c.args.made.now
     (adds_nothing l m owner depth parent (chosen c.args.in_choice (laid (node s below end))) c.args.made.now (chosen_empty c.args.in_choice (laid (node s below end)) (laid_none s below other)))
 
 pub add_case-requires-clause-ends : goal.add_case-requires-clause-ends

@@ -1,4 +1,4 @@
-use Rattle.std.proofs.Common.{rules, ◌≡◌, ◌++◌, ◌+◌, ◌-◌, length, arith, sym, ap, ap₂, ◌∙◌, subst}
+use Rattle.std.proofs.Common.{rules, true, ◌≡◌, ◌++◌, ◌+◌, ◌-◌, length, arith, sym, ap, ap₂, ◌∙◌, subst}
 use Rattle.std.proofs.lemmas.Result.{on_ok_weaker}
 use Rattle.yspec.specs.Forest.{end, node, size}
 use Rattle.yspec.specs.linking.Parts.{part_of}
@@ -22,6 +22,9 @@ use Rattle.yschema_expand.specs.declared.walking.Task.TheVariants.{Change}
 use Rattle.yschema_expand.proofs.TaskLemmas.{tolls_uses, toll_less}
 use Rattle.yschema_expand.proofs.TurnLemmas.{leaves_behind}
 use Rattle.yschema_expand.proofs.WalkLemmas.{ends_so, nodes_uses, breaks_uses, stands_so, unfit_so}
+use Rattle.ybase_preorder.specs.declared.siblings.Siblings.{Siblings}
+use Rattle.ylink_grammar.specs.declared.source.Source as held
+use Rattle.yschema_given.specs.Keeping.{are_kept_right}
 use Rattle.yschema_expand.proofs.walking.add_uses.Goals as goal
 
 pub returns-then-place-eq0 : goal.returns-then-place-eq0
@@ -60,7 +63,7 @@ returns c =
     let own = row_by source_view c.children.result in
     let same : own ≡ below = ap (row_by source_view) c.children.ensures in
     let cost = tolls_uses (toll_for m depth) u c.requires.uses ∙ toll_less m depth u some in
-    on_ok_weaker c.add_grouping.result (λ leads. leaves_behind (Does l m) (toll m) (TaskEnds m) (AddsParts l m parent owner (depth - 1) row) (AddsParts l m parent owner depth (node u end end))
+    on_ok_weaker c.add_grouping.result (λ leads. leaves_behind (Does l m) (toll m) (TaskEnds l m) (AddsParts l m parent owner (depth - 1) row) (AddsParts l m parent owner depth (node u end end))
     (toll_of m (depth - 1) (size m) row + 1) (toll_of m depth (size (row_view c.args.uses.children)) (node u end end)) t c.args.tasks.now.items c.add_grouping.new.tasks.items old old c.add_grouping.new.made
     (λ full final added refines.
     let done = refines inner (parts_in old.table) parent count (added.0 ∙ ap (λ k. parts_in old.table ++ places parent k inner) (sym c.len-first.ensures)) in (
@@ -70,7 +73,7 @@ returns c =
           ∙ (sym (least_of_both (seen old.told) inside (refine_breaks_in l m owner below inner))
           ∙ ap (least_from (seen old.told)) (sym (unfit_so l m owner s below depth some) ∙ sym (breaks_uses l m owner depth u c.requires.uses)))),
     ))
-    tt (omega (arith, cost))
+    (subst (λ (r : Siblings held.Source). are_kept_right l (row_by source_view r) ≡ true) (sym c.children.ensures) c.requires.kept) (omega (arith, cost))
     (subst (λ ts. Leads l m (AddsParts l m parent owner (depth - 1) row) (toll_of m (depth - 1) (size m) row + 1) ts c.add_grouping.new.tasks.items old c.add_grouping.new.made) c.in_ok-push.ensures.items
     (subst (λ n. Leads l m (AddsParts l m parent owner (depth - 1) (row_named m n)) (toll_of m (depth - 1) (size m) (row_named m n) + 1) c.push.new.self.items c.add_grouping.new.tasks.items old c.add_grouping.new.made) c.number.ensures leads)))
     c.add_grouping.ensures

@@ -1,4 +1,4 @@
-use Rattle.std.proofs.Common.{◌++◌, OnOk, refl, sym, ap, ◌∙◌, subst}
+use Rattle.std.proofs.Common.{◌≡◌, ◌++◌, true, OnOk, refl, sym, ap, ◌∙◌, subst}
 use Rattle.yspec.specs.Forest.{Forest}
 use Rattle.yspec.specs.linking.Parts.{Part, own_of}
 use Rattle.yspec_wide.specs.Expansion.{refined_in, refine_breaks_in}
@@ -11,8 +11,17 @@ use Rattle.yschema_expand.specs.Tasks.{changed_by}
 use Rattle.yschema_expand.specs.Walk.{Changes}
 use Rattle.yschema_expand.specs.declared.expanding.Made.{Made}
 use Rattle.yschema_expand.proofs.ConditionLemmas.{then_conditioned}
-use Rattle.yschema_expand.proofs.KeepingLemmas.{none_conditioned, none_own}
+use Rattle.yschema_given.specs.Keeping.{are_kept_right}
+use Rattle.yschema_given.proofs.KeepingLemmas.{none_conditioned, none_own}
 use Rattle.yschema_expand.proofs.walking.change.Goals as goal
+
+pub refine-requires : goal.refine-requires
+refine-requires c =
+    subst (λ x. are_kept_right x (row_by source_view c.args.statements) ≡ true) (sym c.language-language.ensures) c.requires
+
+pub condition_from-requires : goal.condition_from-requires
+condition_from-requires c =
+    subst (λ x. are_kept_right x (row_by source_view c.args.statements) ≡ true) (sym c.language-language.ensures) c.requires
 
 pub returns-then-not-bears_condition : goal.returns-then-not-bears_condition
 returns-then-not-bears_condition c =

@@ -2,8 +2,8 @@ use Rattle.std.proofs.Common.{◌≡◌, ◌∙◌, ◌<◌, false, true, Some, 
 use Rattle.ybase_index.specs.Index.{texts_of}
 use Rattle.yschema_expand.specs.AugmentView.{augments_seen}
 use Rattle.yschema_augment.specs.Arranging.{rows_of}
-use Rattle.yschema_expand.specs.NamedView.{modules_of}
-use Rattle.yschema_augment.specs.Picking.{is_waiting, count_left, AllSettled, Picks}
+use Rattle.yschema_expand.specs.NamedView.{language_of, modules_of}
+use Rattle.yschema_augment.specs.Picking.{are_old, is_waiting, count_left, AllSettled, Picks}
 use Rattle.yschema_augment.specs.SearchView.{AreTexts}
 use Rattle.yschema_expand.specs.TableView.{slots_of}
 use Rattle.yschema_augment.specs.Turning.{Goes}
@@ -13,7 +13,7 @@ use Rattle.yschema_augment.proofs.ResolvingLemmas.{goes_on, goes_end}
 use Rattle.yschema_augment.proofs.targets.Targets.resolve.Goals as goal
 
 pub next-requires-clause-settled : goal.next-requires-clause-settled
-next-requires-clause-settled c = subst (λ ws. AllSettled (slots_of c.args.self.now.nodes.now) (augments_seen c.args.self.now.augments.now) c.args.self.now.paths.now ws c.loop-applied.search)
+next-requires-clause-settled c = subst (λ ws. AllSettled (are_old c.args.self.now.named.now) (slots_of c.args.self.now.nodes.now) (augments_seen c.args.self.now.augments.now) c.args.self.now.paths.now ws c.loop-applied.search)
     (sym c.deref.ensures.value) c.loop-applied.invariant.settled
 
 pub apply-requires-clause-sound : goal.apply-requires-clause-sound
@@ -42,6 +42,7 @@ loop-applied-smaller c =
 
 pub loop-applied-preserved : goal.loop-applied-preserved
 loop-applied-preserved c =
+    let l = language_of c.args.self.now.named.now in
     let m = modules_of c.args.self.now.named.now in
     let augments = augments_seen c.args.self.now.augments.now in
     let slots = slots_of c.args.self.now.nodes.now in
@@ -50,14 +51,15 @@ loop-applied-preserved c =
     let a = c.in-Some.applied in
     let waits = c.loop-applied.waits.items in
     let order = c.loop-applied.order.items in
-    let picks : Picks slots augments paths waits (Some a) c.loop-applied.search c.next.new.search =
-    subst (λ ws. Picks slots augments paths ws (Some a) c.loop-applied.search c.next.new.search) c.deref.ensures.value c.in-Some.ensures in
-    subst (λ as_pushed. Goes m augments slots starts paths c.args.search.now (set waits a.augment false) as_pushed c.apply.new.search) (sym c.in_ok-push.ensures.items)
-    (goes_on m augments slots starts paths c.args.search.now c.loop-applied.search c.next.new.search c.apply.new.search waits order a c.requires c.loop-applied.invariant
+    let picks : Picks (are_old c.args.self.now.named.now) slots augments paths waits (Some a) c.loop-applied.search c.next.new.search =
+    subst (λ ws. Picks (are_old c.args.self.now.named.now) slots augments paths ws (Some a) c.loop-applied.search c.next.new.search) c.deref.ensures.value c.in-Some.ensures in
+    subst (λ as_pushed. Goes l m augments slots starts paths c.args.search.now (set waits a.augment false) as_pushed c.apply.new.search) (sym c.in_ok-push.ensures.items)
+    (goes_on l m augments slots starts paths c.args.search.now c.loop-applied.search c.next.new.search c.apply.new.search waits order a c.requires c.loop-applied.invariant
     picks.0 picks.1 picks.2 c.in_ok-apply.ensures)
 
 pub loop-applied-init : goal.loop-applied-init
 loop-applied-init c =
+    let l = language_of c.args.self.now.named.now in
     let m = modules_of c.args.self.now.named.now in
     let augments = augments_seen c.args.self.now.augments.now in
     let slots = slots_of c.args.self.now.nodes.now in
@@ -65,17 +67,18 @@ loop-applied-init c =
     let paths = c.args.self.now.paths.now in
     let s = c.args.search.now in
     let paired : length c.args.self.now.augments.now ≡ length paths = sym c.args.self.now.paired in
-    subst (λ ws. Goes m augments slots starts paths s ws c.new-order.result.items c.start.new.search) (ap (λ n. replicate n true) paired ∙ sym c.in_ok-waits.ensures)
-    (subst (λ o. Goes m augments slots starts paths s (replicate (length c.args.self.now.augments.now) true) o c.start.new.search) (sym c.new-order.ensures.items) c.in_ok-start.ensures)
+    subst (λ ws. Goes l m augments slots starts paths s ws c.new-order.result.items c.start.new.search) (ap (λ n. replicate n true) paired ∙ sym c.in_ok-waits.ensures)
+    (subst (λ o. Goes l m augments slots starts paths s (replicate (length c.args.self.now.augments.now) true) o c.start.new.search) (sym c.new-order.ensures.items) c.in_ok-start.ensures)
 
 pub returns : goal.returns
 returns c =
+    let l = language_of c.args.self.now.named.now in
     let m = modules_of c.args.self.now.named.now in
     let augments = augments_seen c.args.self.now.augments.now in
     let slots = slots_of c.args.self.now.nodes.now in
     let starts = c.args.self.now.starts.now in
     let paths = c.args.self.now.paths.now in
     let waits = c.loop-applied.waits.items in
-    let picks : Picks slots augments paths waits None c.loop-applied.search c.next.new.search =
-    subst (λ ws. Picks slots augments paths ws None c.loop-applied.search c.next.new.search) c.deref.ensures.value c.in_default.ensures in
-    goes_end m augments slots starts paths c.args.search.now c.loop-applied.search c.next.new.search waits c.loop-applied.order.items c.requires c.loop-applied.invariant picks.0 picks.1
+    let picks : Picks (are_old c.args.self.now.named.now) slots augments paths waits None c.loop-applied.search c.next.new.search =
+    subst (λ ws. Picks (are_old c.args.self.now.named.now) slots augments paths ws None c.loop-applied.search c.next.new.search) c.deref.ensures.value c.in_default.ensures in
+    goes_end l m augments slots starts paths c.args.search.now c.loop-applied.search c.next.new.search waits c.loop-applied.order.items c.requires c.loop-applied.invariant picks.0 picks.1

@@ -9,7 +9,9 @@ use Rattle.ybase_preorder.specs.View.{row_by, row_view, slots_in}
 use Rattle.ybase_preorder.proofs.LabelLemmas.{size-by}
 use Rattle.ybase_preorder.proofs.RowLemmas.{size_forest}
 use Rattle.ylink_grammar.specs.SourceView.{source_view}
-use Rattle.yschema_expand.specs.NamedView.{row_or_none}
+use Rattle.yschema_expand.specs.NamedView.{language_of, row_or_none}
+use Rattle.yschema_given.specs.Keeping.{are_kept_right}
+use Rattle.yschema_given.proofs.KeepingLemmas.{kept_below}
 use Rattle.yschema_expand.proofs.GroupingLemmas.{laid_end, row_there, row_other, row_nowhere}
 use Rattle.yschema_expand.proofs.named.Named.grouping.Goals as goal
 
@@ -57,3 +59,15 @@ returns-else-is-clause-row c =
     let there : slice_get rows number ≡ Some c.in_ok-slot.slot.now = ap (λ l. slice_get l number) (sym c.slots.ensures)
     ∙ slice_get_read c.slots.result.now (length c.slots.result.now) number c.in_ok-slot.slot.now refl found.3.0 found.1 in
     laid_end ∙ row_other rows number c.in_ok-slot.slot.now there (sym c.is.ensures ∙ c.if-is.false)
+
+pub returns-then-is-clause-kept : goal.returns-then-is-clause-kept
+returns-then-is-clause-kept c =
+    let l = language_of c.args.self.now in
+    let rows = slots_in c.args.self.now.sources.now.table in
+    let number = c.args.number in
+    let slot = c.in_ok-slot.slot.now in
+    let found = c.in_ok-slot.ensures.lookup in
+    let there : slice_get rows number ≡ Some slot = ap (λ l. slice_get l number) (sym c.slots.ensures)
+    ∙ slice_get_read c.slots.result.now (length c.slots.result.now) number slot refl found.3.0 found.1 in
+    ap (are_kept_right l) (c.below.ensures.row slot there)
+    ∙ kept_below l rows slot.below (number + 1) (number + 1) c.args.self.now.kept

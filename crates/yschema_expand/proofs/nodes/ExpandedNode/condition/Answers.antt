@@ -7,4 +7,4 @@ pub returns : goal.returns
 returns c =
     let node = c.args.self.now in
     ap (λ given. with_given given (plain_part node)) c.in_ok-push.ensures.items
-    ∙ given_last node.given.items c.in_ok-given.given (plain_part node) _ (c.in_ok-given.ensures (part_view node).own)
+    ∙ given_last node.given.items c.of_conditions.result (plain_part node) _ (c.of_conditions.ensures (part_view node).own)

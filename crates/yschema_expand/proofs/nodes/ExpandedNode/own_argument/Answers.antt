@@ -4,7 +4,7 @@ use Rattle.yspec.specs.linking.Source.{argument_with}
 use Rattle.ybase_words.specs.KeywordView.{keyword_view}
 use Rattle.yschema_expand.specs.NamedView.{row_or_none}
 use Rattle.yschema_expand.specs.NodeView.{part_view}
-use Rattle.yschema_expand.proofs.StatingLemmas.{same_argument}
+use Rattle.yschema_given.proofs.StatingLemmas.{same_argument}
 use Rattle.yschema_expand.proofs.nodes.ExpandedNode.own_argument.Goals as goal
 
 pub returns-in_err-row_stating : goal.returns-in_err-row_stating

@@ -1,9 +1,10 @@
 use Rattle.std.proofs.Common.{sym, subst}
 use Rattle.ybase_words.specs.KeywordView.{keyword_view}
 use Rattle.yschema_expand.specs.NamedView.{row_or_none}
-use Rattle.yschema_expand.specs.NodeView.{part_view, plain_part, stated_after}
-use Rattle.yschema_expand.specs.Stating.{SameFor}
-use Rattle.yschema_expand.proofs.StatingLemmas.{own_same, stated_same, turned, next_given}
+use Rattle.yschema_expand.specs.NodeView.{part_view, plain_part}
+use Rattle.yschema_given.specs.GivenView.{stated_after}
+use Rattle.yschema_given.specs.Stating.{SameFor}
+use Rattle.yschema_given.proofs.StatingLemmas.{own_same, stated_same, turned, next_given}
 use Rattle.yschema_expand.proofs.nodes.ExpandedNode.row_stating.Goals as goal
 
 pub loop-given-init : goal.loop-given-init

@@ -1,8 +1,9 @@
 use Rattle.std.proofs.Common.{drop}
 use Rattle.ybase_words.specs.KeywordView.{keyword_view}
 use Rattle.yschema_expand.specs.NamedView.{row_or_none}
-use Rattle.yschema_expand.specs.NodeView.{part_view, stated_after}
-use Rattle.yschema_expand.specs.Stating.{SameFor}
+use Rattle.yschema_expand.specs.NodeView.{part_view}
+use Rattle.yschema_given.specs.GivenView.{stated_after}
+use Rattle.yschema_given.specs.Stating.{SameFor}
 use Rattle.yschema_expand.proofs.nodes.ExpandedNode.row_stating.Given as goal
 
 -- with all that is left it is what the node states

@@ -1,0 +1,3 @@
+pub mod KeepingLemmas
+pub mod StatingLemmas
+pub mod HoldingLemmas

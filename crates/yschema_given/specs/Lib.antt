@@ -1,0 +1,4 @@
+pub mod Keeping
+pub mod GivenView
+pub mod Stating
+pub mod Holding
