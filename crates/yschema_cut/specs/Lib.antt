@@ -1,0 +1,4 @@
+pub mod Totals
+pub mod Keeping
+pub mod Defaults
+pub mod Cutting
