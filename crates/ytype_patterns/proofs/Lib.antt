@@ -5,3 +5,5 @@ mod BuiltLemmas
 pub mod SetLemmas
 mod ClassLemmas
 pub mod MeansLemmas
+pub mod ReadingLemmas
+pub mod PatternLemmas

@@ -69,6 +69,13 @@ fn white(alloc: Global) -> Result<Class, AllocError>
     either(&within(alloc, '\t', '\n')?, &ends)
 }
 
+/// Any character but a line feed and a carriage return.
+pub(crate) fn wildcard(alloc: Global) -> Result<Class, AllocError>
+    ensures { IfOk result (λ class. in_ranges class.ranges.items ≡ spec.wildcard) }
+{
+    outside(&either(&within(alloc, '\n', '\n')?, &within(alloc, '\r', '\r')?)?)
+}
+
 fn words(alloc: Global) -> Result<Class, AllocError>
     ensures { IfOk result (λ class. in_ranges class.ranges.items ≡ spec.words) }
 {

@@ -1,0 +1,5 @@
+//! Tests of patterns.
+#![tactic(auto)]
+
+#[cfg(test)]
+mod patterns;
