@@ -12,7 +12,7 @@ use Rattle.yspec.specs.document.Fitting.{Fits, FitsBy, next_after}
 use Rattle.yspec.specs.document.StateData.{Inspected, inspected, is_state, configuration_tree, state_faults}
 use Rattle.yspec.specs.document.Writing.{HasForm, HasTextIf, IsDocument}
 use Rattle.yspec.proofs.DocumentProofs.SortingLemmas.{child_number, fits_sooner, not_before}
-use Rattle.yspec.proofs.LinkingProofs.ConfigurationLemmas.{data_row_kept, kept_by, value_kept}
+use Rattle.yspec_fit.proofs.ConfigurationLemmas.{data_row_kept, kept_by, value_kept}
 
 -- ---- rows
 

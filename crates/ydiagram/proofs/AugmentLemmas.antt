@@ -13,7 +13,7 @@ use Rattle.yspec.specs.schema.Diagram as spec
 use Rattle.yspec.specs.schema.Diagram.{those_of, part_text, augment_part, row_width, label_width, module_part, owned_by, diagram}
 use Rattle.yspec.specs.schema.Schema.{module_name, module_prefix, augments_in}
 use Rattle.yspec.specs.document.Fitting.{IsNumbered}
-use Rattle.yschema_model.specs.Ascending.{ascends_from, all_ascend}
+use Rattle.yspec_fit.specs.Fit.{ascends_from, all_ascend}
 use Rattle.yschema_model.specs.Lookup.{alone, way_above}
 use Rattle.yschema_model.specs.declared.children.Child.{Child}
 use Rattle.yschema_model.specs.View.{label_of, below_of, child_view}

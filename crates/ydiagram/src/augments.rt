@@ -5,7 +5,7 @@ ghost use Rattle.std.specs.List.{flat_map};
 ghost use Rattle.yspec.specs.schema.Schema.{way_to};
 ghost use Rattle.yspec.specs.schema.Diagram as spec;
 ghost use Rattle.ybase_output.specs.Writing.{Writes, side};
-ghost use Rattle.yschema_model.specs.Ascending.{all_ascend, ascends_from};
+ghost use Rattle.yspec_fit.specs.Fit.{all_ascend, ascends_from};
 ghost use Rattle.yschema_model.specs.Layout.{numbers_of};
 ghost use Rattle.yschema_model.specs.View.{augment_view, view};
 ghost use Rattle.ydiagram.specs.View.{added_row, augments_seen, augments_written, row_written, starts_elsewhere, target_step};

@@ -5,7 +5,7 @@ use Rattle.yspec.specs.text.Text.{Text}
 use Rattle.yspec.specs.schema.Schema.{Schema, SchemaNode, is_data, is_module, module_name, data_row, written_name, children_of}
 use Rattle.yspec.specs.document.Writing.{IsNamed, NodesAreNamed, HasItsName, RowIsNamed, ModulesDiffer, IsNew, RowDiffers, AllDiffer}
 use Rattle.yspec.proofs.DocumentProofs.WrittenNameLemmas.{row_differs}
-use Rattle.yspec.proofs.LinkingProofs.LinkedSchemaLemmas.{modules_differ_of, nodes_named_of}
+use Rattle.yspec_fit.proofs.FitLemmas.{modules_differ_of, nodes_named_of}
 use Rattle.yschema_model.specs.View.{view}
 use Rattle.yschema_model.specs.declared.schema.Schema as model
 use Rattle.yschema_model.proofs.CallerLemmas.{names_differ}
@@ -93,10 +93,10 @@ all_apart s parent (node n below after) modules named differ all =
 -- ---- of every schema
 
 pub top_apart : (s : model.Schema) → RowApart (view s) (view s).nodes
-top_apart s = row_apart (view s) None (view s).nodes (modules_differ_of (view s) s.made) (nodes_named_of (view s) s.made) (names_differ s).0
+top_apart s = row_apart (view s) None (view s).nodes (modules_differ_of (view s) s.fit) (nodes_named_of (view s) s.fit) (names_differ s).0
 
 pub nodes_apart : (s : model.Schema) → AllApart (view s) (view s).nodes
-nodes_apart s = all_apart (view s) None (view s).nodes (modules_differ_of (view s) s.made) (nodes_named_of (view s) s.made) (names_differ s).0 (names_differ s).1
+nodes_apart s = all_apart (view s) None (view s).nodes (modules_differ_of (view s) s.fit) (nodes_named_of (view s) s.fit) (names_differ s).0 (names_differ s).1
 
 -- ---- below the node of a number
 

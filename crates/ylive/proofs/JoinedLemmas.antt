@@ -13,7 +13,8 @@ use Rattle.yspec.specs.document.Instances.{times_in, value_of}
 use Rattle.yspec.specs.document.Faults.{Times, RowTimes, row_times, faults_at, faults_of}
 use Rattle.ycheck.specs.Targets.{required_target}
 use Rattle.ycheck.specs.Walk.{marks_told}
-use Rattle.yspec_play.specs.Merging.{CasesInChoices, absences_below}
+use Rattle.yspec_fit.specs.Fit.{CasesInChoices}
+use Rattle.yspec_play.specs.Merging.{absences_below}
 use Rattle.ylive_list.specs.Listed.{absences_of, judged_told, is_item, list_told, own_told}
 use Rattle.ylive_list.specs.Telling as listing
 use Rattle.ylive_list.specs.Telling.{Tells, TellsAt, TellsBelow}

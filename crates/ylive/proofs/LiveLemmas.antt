@@ -23,7 +23,7 @@ use Rattle.yinst_path.specs.declared.edit.EditCode.{EditCode}
 use Rattle.yinst_path.specs.declared.edit.EditFault.{EditFault}
 use Rattle.yinst_path.specs.declared.edit.EditFault.TheVariants.{Refused, Memory}
 use Rattle.yspec_reach.specs.Reach.{reach}
-use Rattle.yspec_play.proofs.PlacedLemmas.{cases_of}
+use Rattle.yspec_fit.proofs.FitLemmas.{cases_of}
 use Rattle.ylive_list.specs.Listed.{list_told}
 use Rattle.ystore.specs.Store.{CountsOne, Stays, loans, node_count, reads, total_at}
 use Rattle.ystore_rows.specs.declared.row.Row.TheVariants.{Top}
@@ -174,12 +174,12 @@ module _ (schema : rust.Schema) (nodes : Nodes) (t : Tree) (holds : HoldsTold (s
   -- the total of the top is how many faults there are
   pub total_is : total_at nodes Top ≡ length (faults_of s t)
   total_is =
-      count_is s nodes holds.branches (tree_kept nodes holds.branches holds.keeps) holds.told (numbered schema) (cases_of s schema.made) branches_fit
+      count_is s nodes holds.branches (tree_kept nodes holds.branches holds.keeps) holds.told (numbered schema) (cases_of s schema.fit) branches_fit
       ∙ ap (λ (t : Tree). length (faults_of s t)) holds.is_tree
 
   all_are : list_told s nodes ≡ faults_of s t
   all_are =
-      faults_is s nodes holds.branches (tree_kept nodes holds.branches holds.keeps) holds.told (numbered schema) (cases_of s schema.made) branches_fit
+      faults_is s nodes holds.branches (tree_kept nodes holds.branches holds.keeps) holds.told (numbered schema) (cases_of s schema.fit) branches_fit
       ∙ ap (faults_of s) holds.is_tree
 
 -- the faults of a document that isn't stale

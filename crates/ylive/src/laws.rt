@@ -4,7 +4,7 @@ ghost use Rattle.std.specs.Prelude.{◌≡◌, false, length};
 ghost use Rattle.yspec.specs.schema.Schema.{Schema};
 ghost use Rattle.yspec.specs.document.Fitting.{Fits, IsNumbered};
 ghost use Rattle.yspec.specs.document.Faults.{faults_of};
-ghost use Rattle.yspec_play.specs.Merging.{CasesInChoices};
+ghost use Rattle.yspec_fit.specs.Fit.{CasesInChoices};
 ghost use Rattle.ylive_list.specs.Listed.{list_told};
 ghost use Rattle.ylive_list.specs.Telling.{Tells};
 ghost use Rattle.ystore.specs.Store.{total_at};

@@ -1,23 +1,12 @@
 -- Below a choice stand cases alone, and what is near below them is near below it.
 use Rattle.std.proofs.Common.{◌≡◌, ℕ, suc, ◌+◌, ◌*◌, ◌≤◌, Bool, true, false, cond, Option, Some, None, Ok, refl, sym, ap, ◌∙◌, subst, arith}
-use Rattle.std.specs.Coded.{Coded-set, coded_bool, ×_prop, Unit-prop}
-use mathlib.Core.HLevel.{×₃_prop}
 use Rattle.std.proofs.lemmas.Nat.{mul-le}
 use Rattle.yspec.specs.Forest.{Forest, end, node, size, levels, weigh, relabelled, find_below, joined_below}
-use Rattle.yspec.specs.text.Statement.{Statement}
 use Rattle.std.specs.Prelude.{◌==◌, ◌||◌, is_some, unwrap_or}
 use Rattle.std.specs.Option.{option_map_or}
 use Rattle.yspec.specs.schema.Schema.{Schema, SchemaNode, Kind, container, leaf, leaf_list, list, choice, case, is_data, node_in, row_at}
-use Rattle.yspec.specs.schema.Configuration.{unasked, asked_node}
-use Rattle.yspec.specs.linking.Keyword.{Keyword, same_keyword, case_word, choice_word}
-use Rattle.yspec.specs.linking.Parts.{Part}
-use Rattle.yspec.specs.linking.Planned.{Planned, Plan, Around, planned_node, around_below, planned}
-use Rattle.yspec.specs.linking.SchemaNodes.{kind_by, schema_node}
-use Rattle.yspec.specs.linking.Compiling.{compiled, IsMade}
-use Rattle.yspec.proofs.LinkingProofs.ConfigurationLemmas.{made_has, kept_by}
-use Rattle.yspec.proofs.LinkingProofs.KeywordLemmas.{by_definition, same_is}
-use Rattle.yspec.proofs.LinkingProofs.RightPartLemmas.{AllCases, AreRight}
-use Rattle.yspec.proofs.LinkingProofs.LinkedLemmas.{plan_in, compiles, right_plan}
+use Rattle.yspec_fit.specs.Fit.{is_case, AreCases, HoldCases, ChoicesHoldCases, IsFit}
+use Rattle.yspec_fit.proofs.FitLemmas.{choices_of}
 use Rattle.yspec_play.specs.Over.{child_over}
 use Rattle.yspec_reach.specs.Sizes as sizes
 use Rattle.yspec_reach.specs.Sizes.{breadth, name_count, near_count, starts_anew}
@@ -30,92 +19,17 @@ abbrev AreOpen : Forest SchemaNode → Type 0
 AreOpen end = Unit {0}
 AreOpen (node n below after) = (starts_anew n.kind ≡ false) × AreOpen after
 
-abbrev IsOpen : Kind → Forest SchemaNode → Type 0
-IsOpen (choice default_case is_mandatory) below = AreOpen below
-IsOpen _ below = Unit {0}
+open_case : (k : Kind) → is_case k ≡ true → starts_anew k ≡ false
+open_case (container presence) is = absurd cc
+open_case (leaf type absence) is = absurd cc
+open_case (leaf_list type defaults amount) is = absurd cc
+open_case (list tuples amount) is = absurd cc
+open_case (choice default_case is_mandatory) is = absurd cc
+open_case case is = refl
 
-abbrev pub HoldCases : Forest SchemaNode → Type 0
-HoldCases end = Unit {0}
-HoldCases (node n below after) = IsOpen n.kind below × HoldCases below × HoldCases after
-
-open_of : (plan : Plan) (next : ℕ) (around : Around) (f : Forest Part) → AllCases f → AreOpen (relabelled (schema_node plan) (planned next around f))
-unfolding planned
-open_of plan next around end all = tt
-open_of plan next around (node p below after) all = (
-  sym (ap (λ k. starts_anew (kind_by plan (planned_node next around p) k)) (same_is case_word p.source.keyword all.0)),
-  open_of plan (next + suc (size below)) around after all.1,
-)
-
-cases_of : (plan : Plan) (count next : ℕ) (around : Around) (f : Forest Part) → AreRight count f → HoldCases (relabelled (schema_node plan) (planned next around f))
-unfolding planned
-cases_of plan count next around end right = tt
-cases_of plan count next around (node p below after) right =
-    let inner = planned (next + 1) (around_below next around p) below in (
-      by_definition p.source.keyword (λ k. (same_keyword choice_word k ≡ true → AllCases below) → IsOpen (kind_by plan (planned_node next around p) k) (relabelled (schema_node plan) inner))
-          (λ all. tt) (λ all. tt) (λ all. tt) (λ all. tt) (λ all. open_of plan (next + 1) (around_below next around p) below (all refl)) (λ all. tt) right.0.defines right.0.cases,
-      cases_of plan count (next + 1) (around_below next around p) below right.1,
-      cases_of plan count _ around after right.2,
-    )
-
-linked_cases : (modules : Forest Statement) (schema : Schema) → compiled modules ≡ Ok schema → HoldCases schema.nodes
-linked_cases modules schema e =
-    let i = compiles modules schema e in
-    subst (λ (s : Schema). HoldCases s.nodes) i.is (cases_of (plan_in modules) _ 0 _ _ (right_plan modules i.none))
-
--- ---- a schema that is made
-
-open-prop : (f : Forest SchemaNode) → IsProp (AreOpen f)
-open-prop end = Unit-prop
-open-prop (node n below after) = ×_prop (Coded-set coded_bool _ _) (open-prop after)
-
-is_open-prop : (k : Kind) (below : Forest SchemaNode) → IsProp (IsOpen k below)
-is_open-prop (container presence) below = Unit-prop
-is_open-prop (leaf type absence) below = Unit-prop
-is_open-prop (leaf_list type defaults amount) below = Unit-prop
-is_open-prop (list tuples amount) below = Unit-prop
-is_open-prop (choice default_case is_mandatory) below = open-prop below
-is_open-prop case below = Unit-prop
-
-hold-prop : (f : Forest SchemaNode) → IsProp (HoldCases f)
-hold-prop end = Unit-prop
-hold-prop (node n below after) = ×₃_prop (is_open-prop n.kind below) (hold-prop below) (hold-prop after)
-
-anew_kept : (n : SchemaNode) → starts_anew (asked_node n).kind ≡ starts_anew n.kind
-anew_kept n = kept_by starts_anew by n
-  where
-    by : (k : Kind) → starts_anew (unasked k) ≡ starts_anew k
-    by (container presence) = refl
-    by (leaf type absence) = refl
-    by (leaf_list type defaults amount) = refl
-    by (list tuples amount) = refl
-    by (choice default_case is_mandatory) = refl
-    by case = refl
-
-open_kept : (f : Forest SchemaNode) → AreOpen f → AreOpen (relabelled asked_node f)
-open_kept end open_row = tt
-open_kept (node n below after) open_row = (anew_kept n ∙ open_row.0, open_kept after open_row.1)
-
-is_open_kept : (n : SchemaNode) (below : Forest SchemaNode) → IsOpen n.kind below → IsOpen (asked_node n).kind (relabelled asked_node below)
-is_open_kept n below is = by n.config
-  where
-    at : (k : Kind) → IsOpen k below → IsOpen k (relabelled asked_node below) × IsOpen (unasked k) (relabelled asked_node below)
-    at (container presence) is = (tt, tt)
-    at (leaf type absence) is = (tt, tt)
-    at (leaf_list type defaults amount) is = (tt, tt)
-    at (list tuples amount) is = (tt, tt)
-    at (choice default_case is_mandatory) is = (open_kept below is, open_kept below is)
-    at case is = (tt, tt)
-
-    by : (b : Bool) → IsOpen (cond b n.kind (unasked n.kind)) (relabelled asked_node below)
-    by true = (at n.kind is).0
-    by false = (at n.kind is).1
-
-hold_kept : (f : Forest SchemaNode) → HoldCases f → HoldCases (relabelled asked_node f)
-hold_kept end hold = tt
-hold_kept (node n below after) hold = (is_open_kept n below hold.0, hold_kept below hold.1, hold_kept after hold.2)
-
-hold_of : (s : Schema) → ∥ IsMade s ∥₁ → HoldCases s.nodes
-hold_of s made = made_has (λ s. HoldCases s.nodes) (λ s. hold-prop s.nodes) (λ s c. linked_cases c.0 s c.1) (λ s. hold_kept s.nodes) s made
+open_cases : (f : Forest SchemaNode) → AreCases f → AreOpen f
+open_cases end cases = tt
+open_cases (node n below after) cases = (open_case n.kind cases.0, open_cases after cases.1)
 
 -- ---- what is read there
 
@@ -125,12 +39,12 @@ cases_near (node n below after) open_row =
     let e : near_count (node n below after) ≡ 1 + (near_count below + near_count after) = ap (λ b. 1 + (cond b 0 (near_count below) + near_count after)) open_row.0 in
     omega (arith, e, cases_near after open_row.1)
 
-choice_near : (k : Kind) (below : Forest SchemaNode) → IsOpen k below → choice_reads k below ≤ near_count below
+choice_near : (k : Kind) (below : Forest SchemaNode) → HoldCases k below → choice_reads k below ≤ near_count below
 choice_near (container presence) below is = omega arith
 choice_near (leaf type absence) below is = omega arith
 choice_near (leaf_list type defaults amount) below is = omega arith
 choice_near (list tuples amount) below is = omega arith
-choice_near (choice default_case is_mandatory) below is = cases_near below is
+choice_near (choice default_case is_mandatory) below is = cases_near below (open_cases below is)
 choice_near case below is = omega arith
 
 sums : (l lower later near_below near_after asked below after : ℕ) → suc lower ≤ l → later ≤ l → asked ≤ near_below → below ≤ lower * near_below → after ≤ later * near_after
@@ -145,7 +59,7 @@ last_sums l later near_after after some behind few =
     let y : later * near_after ≤ l * near_after = mul-le _ _ _ _ behind (omega arith) in
     omega (arith, y, some, few)
 
-play_near : (f : Forest SchemaNode) → HoldCases f → play_reads f ≤ levels f * near_count f
+play_near : (f : Forest SchemaNode) → ChoicesHoldCases f → play_reads f ≤ levels f * near_count f
 play_near end hold = omega arith
 play_near (node n below after) hold = by (starts_anew n.kind) (play_near below hold.1) (play_near after hold.2)
   where
@@ -185,36 +99,36 @@ play_at n below k is = ap (λ x. 1 + (cond (starts_anew x) 0 (choice_reads x bel
 
 -- ---- the row below a node
 
-found_below : (test : SchemaNode → Bool) (f : Forest SchemaNode) → HoldCases f
-    → HoldCases (unwrap_or (find_below test f) end) × (levels (unwrap_or (find_below test f) end) ≤ levels f)
+found_below : (test : SchemaNode → Bool) (f : Forest SchemaNode) → ChoicesHoldCases f
+    → ChoicesHoldCases (unwrap_or (find_below test f) end) × (levels (unwrap_or (find_below test f) end) ≤ levels f)
 found_below test end hold = (tt, omega arith)
 found_below test (node n below after) hold = by (test n) (find_below test below) (found_below test below hold.1) (found_below test after hold.2)
   where
-    by : (b : Bool) (o : Option (Forest SchemaNode)) → HoldCases (unwrap_or o end) × (levels (unwrap_or o end) ≤ levels below)
-        → HoldCases (unwrap_or (find_below test after) end) × (levels (unwrap_or (find_below test after) end) ≤ levels after)
-        → HoldCases (unwrap_or (cond b (Some below) (joined_below o (find_below test after))) end)
+    by : (b : Bool) (o : Option (Forest SchemaNode)) → ChoicesHoldCases (unwrap_or o end) × (levels (unwrap_or o end) ≤ levels below)
+        → ChoicesHoldCases (unwrap_or (find_below test after) end) × (levels (unwrap_or (find_below test after) end) ≤ levels after)
+        → ChoicesHoldCases (unwrap_or (cond b (Some below) (joined_below o (find_below test after))) end)
         × (levels (unwrap_or (cond b (Some below) (joined_below o (find_below test after))) end) ≤ levels (node n below after))
     by true o inner rest = (hold.1, omega arith)
     by false None inner rest = (rest.0, let few = rest.1 in omega (arith, few))
     by false (Some f) inner rest = (inner.0, let few = inner.1 in omega (arith, few))
 
-found_row : (s : Schema) (above : Option ℕ) → HoldCases s.nodes → HoldCases (row_at s above) × (levels (row_at s above) ≤ levels s.nodes)
+found_row : (s : Schema) (above : Option ℕ) → ChoicesHoldCases s.nodes → ChoicesHoldCases (row_at s above) × (levels (row_at s above) ≤ levels s.nodes)
 found_row s None hold = (hold, omega arith)
 found_row s (Some number) hold = found_below (λ n. n.number == number) s.nodes hold
 
 -- what is in play in a row: so many calls at most as there are levels for each node that is near
-row_reads : (s : Schema) (above : Option ℕ) → ∥ IsMade s ∥₁ → play_reads (row_at s above) ≤ sizes.levels s * near_count (row_at s above)
-row_reads s above made =
-    let row = found_row s above (hold_of s made) in
+row_reads : (s : Schema) (above : Option ℕ) → ∥ IsFit s ∥₁ → play_reads (row_at s above) ≤ sizes.levels s * near_count (row_at s above)
+row_reads s above fit =
+    let row = found_row s above (choices_of s fit) in
     let here = play_near (row_at s above) row.0 in
     let up : levels (row_at s above) * near_count (row_at s above) ≤ sizes.levels s * near_count (row_at s above) =
     mul-le _ _ _ _ (let x = row.1 in omega (arith, x)) (omega arith) in omega (arith, here, up)
 
-pub row_read : (s : Schema) (above : Option ℕ) (f : Forest SchemaNode) (was now : ℕ) → ∥ IsMade s ∥₁ → f ≡ row_at s above → now ≤ was + play_reads f
+pub row_read : (s : Schema) (above : Option ℕ) (f : Forest SchemaNode) (was now : ℕ) → ∥ IsFit s ∥₁ → f ≡ row_at s above → now ≤ was + play_reads f
     → now ≤ was + sizes.levels s * near_count (row_at s above)
-row_read s above f was now made is so =
+row_read s above f was now fit is so =
     let same = ap play_reads is in
-    let few = row_reads s above made in
+    let few = row_reads s above fit in
     omega (arith, so, same, few)
 
 -- no more are near in a row than the schema has nodes
@@ -258,9 +172,9 @@ child_within (node n below after) number = by (n.number == number || is_some (no
     by true rest = let parts = play_parts n below after in omega (arith, parts)
     by false rest = let parts = play_parts n below after in omega (arith, rest, parts)
 
-pub child_read : (s : Schema) (above : Option ℕ) (number : ℕ) (child : Option (SchemaNode × Forest SchemaNode)) (was now : ℕ) → ∥ IsMade s ∥₁
+pub child_read : (s : Schema) (above : Option ℕ) (number : ℕ) (child : Option (SchemaNode × Forest SchemaNode)) (was now : ℕ) → ∥ IsFit s ∥₁
     → child ≡ child_over (row_at s above) number → now ≤ was + child_reads child → now ≤ was + sizes.levels s * near_count (row_at s above)
-child_read s above number child was now made is so =
+child_read s above number child was now fit is so =
     let same = ap child_reads is in
     let few = child_within (row_at s above) number in
-    row_read s above (row_at s above) was now made refl (omega (arith, so, same, few))
+    row_read s above (row_at s above) was now fit refl (omega (arith, so, same, few))

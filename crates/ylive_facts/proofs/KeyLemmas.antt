@@ -7,7 +7,7 @@ use Rattle.std.proofs.lemmas.Option.{same_Some, none-some}
 use Rattle.yspec.specs.schema.Schema.{Schema, SchemaNode, node_at}
 use Rattle.yspec.specs.document.Document.{Stored, Tree}
 use Rattle.yschema_model.specs.declared.node.SchemaId.{SchemaId}
-use Rattle.yspec.specs.linking.Compiling.{IsMade}
+use Rattle.yspec_fit.specs.Fit.{IsFit}
 use Rattle.yspec_reach.specs.Sizes.{levels}
 use Rattle.ystore.specs.Held.{Label}
 use Rattle.ystore.specs.Store.{label_at, reads}
@@ -82,9 +82,9 @@ names_are s nodes id of is = by (label_at nodes id) is
     by (Some l) is = ap (λ (x : SchemaId). names_of s x.0) (sym (same_Some of l.schema is))
 
 -- the keys at all slots, of which some may be left
-pub all_read : (s : Schema) (start : Nodes) (id : NodeId) (of : SchemaId) (now left : ℕ) → ∥ IsMade s ∥₁ → Some of ≡ option_map (λ (l : Label). l.schema) (label_at start id)
+pub all_read : (s : Schema) (start : Nodes) (id : NodeId) (of : SchemaId) (now left : ℕ) → ∥ IsFit s ∥₁ → Some of ≡ option_map (λ (l : Label). l.schema) (label_at start id)
     → now + left ≤ reads start + (1 + keys_reads s of.0 (slots_of s of.0)) → now ≤ reads start + (3 + (levels s + 4) * names_at s start id)
-all_read s start id of now left made is so =
-    let few = few_keys s of.0 made in
+all_read s start id of now left fit is so =
+    let few = few_keys s of.0 fit in
     let names = ap (λ n. (levels s + 4) * n) (names_are s start id of is) in
     omega (arith, so, few, names)

@@ -9,11 +9,11 @@ use Rattle.std.proofs.lemmas.Nat.{mul-le}
 use Rattle.yspec.specs.Forest as forest
 use Rattle.yspec.specs.schema.Schema.{Schema, SchemaNode, Kind, container, leaf, leaf_list, list, choice, case, LeafPath, Tuples, node_at}
 use Rattle.yspec.specs.document.Instances.{own_path, paths_of}
-use Rattle.yspec.specs.linking.Compiling.{IsMade}
+use Rattle.yspec_fit.specs.Fit.{PathsWithin, IsFit}
 use Rattle.yspec_reach.specs.Sizes.{levels, name_count}
 use Rattle.ylive_facts.specs.Keys.{kind_flags, slots_of}
 use Rattle.ylive_facts.specs.Reads.{path_reads, slot_reads, key_reads, keys_reads, names_of}
-use Rattle.ylive_facts.proofs.PathLemmas.{PathsWithin, PathsWithinAt, paths_at}
+use Rattle.ylive_facts.proofs.PathLemmas.{PathsWithinAt, paths_at}
 
 -- ---- paths
 
@@ -82,8 +82,8 @@ node_slots : (deep most : ℕ) (o : Option SchemaNode) → 4 ≤ deep → most +
 node_slots deep most None some up within = omega arith
 node_slots deep most (Some n) some up within = kind_slots deep most n.config n.kind some up within
 
-pub few_keys : (s : Schema) (number : ℕ) → ∥ IsMade s ∥₁ → keys_reads s number (slots_of s number) ≤ 2 + (levels s + 4) * names_of s number
-few_keys s number made = node_slots (levels s + 4) (forest.levels s.nodes) (node_at s number) (omega arith) (omega arith) (paths_at s made number)
+pub few_keys : (s : Schema) (number : ℕ) → ∥ IsFit s ∥₁ → keys_reads s number (slots_of s number) ≤ 2 + (levels s + 4) * names_of s number
+few_keys s number fit = node_slots (levels s + 4) (forest.levels s.nodes) (node_at s number) (omega arith) (omega arith) (paths_at s fit number)
 
 -- the first of the slots that are left
 pub next_slot : (reads : ℕ → ℕ) (slot slots : ℕ) → slot < slots

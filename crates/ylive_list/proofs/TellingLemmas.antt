@@ -23,9 +23,10 @@ use Rattle.yschema_model.specs.View as schema_view
 use Rattle.yschema_model.specs.declared.schema.Schema as rust
 use Rattle.yschema_model.proofs.CallerLemmas.{numbered}
 use Rattle.ycheck.specs.Walk.{value_told, marks_told, repetition}
-use Rattle.yspec_play.specs.Merging.{CasesInChoices, merged, absences_below, listed_in, listed, told_at, told_count}
+use Rattle.yspec_fit.specs.Fit.{CasesInChoices}
+use Rattle.yspec_play.specs.Merging.{merged, absences_below, listed_in, listed, told_at, told_count}
 use Rattle.yspec_play.proofs.ListLemmas.{documents_listed, merged_counted, listed_counted}
-use Rattle.yspec_play.proofs.PlacedLemmas.{cases_of}
+use Rattle.yspec_fit.proofs.FitLemmas.{cases_of}
 use Rattle.ystore.specs.Store.{same_at, total_at, node_count, held_at, play_at}
 use Rattle.ystore_rows.specs.declared.row.Row.{Row}
 use Rattle.ystore_rows.specs.declared.row.Row.TheVariants.{Top, Below}
@@ -152,7 +153,7 @@ pub found_are_faults : {X E : Type 0} (s : rust.Schema) (r : Result X E) (see : 
     → Tells (schema_view.view s) nodes f → Fits (schema_view.view s) (tree_of f) → IfOk r (λ x. see x ≡ list_told (schema_view.view s) nodes)
     → IfOk r (λ x. see x ≡ faults_of (schema_view.view s) (tree_of f))
 found_are_faults s (Ok x) see nodes f hangs within tells fits is =
-    is ∙ faults_are (schema_view.view s) nodes f hangs within tells (numbered s) (cases_of (schema_view.view s) s.made) fits
+    is ∙ faults_are (schema_view.view s) nodes f hangs within tells (numbered s) (cases_of (schema_view.view s) s.fit) fits
 found_are_faults s (Err e) see nodes f hangs within tells fits is = tt
 
 -- ---- what is told at a node

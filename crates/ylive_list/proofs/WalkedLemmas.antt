@@ -14,7 +14,7 @@ use Rattle.yschema_model.specs.declared.schema.Schema as rust
 use Rattle.yschema_model.proofs.CallerLemmas.{not_deep, numbered}
 use Rattle.yspec_play.specs.Merging.{listed, merged}
 use Rattle.yspec_play.proofs.ListLemmas.{documents_listed}
-use Rattle.yspec_play.proofs.PlacedLemmas.{cases_of}
+use Rattle.yspec_fit.proofs.FitLemmas.{cases_of}
 use Rattle.ystore.specs.declared.nodes.Nodes.{Nodes}
 use Rattle.ystore_rows.specs.declared.row.Row.TheVariants.{Top}
 use Rattle.ystore_tree.specs.Hanging.{Branches, Hangs, stored_of, tree_of}
@@ -37,4 +37,4 @@ walked_are_faults s nodes left is f hangs tells fits =
     let fit = levels_fit (λ n value. Unit {0}) (schema_view.view s).nodes 0 (tree_of f) fits in
     let same = relabelled-levels stored_of f in
     is ∙ (limited (schema_view.view s) nodes f hangs (omega (arith, deep, fit, same)) tells
-    ∙ sym (documents_listed (schema_view.view s) (tree_of f) (numbered s) (cases_of (schema_view.view s) s.made) fits))
+    ∙ sym (documents_listed (schema_view.view s) (tree_of f) (numbered s) (cases_of (schema_view.view s) s.fit) fits))

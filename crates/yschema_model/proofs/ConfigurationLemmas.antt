@@ -8,8 +8,9 @@ use Rattle.yspec.specs.Forest.{Forest, end, node, relabelled}
 use Rattle.yspec.specs.schema.Configuration.{unasked, asked_node, configuration_schema}
 use Rattle.yspec.specs.schema.References.{refers_to, target_in}
 use Rattle.yspec.specs.schema.Schema.{Schema, SchemaNode, Kind, container, leaf, leaf_list, list, choice, case, is_called}
-use Rattle.yspec.specs.linking.Compiling.{IsMade}
-use Rattle.yspec.proofs.LinkingProofs.ConfigurationLemmas.{data_kept, kept_by}
+use Rattle.yspec_fit.specs.Fit.{IsFit}
+use Rattle.yspec_fit.proofs.ConfigurationLemmas.{data_kept, kept_by}
+use Rattle.yspec_fit.proofs.FitLemmas.{configuration_is_fit}
 use Rattle.yspec.proofs.LinkingProofs.LinkedLemmas.{relabelled-size}
 use Rattle.ybase_index.specs.Names.{ascends, found_by, number_among, text_in}
 use Rattle.ybase_index.specs.declared.keys.Among.TheVariants.{Children, DataNodes}
@@ -42,31 +43,10 @@ unasked-target (list tuples amount) = refl
 unasked-target (choice default_case is_mandatory) = refl
 unasked-target case = refl
 
-unasked-twice : (k : Kind) → unasked (unasked k) ≡ unasked k
-unasked-twice (container presence) = refl
-unasked-twice (leaf type absence) = refl
-unasked-twice (leaf_list type defaults amount) = refl
-unasked-twice (list tuples amount) = refl
-unasked-twice (choice default_case is_mandatory) = refl
-unasked-twice case = refl
-
 asked-refers : (target : ℕ) (n : SchemaNode) → refers_to target (asked_node n) ≡ refers_to target n
 asked-refers target n = ap (λ o. option_map_or (λ t. t == target) o false) (kept_by target_in unasked-target n)
 
-asked-twice : (n : SchemaNode) → asked_node (asked_node n) ≡ asked_node n
-asked-twice n = ap (λ kind. record n { kind = kind }) (by n.config)
-  where
-    by : (b : Bool) → cond b (cond b n.kind (unasked n.kind)) (unasked (cond b n.kind (unasked n.kind))) ≡ cond b n.kind (unasked n.kind)
-    by true = refl
-    by false = unasked-twice n.kind
-
 -- ---- rows of nodes
-
-relabelled-twice : {L : Type 0} (label : L → L) → ((l : L) → label (label l) ≡ label l) → (f : Forest L) → relabelled label (relabelled label f) ≡ relabelled label f
-relabelled-twice label same end = refl
-relabelled-twice label same (node l below after) =
-    ap (λ m. node m (relabelled label (relabelled label below)) (relabelled label (relabelled label after))) (same l)
-    ∙ ap₂ (node (label l)) (relabelled-twice label same below) (relabelled-twice label same after)
 
 places-asked : (parent : Option ℕ) (f : Forest SchemaNode) → places parent (relabelled asked_node f) ≡ map asked_place (places parent f)
 places-asked parent end = refl
@@ -214,15 +194,5 @@ asked_referred x slots asked e finds target =
 pub asked_view : (modules : List SchemaModule) (slots asked : List Slot) → AreAsked slots asked → schema_view modules asked ≡ configuration_schema (schema_view modules slots)
 asked_view modules slots asked e = ap (λ f. record (schema_view modules slots) { nodes = f }) (forest_of-asked slots asked e)
 
-configuration-twice : (s : Schema) → configuration_schema (configuration_schema s) ≡ configuration_schema s
-configuration-twice s = ap (λ f. record s { nodes = f }) (relabelled-twice asked_node asked-twice s.nodes)
-
-asked_made : (s : Schema) → IsMade s → IsMade (configuration_schema s)
-asked_made s made = by made.0 made.3
-  where
-    by : (of_configuration : Bool) → cond of_configuration (configuration_schema made.1) made.1 ≡ s → IsMade (configuration_schema s)
-    by true is = (true, made.1, made.2, sym (configuration-twice made.1) ∙ ap configuration_schema is)
-    by false is = (true, made.1, made.2, ap configuration_schema is)
-
-pub configuration_made : (s : Schema) → ∥ IsMade s ∥₁ → ∥ IsMade (configuration_schema s) ∥₁
-configuration_made s made = ∥∥₁_map made (asked_made s)
+pub configuration_fit : (s : Schema) → ∥ IsFit s ∥₁ → ∥ IsFit (configuration_schema s) ∥₁
+configuration_fit s fit = ∥∥₁_map fit (configuration_is_fit s)

@@ -13,4 +13,3 @@ pub mod NearestLemmas
 pub mod DataChildLemmas
 pub mod QualifiedLemmas
 pub mod RowChildLemmas
-pub mod AscendingLemmas

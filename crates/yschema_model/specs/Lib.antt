@@ -1,4 +1,3 @@
-pub mod Ascending
 pub mod Configuration
 pub mod Layout
 pub mod Lookup

@@ -2,7 +2,7 @@
 
 ghost use Rattle.std.specs.Prelude.{◌≡◌, ◌+◌, ◌<◌, ◌^◌, None, length, vec_len, position, string_bytes};
 ghost use Rattle.yspec.specs.text.Text.{is_text};
-ghost use Rattle.yspec.specs.linking.Compiling.{IsCompiled, IsMade};
+ghost use Rattle.yspec_fit.specs.Fit.{IsFit};
 ghost use Rattle.yspec.specs.linking.Planned.{same_number};
 ghost use Rattle.yschema_model.specs.Layout.{data_places, laid, forest_of, number_of, schema_view, IsLaidOut};
 ghost use Rattle.yschema_model.specs.Lookup.{FindsNamed, FindsWritten};
@@ -44,7 +44,7 @@ pub struct Schema {
     ghost named: { FindsNamed index slots.items },
     ghost written: { FindsWritten index slots.items (data_places None (forest_of 0 slots.items)) },
     ghost referred: { FindsReferences references (laid 0 slots.items) },
-    ghost made: { ∥ IsMade (schema_view modules.items slots.items) ∥₁ },
+    ghost fit: { ∥ IsFit (schema_view modules.items slots.items) ∥₁ },
 }
 
 impl Schema {
@@ -59,8 +59,8 @@ impl Schema {
     ghost use Rattle.ybase_index.specs.Names.{AreNamesOf};
     ghost use Rattle.yschema_model.specs.View.{view, child_view, row_view, forest_of};
 
-    /// The schema of some modules whose nodes lie in slots, each before those below it, once a compiler has found no broken
-    /// rule, and the names of these nodes.
+    /// The schema of some modules whose nodes lie in slots, each before those below it, where documents can rest on it, and the
+    /// names of these nodes.
     pub fn of(
         alloc: Global,
         modules: Vec<SchemaModule>,
@@ -69,7 +69,7 @@ impl Schema {
     ) -> Result<Schema, AllocError>
         requires laid_out { IsLaidOut slots.items }
         requires named { AreNamesOf names (names_in slots.items) }
-        requires compiled { IsCompiled (schema_view modules.items slots.items) }
+        requires fit { IsFit (schema_view modules.items slots.items) }
         ensures { IfOk result (λ schema. view schema ≡ schema_view modules.items slots.items) }
     {
         let index = index_of(alloc, &slots, names)?;

@@ -1,13 +1,11 @@
 pub mod ApartLemmas
 pub mod BreakLemmas
 pub mod BuiltInLemmas
-pub mod ConfigurationLemmas
 pub mod KeywordLemmas
 pub mod LegalLemmas
 pub mod RightPartLemmas
 pub mod LinkedLemmas
 pub mod LinkedNameLemmas
-pub mod LinkedSchemaLemmas
 pub mod LinkedTextLemmas
 pub mod NewestLemmas
 pub mod ExpansionLemmas

@@ -3,7 +3,7 @@ use Rattle.std.proofs.Common.{◌≡◌, ℕ, Bool, true, false, cond, eqb, Opti
 use Rattle.std.specs.Prelude.{unwrap_or}
 use Rattle.yspec.specs.Forest.{Forest, end, node, first_of, joined_below, find_below}
 use Rattle.yspec.specs.schema.Schema.{Schema, SchemaNode, is_data, node_in, node_at, children_of}
-use Rattle.yspec_play.specs.Merging.{CasesInChoices, is_choice}
+use Rattle.yspec_fit.specs.Fit.{CasesInChoices, is_choice}
 use Rattle.yspec_play.proofs.ListLemmas.{data_is_no_choice}
 
 abbrev below_in : Forest SchemaNode → ℕ → Option (Forest SchemaNode)

@@ -5,7 +5,6 @@ pub mod TellLemmas
 pub mod FilledLemmas
 pub mod RowLemmas
 pub mod ListLemmas
-pub mod PlacedLemmas
 pub mod BelowDataLemmas
 pub mod OverLemmas
 pub mod TurnLemmas

@@ -16,7 +16,8 @@ use Rattle.yspec.specs.document.Faults.{Times, RowTimes, Told, under, told_of, w
 use Rattle.yspec.proofs.DocumentProofs.FittingLemmas.{instances-cons}
 use Rattle.yspec.proofs.DocumentProofs.SortingLemmas.{child_number, not_before}
 use Rattle.yspec_play.specs.Absences.{Absent, absences_in}
-use Rattle.yspec_play.specs.Merging.{absence_fault, up_to, behind, position_behind, step_of, merged_behind, merged, CasesInChoices, is_choice, to_node, absences_below, listed_in, listed, told_count}
+use Rattle.yspec_fit.specs.Fit.{CasesInChoices, is_choice}
+use Rattle.yspec_play.specs.Merging.{absence_fault, up_to, behind, position_behind, step_of, merged_behind, merged, to_node, absences_below, listed_in, listed, told_count}
 use Rattle.yspec_play.proofs.KnownLemmas.{Known, schema_known, row_known}
 use Rattle.yspec_play.proofs.MergedLemmas.{AllTold, count_in, count_told}
 use Rattle.yspec_play.proofs.TellLemmas.{Leads}

@@ -15,7 +15,8 @@ use Rattle.yspec.specs.document.Fitting.{IsNumbered}
 use Rattle.yspec.specs.document.Play.{Item, visit, visit_each, cases, stored_among, stored_cases, or_default, choice_faults, absent_leaf, absent_items, amount_faults, exceeds, is_among, node_items, stored_inside, steps_inside, items_in_play}
 use Rattle.yspec.specs.document.Faults.{Told, under, told_of, at_positions, item_faults, woven}
 use Rattle.yspec_play.specs.Absences.{Absent, absent_leaf_told, amount_told, choice_told, node_absences, absences_in}
-use Rattle.yspec_play.specs.Merging.{absence_fault, merged, CasesInChoices, is_choice, is_case}
+use Rattle.yspec_fit.specs.Fit.{CasesInChoices, is_choice, is_case}
+use Rattle.yspec_play.specs.Merging.{absence_fault, merged}
 use Rattle.yspec_play.proofs.AbsenceLemmas.{absences_between}
 use Rattle.yspec_play.proofs.KnownLemmas.{Known}
 use Rattle.yspec_play.proofs.MergedLemmas.{AllTold, all_told, all_told_joined, AllAbsent, all_absent, all_absent_joined, between_all, told_first, IsMany, entries_first, instance_first}

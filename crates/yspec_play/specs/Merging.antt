@@ -4,7 +4,7 @@ use Rattle.std.specs.Prelude.{◌≡◌, ◌≤◌, ℕ, suc, ◌+◌, ◌++◌,
 use Rattle.std.specs.Option.{option_map_or}
 use Rattle.yspec.specs.Forest.{Forest, end, node, row}
 use Rattle.yspec.specs.text.Text.{Text}
-use Rattle.yspec.specs.schema.Schema.{Schema, SchemaNode, Kind, choice, case, is_data, is_many, node_at, children_of, data_way_to, row_at}
+use Rattle.yspec.specs.schema.Schema.{Schema, SchemaNode, Kind, is_data, is_many, node_at, children_of, data_way_to, row_at}
 use Rattle.yspec.specs.document.Document.{Stored, Tree, Step, step_to, step_at, instances_in}
 use Rattle.yspec.specs.document.Fault.{Info, no_info, choice_name, Fault, fault_with}
 use Rattle.yspec.specs.document.Fitting.{FitsBy}
@@ -103,20 +103,6 @@ told_count times row schema (node s below after) = told_at times row schema s be
     + (told_count times (row_times schema below) schema below + told_count times row schema after)
 
 -- ---- of what rows it holds
-
-abbrev pub is_choice : Kind → Bool
-is_choice (choice default_case is_mandatory) = true
-is_choice _ = false
-
-abbrev pub is_case : Kind → Bool
-is_case case = true
-is_case _ = false
-
--- a case stands right below a choice (RFC 7950, 7.9.2); whether the row does is given
-abbrev pub CasesInChoices : Bool → Forest SchemaNode → Type 0
-CasesInChoices in_choice end = Unit {0}
-CasesInChoices in_choice (node n below after) = (is_case n.kind ≡ true → in_choice ≡ true)
-    × CasesInChoices (is_choice n.kind) below × CasesInChoices in_choice after
 
 -- each is told of a node behind that of the one before it
 abbrev pub Ascends : ℕ → List Absent → Type 0

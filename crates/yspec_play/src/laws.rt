@@ -12,7 +12,8 @@ ghost use Rattle.yspec.specs.document.Instances.{times_below, times_in};
 ghost use Rattle.yspec.specs.document.Faults.{Times, RowTimes, Told, faults_of, row_times, told_in, woven};
 ghost use Rattle.yspec.specs.linking.Compiling.{compiled};
 ghost use Rattle.yspec_play.specs.Absences.{absences_in, defaults_below, defaults_in, given_at, is_default};
-ghost use Rattle.yspec_play.specs.Merging.{Ascends, AreChildren, CasesInChoices, FitsRow, absences_below, listed, listed_in, merged, told_count};
+ghost use Rattle.yspec_fit.specs.Fit.{CasesInChoices};
+ghost use Rattle.yspec_play.specs.Merging.{Ascends, AreChildren, FitsRow, absences_below, listed, listed_in, merged, told_count};
 
 /// Of a numbered row each fault is told of another node, in order, and so of no more nodes than there are in it.
 pub fn absences_in_order()

@@ -21,7 +21,6 @@ use Rattle.yspec.specs.linking.SchemaNodes.{number_in, schema_nodes}
 use Rattle.yspec.specs.linking.NodeBreaks.{name_breaks, node_breaks}
 use Rattle.yspec.specs.schema.Breaks.{Break, module_breaks, limit_breaks, node_limit, level_limit, first_broken}
 use Rattle.yspec.specs.schema.Schema.{Schema, SchemaModule, Augment}
-use Rattle.yspec.specs.schema.Configuration.{seen_schema}
 
 -- the nodes of a set of modules, in order of definition
 abbrev pub plan_of : Forest Source → Plan
@@ -105,7 +104,3 @@ compiled modules = option_map_or Err (first_broken (phases modules)) (Ok (schema
 -- the schema of some set of modules
 abbrev pub IsCompiled : Schema → Type 0
 IsCompiled schema = (modules : Forest Statement) × (compiled modules ≡ Ok schema)
-
--- such a schema, or what it asks of configuration alone
-abbrev pub IsMade : Schema → Type 0
-IsMade schema = (of_configuration : Bool) × (whole : Schema) × IsCompiled whole × (seen_schema of_configuration whole ≡ schema)

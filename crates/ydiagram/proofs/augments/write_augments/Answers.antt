@@ -1,6 +1,6 @@
 use Rattle.std.proofs.Common.{◌≡◌, ℕ, ◌+◌, ◌∷◌, List, Bool, true, drop, sym, ap, ◌∙◌, rules}
 use Rattle.std.proofs.lemmas.List.{at_drop_more}
-use Rattle.yschema_model.specs.Ascending.{all_ascend}
+use Rattle.yspec_fit.specs.Fit.{all_ascend}
 use Rattle.yschema_model.specs.declared.schema.Augment as held
 use Rattle.yschema_model.specs.View.{augment_view, view}
 use Rattle.ybase_output.proofs.WritingLemmas.{left_same, left_after, left_failed}

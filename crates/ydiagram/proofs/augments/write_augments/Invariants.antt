@@ -1,7 +1,7 @@
 use Rattle.std.proofs.Common.{◌≡◌, drop, true}
 use Rattle.ybase_output.specs.Writing.{side}
 use Rattle.ybase_output.proofs.WritingLemmas.{Left}
-use Rattle.yschema_model.specs.Ascending.{all_ascend}
+use Rattle.yspec_fit.specs.Fit.{all_ascend}
 use Rattle.yschema_model.specs.View.{view}
 use Rattle.ydiagram.specs.View.{augments_seen, augments_written}
 use Rattle.ydiagram.proofs.augments.write_augments.Given as goal

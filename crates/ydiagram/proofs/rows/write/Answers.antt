@@ -1,5 +1,5 @@
 use Rattle.std.proofs.Common.{refl, ap, ◌∙◌}
-use Rattle.yschema_model.specs.Ascending.{all_ascend}
+use Rattle.yspec_fit.specs.Fit.{all_ascend}
 use Rattle.yschema_model.specs.View.{view}
 use Rattle.yschema_model.proofs.CallerLemmas.{augments_ascend}
 use Rattle.ybase_output.proofs.WritingLemmas.{left_all, left_same, left_failed, left_after, left_last}

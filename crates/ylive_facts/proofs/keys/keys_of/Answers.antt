@@ -49,7 +49,7 @@ loop-slot-preserved c =
 
 pub returns-clause-reads : goal.returns-clause-reads
 returns-clause-reads c =
-    all_read (schema_view.view c.args.schema.now) (store_of c.args.counted.now) c.args.id c.in-Some.of _ _ c.args.schema.now.made (sym c.in-Some.is ∙ c.schema.ensures.schema) c.loop-slot.invariant.reads
+    all_read (schema_view.view c.args.schema.now) (store_of c.args.counted.now) c.args.id c.in-Some.of _ _ c.args.schema.now.fit (sym c.in-Some.is ∙ c.schema.ensures.schema) c.loop-slot.invariant.reads
 
 pub returns-in_err-key-clause-reads : goal.returns-in_err-key-clause-reads
 returns-in_err-key-clause-reads c =
@@ -62,7 +62,7 @@ returns-in_err-key-clause-reads c =
     let more = c.in_err-key.ensures.reads in
     let count = c.flag_count-slots.ensures.count in
     let next = next_slot at slot slots (omega (arith, count, c.loop-slot-test.true)) in
-    all_read s (store_of c.args.counted.now) c.args.id of _ (sum_by at (range_with_len (slot + 1) (slots - (slot + 1)))) c.args.schema.now.made
+    all_read s (store_of c.args.counted.now) c.args.id of _ (sum_by at (range_with_len (slot + 1) (slots - (slot + 1)))) c.args.schema.now.fit
     (sym c.in-Some.is ∙ c.schema.ensures.schema) (omega (arith, was, more, next))
 
 pub returns-in_err-push-clause-reads : goal.returns-in_err-push-clause-reads
@@ -76,5 +76,5 @@ returns-in_err-push-clause-reads c =
     let more = c.in_ok-key.ensures.reads in
     let count = c.flag_count-slots.ensures.count in
     let next = next_slot at slot slots (omega (arith, count, c.loop-slot-test.true)) in
-    all_read s (store_of c.args.counted.now) c.args.id of _ (sum_by at (range_with_len (slot + 1) (slots - (slot + 1)))) c.args.schema.now.made
+    all_read s (store_of c.args.counted.now) c.args.id of _ (sum_by at (range_with_len (slot + 1) (slots - (slot + 1)))) c.args.schema.now.fit
     (sym c.in-Some.is ∙ c.schema.ensures.schema) (omega (arith, was, more, next))

@@ -17,8 +17,8 @@ returns-clause-defaults c f hangs =
 
 pub returns-clause-reads : goal.returns-clause-reads
 returns-clause-reads c =
-    row_read (view c.args.schema.now) (number_of c.args.above) (row_view c.row_at-children.result) _ _ c.args.schema.now.made c.row_at-children.ensures c.in_ok-add_row.ensures.reads
+    row_read (view c.args.schema.now) (number_of c.args.above) (row_view c.row_at-children.result) _ _ c.args.schema.now.fit c.row_at-children.ensures c.in_ok-add_row.ensures.reads
 
 pub returns-in_err-add_row-clause-reads : goal.returns-in_err-add_row-clause-reads
 returns-in_err-add_row-clause-reads c =
-    row_read (view c.args.schema.now) (number_of c.args.above) (row_view c.row_at-children.result) _ _ c.args.schema.now.made c.row_at-children.ensures c.in_err-add_row.ensures.reads
+    row_read (view c.args.schema.now) (number_of c.args.above) (row_view c.row_at-children.result) _ _ c.args.schema.now.fit c.row_at-children.ensures c.in_err-add_row.ensures.reads

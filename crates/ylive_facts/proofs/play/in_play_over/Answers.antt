@@ -34,7 +34,7 @@ pub returns-clause-reads : goal.returns-clause-reads
 returns-clause-reads c above number is =
     let child = option_map child_view c.args.child in
     elim c.match-child.branch [
-      | in-Some+in_ok-add_node w ↦ child_read (view c.args.schema.now) above number child _ _ c.args.schema.now.made is
+      | in-Some+in_ok-add_node w ↦ child_read (view c.args.schema.now) above number child _ _ c.args.schema.now.fit is
           (let one = w.in_ok-add_node.ensures.reads in let some = ap (λ o. child_reads (option_map child_view o)) w.in-Some.is in
           let same = ap (λ x. reads (store_of x)) w.counted-is in omega (arith, one, some, same))
       | in_default w ↦ let same = ap (λ x. reads (store_of x)) w.counted-is in omega (arith, same)
@@ -42,5 +42,5 @@ returns-clause-reads c above number is =
 
 pub returns-in_err-add_node-clause-reads : goal.returns-in_err-add_node-clause-reads
 returns-in_err-add_node-clause-reads c above number is =
-    child_read (view c.args.schema.now) above number (option_map child_view c.args.child) _ _ c.args.schema.now.made is
+    child_read (view c.args.schema.now) above number (option_map child_view c.args.child) _ _ c.args.schema.now.fit is
     (let one = c.in_err-add_node.ensures.reads in let some = ap (λ o. child_reads (option_map child_view o)) c.in-Some.is in omega (arith, one, some))

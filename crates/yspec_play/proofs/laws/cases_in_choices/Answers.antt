@@ -1,5 +1,5 @@
 use Rattle.yspec_play.proofs.BelowDataLemmas.{cases_below}
-use Rattle.yspec_play.proofs.PlacedLemmas.{linked_cases}
+use Rattle.yspec_fit.proofs.PlacedLemmas.{linked_cases}
 use Rattle.yspec_play.proofs.laws.cases_in_choices.Goals as goal
 
 pub returns : goal.returns

@@ -1,7 +1,7 @@
 use Rattle.std.proofs.Common.{None, sym, ap, ap₂, subst, ◌∙◌}
 use Rattle.yspec.specs.schema.Schema.{is_written}
 use Rattle.yspec.specs.document.Writing.{ModulesDiffer, NodesAreNamed}
-use Rattle.yspec.proofs.LinkingProofs.LinkedSchemaLemmas.{modules_differ_of, nodes_named_of}
+use Rattle.yspec_fit.proofs.FitLemmas.{modules_differ_of, nodes_named_of}
 use Rattle.yschema_model.specs.Layout.{data_places, forest_of, number_of, schema_view}
 use Rattle.yschema_model.specs.Lookup.{first_below, is_stored_as, FindsWritten}
 use Rattle.yschema_model.specs.View.{view}
@@ -22,13 +22,13 @@ returns-in-None c =
 pub written-requires-clause-modules_differ : goal.written-requires-clause-modules_differ
 written-requires-clause-modules_differ c =
     let schema = c.args.self.now in
-    subst (λ modules. ModulesDiffer (schema_view modules c.deref-in-None-2.result.now)) (sym c.deref-in-None.ensures.value) (modules_differ_of (view schema) schema.made)
+    subst (λ modules. ModulesDiffer (schema_view modules c.deref-in-None-2.result.now)) (sym c.deref-in-None.ensures.value) (modules_differ_of (view schema) schema.fit)
 
 pub written-requires-clause-nodes_named : goal.written-requires-clause-nodes_named
 written-requires-clause-nodes_named c =
     let schema = c.args.self.now in
     subst (λ modules. NodesAreNamed (schema_view modules c.deref-in-None-2.result.now) (forest_of 0 c.deref-in-None-2.result.now)) (sym c.deref-in-None.ensures.value)
-    (subst (λ slots. NodesAreNamed (schema_view schema.modules.items slots) (forest_of 0 slots)) (sym c.deref-in-None-2.ensures.value) (nodes_named_of (view schema) schema.made))
+    (subst (λ slots. NodesAreNamed (schema_view schema.modules.items slots) (forest_of 0 slots)) (sym c.deref-in-None-2.ensures.value) (nodes_named_of (view schema) schema.fit))
 
 pub written-requires-clause-written : goal.written-requires-clause-written
 written-requires-clause-written c =

@@ -1,7 +1,7 @@
 use Rattle.std.proofs.Common.{sym, subst, arith}
-use Rattle.yspec.specs.linking.Compiling.{IsMade}
+use Rattle.yspec_fit.specs.Fit.{IsFit}
 use Rattle.yschema_model.specs.View.{view}
-use Rattle.yschema_model.proofs.ConfigurationLemmas.{length-asked, asked_laid_out, asked_named, asked_written, asked_referred, asked_view, configuration_made}
+use Rattle.yschema_model.proofs.ConfigurationLemmas.{length-asked, asked_laid_out, asked_named, asked_written, asked_referred, asked_view, configuration_fit}
 use Rattle.yschema_model.proofs.schema.Schema.configuration.Goals as goal
 
 pub invariant_of-result-clause-numbered : goal.invariant_of-result-clause-numbered
@@ -25,10 +25,10 @@ pub invariant_of-result-clause-referred : goal.invariant_of-result-clause-referr
 invariant_of-result-clause-referred c =
     asked_referred c.args.self.references c.args.self.slots.items c.in_ok-slots.slots.items c.in_ok-slots.ensures c.args.self.referred
 
-pub invariant_of-result-clause-made : goal.invariant_of-result-clause-made
-invariant_of-result-clause-made c =
+pub invariant_of-result-clause-fit : goal.invariant_of-result-clause-fit
+invariant_of-result-clause-fit c =
     let is = asked_view c.args.self.modules.items c.args.self.slots.items c.in_ok-slots.slots.items c.in_ok-slots.ensures in
-    subst (λ s. ∥ IsMade s ∥₁) (sym is) (configuration_made (view c.args.self) c.args.self.made)
+    subst (λ s. ∥ IsFit s ∥₁) (sym is) (configuration_fit (view c.args.self) c.args.self.fit)
 
 pub returns : goal.returns
 returns c = asked_view c.args.self.modules.items c.args.self.slots.items c.in_ok-slots.slots.items c.in_ok-slots.ensures

@@ -20,16 +20,16 @@ use Rattle.yspec.specs.linking.Prefixes.{NodeName}
 use Rattle.yspec.specs.linking.Parts.{Part, defines_node, part_of, case_for, as_cases, within}
 use Rattle.yspec.specs.linking.Planned.{Planned, Plan, Around, planned_node, around_below, planned}
 use Rattle.yspec.specs.linking.SchemaNodes.{kind_by, schema_node}
-use Rattle.yspec.specs.linking.Compiling.{compiled, IsMade}
+use Rattle.yspec.specs.linking.Compiling.{compiled}
 use Rattle.yspec.specs.linking.Expansion.{Grouping, laid, is_uses, grouping_at, groupings_of, row_in, row_used, refined, owned_by, replaced, stands_for, expanded_from, expanded_parts, is_step, part_at, changed_at}
 use Rattle.yspec.specs.linking.Augments.{Augment, augments_in, augments_of, target_steps, added_nodes, may_be_augmented, kept_out, may_take, is_ready, marked, added_below, applied, first_that, done_first, in_turn, augmented}
 use Rattle.yspec.proofs.LinkingProofs.KeywordLemmas.{of_each, same_is, by_definition}
 use Rattle.yspec.proofs.LinkingProofs.LegalLemmas.{IsLegal, AreModules, AreAt, are_modules, are_at}
-use Rattle.yspec.proofs.LinkingProofs.ConfigurationLemmas.{made_has, kept_by}
 use Rattle.yspec.proofs.LinkingProofs.ExpansionLemmas.{Nodes, SameNodes, same_itself, same_refined}
 use Rattle.yspec.proofs.LinkingProofs.RightPartLemmas.{AreRight}
 use Rattle.yspec.proofs.LinkingProofs.LinkedLemmas.{compiles, plan_in, parts_in, right_plan}
-use Rattle.yspec_play.specs.Merging.{CasesInChoices, is_choice, is_case}
+use Rattle.yspec_fit.specs.Fit.{CasesInChoices, is_choice, is_case}
+use Rattle.yspec_fit.proofs.ConfigurationLemmas.{kept_by}
 
 false_true : {A : Type 0} (b : Bool) → b ≡ false → b ≡ true → A
 false_true b other same = absurd (let f : false ≡ true = sym other ∙ same in cc)
@@ -408,13 +408,13 @@ linked_cases modules schema e =
     (cases_of_parts (plan_in modules) _ 0 _ (parts_in modules) false (right_plan modules i.none)
     (placed_augmented sources (are_modules 0 modules i.none.statements 0) (are_at 0 modules i.none.statements 0)))
 
--- ---- what every schema that is made has
+-- ---- what is asked of configuration alone
 
-cases-prop : (b : Bool) (f : Forest SchemaNode) → IsProp (CasesInChoices b f)
+pub cases-prop : (b : Bool) (f : Forest SchemaNode) → IsProp (CasesInChoices b f)
 cases-prop b end = Unit-prop
 cases-prop b (node n below after) = ×₃_prop (→_prop (Coded-set coded_bool _ _)) (cases-prop (is_choice n.kind) below) (cases-prop b after)
 
-case_kept : (n : SchemaNode) → is_case (asked_node n).kind ≡ is_case n.kind
+pub case_kept : (n : SchemaNode) → is_case (asked_node n).kind ≡ is_case n.kind
 case_kept n = kept_by is_case by n
   where
     by : (k : Kind) → is_case (unasked k) ≡ is_case k
@@ -436,14 +436,10 @@ choice_kept n = kept_by is_choice by n
     by (choice default_case is_mandatory) = refl
     by case = refl
 
-cases_kept : (b : Bool) (f : Forest SchemaNode) → CasesInChoices b f → CasesInChoices b (relabelled asked_node f)
+pub cases_kept : (b : Bool) (f : Forest SchemaNode) → CasesInChoices b f → CasesInChoices b (relabelled asked_node f)
 cases_kept b end cased = tt
 cases_kept b (node n below after) cased = (
   λ is. cased.0 (sym (case_kept n) ∙ is),
   subst (λ c. CasesInChoices c (relabelled asked_node below)) (sym (choice_kept n)) (cases_kept (is_choice n.kind) below cased.1),
   cases_kept b after cased.2,
 )
-
-pub cases_of : (s : Schema) → ∥ IsMade s ∥₁ → CasesInChoices false s.nodes
-cases_of s made = made_has (λ s. CasesInChoices false s.nodes) (λ s. cases-prop false s.nodes) (λ s c. linked_cases c.0 s c.1)
-    (λ s. cases_kept false s.nodes) s made

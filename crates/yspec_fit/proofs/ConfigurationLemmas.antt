@@ -1,24 +1,13 @@
 -- What a schema asks of configuration alone has what the whole schema has.
 use Rattle.std.proofs.Common.{◌≡◌, ℕ, ◌≤◌, Bool, true, false, cond, Option, Some, None, refl, sym, ap, ap₂, ◌∙◌, subst}
-use mathlib.Core.Logic.{∥∥₁_elim}
 use Rattle.std.specs.Prelude.{◌==◌, option_map}
 use Rattle.yspec.specs.Forest.{Forest, end, node, join, size, levels, relabelled, find_label, first_of}
 use Rattle.yspec.specs.text.Text.{Text}
 use Rattle.yspec.specs.schema.Schema.{Schema, SchemaNode, Kind, container, leaf, leaf_list, list, choice, case, is_data, has_value, node_at, data_row, written_name}
-use Rattle.yspec.specs.schema.Configuration.{unasked, asked_node, configuration_schema, seen_schema}
+use Rattle.yspec.specs.schema.Configuration.{unasked, asked_node, configuration_schema}
 use Rattle.yspec.specs.document.Fitting.{LeafsAreBare}
 use Rattle.yspec.specs.document.Writing.{IsNew, RowDiffers, AllDiffer, NamesDiffer, NodesAreNamed}
-use Rattle.yspec.specs.linking.Compiling.{IsCompiled, IsMade}
 use Rattle.yspec.proofs.LinkingProofs.LinkedLemmas.{relabelled-size, relabelled-levels}
-
--- A fact of every compiled schema that is kept so is one of every schema that is made.
-pub made_has : (P : Schema → Type 0) → ((s : Schema) → IsProp (P s)) → ((s : Schema) → IsCompiled s → P s)
-    → ((s : Schema) → P s → P (configuration_schema s)) → (s : Schema) → ∥ IsMade s ∥₁ → P s
-made_has P once has keeps s made = ∥∥₁_elim made (once s) (λ m. by m.0 m.1 m.2 m.3)
-  where
-    by : (b : Bool) (whole : Schema) → IsCompiled whole → seen_schema b whole ≡ s → P s
-    by true whole compiled is = subst P is (keeps whole (has whole compiled))
-    by false whole compiled is = subst P is (has whole compiled)
 
 -- ---- a node
 

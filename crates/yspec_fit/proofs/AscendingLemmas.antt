@@ -9,15 +9,14 @@ use Rattle.std.proofs.lemmas.List.{map-append}
 use Rattle.std.proofs.lemmas.List.Elements.{filter-append}
 use Rattle.yspec.specs.Forest.{Forest, end, node, size, preorder}
 use Rattle.yspec.specs.linking.Augments as augments
-use Rattle.yspec.specs.linking.Compiling.{IsCompiled, IsMade, schema_augment, schema_modules, target_found}
+use Rattle.yspec.specs.linking.Compiling.{IsCompiled, schema_augment, schema_modules, target_found}
 use Rattle.yspec.specs.linking.Parts.{Part}
 use Rattle.yspec.specs.linking.Planned.{Plan, Planned, Around, around_below, planned, planned_node, same_number}
 use Rattle.yspec.specs.linking.SchemaNodes.{number_in}
 use Rattle.yspec.specs.linking.Source.{Source}
 use Rattle.yspec.specs.schema.Schema.{Schema, SchemaModule, augments_in}
-use Rattle.yspec.proofs.LinkingProofs.ConfigurationLemmas.{made_has}
 use Rattle.yspec.proofs.LinkingProofs.LinkedLemmas.{compiles, plan_in}
-use Rattle.yschema_model.specs.Ascending.{ascends_from, all_ascend}
+use Rattle.yspec_fit.specs.Fit.{ascends_from, all_ascend}
 
 -- they ascend, from a least one on and below another
 abbrev pub Between : ℕ → ℕ → List ℕ → Type 0
@@ -85,12 +84,8 @@ modules_ascend plan ascends end m = refl
 modules_ascend plan ascends (node s below after) zero = augments_ascend_in plan ascends (augments.augments_in below)
 modules_ascend plan ascends (node s below after) (suc m) = modules_ascend plan ascends after m
 
-compiled_ascend : (schema : Schema) (m : ℕ) → IsCompiled schema → all_ascend (augments_in schema m) ≡ true
+pub compiled_ascend : (schema : Schema) (m : ℕ) → IsCompiled schema → all_ascend (augments_in schema m) ≡ true
 compiled_ascend schema m compiled =
     let plan = plan_in compiled.0 in
     subst (λ (s : Schema). all_ascend (augments_in s m) ≡ true) (compiles compiled.0 schema compiled.1).is
     (modules_ascend plan (λ test. between_ascends 0 (0 + size _) _ (planned_between test 0 _ _)) plan.modules m)
-
-pub ascend_of : (schema : Schema) (m : ℕ) → ∥ IsMade schema ∥₁ → all_ascend (augments_in schema m) ≡ true
-ascend_of schema m made = made_has (λ s. all_ascend (augments_in s m) ≡ true) (λ s. Coded-set coded_bool (all_ascend (augments_in s m)) true)
-    (λ s. compiled_ascend s m) (λ s ascend. ascend) schema made
