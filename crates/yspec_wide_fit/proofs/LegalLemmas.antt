@@ -1,0 +1,350 @@
+-- The statements of modules that break no rule of the table in a language, as sources: each stands where it may, and what defines a
+-- node has an identifier for its argument.
+use Rattle.std.proofs.Common.{◌≡◌, ℕ, suc, ◌+◌, Bool, true, false, cond, not, ◌||◌, List, [], ◌∷◌, ◌++◌, map, filter, Option, Some, None, refl, sym, ap, ap₂, ◌∙◌, subst}
+use Rattle.std.proofs.lemmas.Bool.{and_parts, or_right}
+use Rattle.std.proofs.lemmas.List.Folds.{list_any-append}
+use Rattle.std.proofs.lemmas.Slice.Eq.{bytes_eq-Decides}
+use Rattle.std.specs.Prelude.{option_map, option_and_then, unwrap_or}
+use Rattle.std.specs.List.{list_all}
+use Rattle.std.specs.Option.{option_map_or}
+use Rattle.yspec.specs.Forest.{Forest, end, node, join, size}
+use Rattle.yspec.specs.text.Text.{Text, is_text, is_identifier}
+use Rattle.yspec.specs.text.Statement.{Statement}
+use Rattle.yspec.specs.schema.Breaks.{Break, broken}
+use Rattle.yspec.specs.linking.Keyword.{Keyword, same_keyword, keywords, module_word, extension_word, description_word, reference_word, status_word}
+use Rattle.yspec.specs.linking.Arguments.{identifier_form, fits}
+use Rattle.yspec.specs.linking.Table as narrow
+use Rattle.yspec.specs.linking.Table.{rule_of, doc}
+use Rattle.yspec.specs.linking.Source.{Source, unless_extension, kept_at, numbered, argument_in}
+use Rattle.yspec.specs.linking.StatementBreaks as narrow_breaks
+use Rattle.yspec.specs.linking.StatementBreaks.{is_prefixed}
+use Rattle.yspec.specs.linking.Parts.{defines_node}
+use Rattle.yspec.proofs.LinkingProofs.BreakLemmas.{none_first, none_second, unbroken}
+use Rattle.yspec.proofs.LinkingProofs.KeywordLemmas.{of_each, same_is, by_definition, prefixed_is_none}
+use Rattle.yspec.proofs.LinkingProofs.LegalLemmas.{identifier_fits}
+use Rattle.yspec_wide.specs.Language.{Language, core, rfc, YangVersion, yang_1, yang_1_1}
+use Rattle.yspec_wide.specs.Words.{Word, known, feature_word, if_feature_word, same_word, word_text, or_added, word_named}
+use Rattle.yspec_wide.specs.Table.{WideForm, as_before, fits_in, Allowed, row_before, added, lacks, has_fewer, with_fewer, of_version, is_version_row, with_version_free, rule_in}
+use Rattle.yspec_wide.specs.StatementBreaks.{version_in, argument_breaks, own_breaks, is_allowed, known_breaks, named_breaks, breaks_at, substatements_of, row_breaks_in, top_breaks, breaks_in_from}
+use Rattle.yspec_wide.specs.Sources.{keyword_kept, kept_keyword_in, kept_in, sources_in_from}
+
+-- ---- rows of sources
+
+-- what may stand below a keyword, with what documents a feature, which is kept as `extension` is named
+abbrev pub may_stand : Keyword → List narrow.Allowed
+may_stand k = doc ++ (rule_of k).substatements
+
+pub record IsLegalAt (home : ℕ) (allowed : List narrow.Allowed) (s : Source) : Type 0 where
+  pub known : same_keyword extension_word s.keyword ≡ false → narrow_breaks.is_allowed s.keyword allowed ≡ true
+  pub named : defines_node s.keyword ≡ true → is_identifier (argument_in s) ≡ true
+  pub stands : s.home ≡ home
+
+-- a row of statements of a module, that may stand there
+abbrev pub IsLegal : ℕ → List narrow.Allowed → Forest Source → Type 0
+IsLegal home allowed end = Unit {0}
+IsLegal home allowed (node s below after) = IsLegalAt home allowed s × IsLegal home (may_stand s.keyword) below × IsLegal home allowed after
+
+-- no keyword with a property may stand in a row
+abbrev pub has_none : (Keyword → Bool) → List narrow.Allowed → Bool
+has_none test allowed = list_all (λ k. not (test k) || not (narrow_breaks.is_allowed k allowed)) keywords
+
+pub none_is : (home : ℕ) (allowed : List narrow.Allowed) (s : Source) (test : Keyword → Bool) → test extension_word ≡ false → has_none test allowed ≡ true
+    → IsLegalAt home allowed s → test s.keyword ≡ false
+none_is home allowed s test extended none legal = by (same_keyword extension_word s.keyword) refl
+  where
+    no : (t a : Bool) → a ≡ true → (not t || not a) ≡ true → t ≡ false
+    no false a is e = refl
+    no true true is e = absurd cc
+    no true false is e = absurd cc
+
+    by : (b : Bool) → same_keyword extension_word s.keyword ≡ b → test s.keyword ≡ false
+    by true same = ap test (sym (same_is extension_word s.keyword same)) ∙ extended
+    by false other = no (test s.keyword) (narrow_breaks.is_allowed s.keyword allowed) (legal.known other)
+        (of_each (λ k. not (test k) || not (narrow_breaks.is_allowed k allowed)) none s.keyword)
+
+-- ---- what the table lets stand there
+
+abbrev Covers : List Allowed → List narrow.Allowed → Type 0
+Covers rows allowed = (k : Keyword) → is_allowed (known k) rows ≡ true → narrow_breaks.is_allowed k allowed ≡ true
+
+before_is : (k : Keyword) (rows : List narrow.Allowed) → is_allowed (known k) (row_before rows) ≡ narrow_breaks.is_allowed k rows
+before_is k [] = refl
+before_is k (a ∷ rows) = ap (λ c. same_keyword a.keyword k || c) (before_is k rows)
+
+-- counts say nothing of where a statement may stand
+recounted : (change : Allowed → Allowed) → ((a : Allowed) → (change a).word ≡ a.word) → (w : Word) (rows : List Allowed)
+    → is_allowed w (map change rows) ≡ is_allowed w rows
+recounted change keeps w [] = refl
+recounted change keeps w (a ∷ rows) = ap₂ (λ v c. same_word v w || c) (keeps a) (recounted change keeps w rows)
+
+fewer_word : (k : Keyword) (a : Allowed) → (with_fewer k a).word ≡ a.word
+fewer_word k a = by (has_fewer k a.word)
+  where
+    by : (b : Bool) → (cond b (record { word = a.word; count = narrow.at_most_one }) a).word ≡ a.word
+    by true = refl
+    by false = refl
+
+free_word : (a : Allowed) → (with_version_free a).word ≡ a.word
+free_word a = by (is_version_row a)
+  where
+    by : (b : Bool) → (cond b (record { word = a.word; count = narrow.at_most_one }) a).word ≡ a.word
+    by true = refl
+    by false = refl
+
+lacking : (test : Allowed → Bool) (w : Word) (rows : List Allowed) → is_allowed w (filter test rows) ≡ true → is_allowed w rows ≡ true
+lacking test w [] e = e
+lacking test w (a ∷ rows) e = by (test a) e (lacking test w rows)
+  where
+    either : (b : Bool) → (is_allowed w (filter test rows) ≡ true → is_allowed w rows ≡ true) → (b || is_allowed w (filter test rows)) ≡ true → (b || is_allowed w rows) ≡ true
+    either true rest e = refl
+    either false rest e = rest e
+
+    by : (t : Bool) → is_allowed w (cond t (a ∷ filter test rows) (filter test rows)) ≡ true
+        → (is_allowed w (filter test rows) ≡ true → is_allowed w rows ≡ true) → (same_word a.word w || is_allowed w rows) ≡ true
+    by true e rest = either (same_word a.word w) rest e
+    by false e rest = or_right (same_word a.word w) (is_allowed w rows) (rest e)
+
+of_version_is : (version : YangVersion) (k : Keyword) (w : Word) (rows : List Allowed) → is_allowed w (of_version version k rows) ≡ true → is_allowed w rows ≡ true
+of_version_is yang_1 k w rows e =
+    lacking (λ (a : Allowed). not (lacks k a.word)) w rows (sym (recounted (with_fewer k) (fewer_word k) w (filter (λ (a : Allowed). not (lacks k a.word)) rows)) ∙ e)
+of_version_is yang_1_1 k w rows e = e
+
+-- what is added are features and conditions
+none_added : (k j : Keyword) → is_allowed (known j) (added k) ≡ false
+none_added k j = turned (is_allowed (known j) (added k))
+    (of_each (λ j. not (is_allowed (known j) (added k))) (of_each (λ k. list_all (λ j. not (is_allowed (known j) (added k))) keywords) refl k) j)
+  where
+    turned : (b : Bool) → not b ≡ true → b ≡ false
+    turned true e = absurd cc
+    turned false e = refl
+
+or_none : (a b : Bool) → b ≡ false → (a || b) ≡ true → a ≡ true
+or_none true b none e = refl
+or_none false true none e = absurd cc
+or_none false false none e = e
+
+documented : (j k : Keyword) → narrow_breaks.is_allowed j (rule_of k).substatements ≡ true → narrow_breaks.is_allowed j (may_stand k) ≡ true
+documented j k e =
+    let own = narrow_breaks.is_allowed j (rule_of k).substatements in
+    let referred = same_keyword reference_word j || own in
+    or_right (same_keyword status_word j) (same_keyword description_word j || referred)
+    (or_right (same_keyword description_word j) referred (or_right (same_keyword reference_word j) own e))
+
+covers_known : (language : Language) (version : YangVersion) (k : Keyword) → Covers (rule_in language version (known k)).substatements (may_stand k)
+covers_known core version k j e = documented j k (sym (before_is j (rule_of k).substatements) ∙ e)
+covers_known (rfc choosings) version k j e =
+    let rows = row_before (rule_of k).substatements in
+    let whole = of_version_is version k (known j) (map with_version_free rows ++ added k) e in
+    let own = or_none (is_allowed (known j) (map with_version_free rows)) (is_allowed (known j) (added k)) (none_added k j)
+    (sym (list_any-append (λ (a : Allowed). same_word a.word (known j)) (map with_version_free rows) (added k)) ∙ whole) in
+    documented j k (sym (before_is j (rule_of k).substatements) ∙ (sym (recounted with_version_free free_word (known j) rows) ∙ own))
+
+covers_feature : (language : Language) (version : YangVersion) → Covers (rule_in language version feature_word).substatements (may_stand extension_word)
+covers_feature core version j e = absurd cc
+covers_feature (rfc choosings) version j e =
+    sym (before_is j doc) ∙ later (same_word if_feature_word (known j)) (is_allowed (known j) (row_before doc)) (of_each (λ j. not (same_word if_feature_word (known j))) refl j) e
+  where
+    later : (a b : Bool) → not a ≡ true → (a || b) ≡ true → b ≡ true
+    later true b is e = absurd cc
+    later false b is e = e
+
+covers_condition : (language : Language) (version : YangVersion) → Covers (rule_in language version if_feature_word).substatements (may_stand extension_word)
+covers_condition core version j e = absurd cc
+covers_condition (rfc choosings) version j e = absurd cc
+
+-- ---- identifiers
+
+of_form : (version : YangVersion) (t : Text) → fits_in version (as_before identifier_form) t ≡ true → is_identifier t ≡ true
+of_form yang_1 t e = identifier_fits t (and_parts (fits identifier_form t) _ e).0
+of_form yang_1_1 t e = identifier_fits t e
+
+form_is : (language : Language) (version : YangVersion) (k : Keyword) → defines_node k ≡ true → (rule_in language version (known k)).form ≡ as_before identifier_form
+form_is core version k defines = by_definition k (λ k. (rule_in core version (known k)).form ≡ as_before identifier_form) refl refl refl refl refl refl defines
+form_is (rfc choosings) version k defines =
+    by_definition k (λ k. (rule_in (rfc choosings) version (known k)).form ≡ as_before identifier_form) refl refl refl refl refl refl defines
+
+argument_fits : (version : YangVersion) (form : WideForm) (given : Option Text) → option_map_or (fits_in version form) given false ≡ true
+    → fits_in version form (unwrap_or given []) ≡ true
+argument_fits version form None e = absurd cc
+argument_fits version form (Some t) e = e
+
+identifier_is : (version : YangVersion) (m : ℕ) (form : WideForm) (s : Statement) → argument_breaks m version form s ≡ [] → form ≡ as_before identifier_form
+    → is_identifier (unwrap_or s.argument []) ≡ true
+identifier_is version m form s e is =
+    let given = option_map_or (fits_in version form) s.argument false in
+    of_form version (unwrap_or s.argument []) (subst (λ f. fits_in version f (unwrap_or s.argument []) ≡ true) is
+    (argument_fits version form s.argument (turned given (unbroken (not given) 3 m s.line e))))
+  where
+    turned : (b : Bool) → not b ≡ false → b ≡ true
+    turned true e = refl
+    turned false e = absurd cc
+
+-- ---- statements that are passed over
+
+-- no keyword of a language has a prefix
+unprefixed : (t : Text) → is_prefixed t ≡ true → (w : Text) → is_prefixed w ≡ false → is_text t w ≡ false
+unprefixed t prefixed w plain = by (is_text t w) refl
+  where
+    by : (b : Bool) → is_text t w ≡ b → b ≡ false
+    by true is = absurd (let no : true ≡ false = sym prefixed ∙ (ap is_prefixed ((bytes_eq-Decides t w).0 is) ∙ plain) in cc)
+    by false is = refl
+
+prefixed_none : (language : Language) (t : Text) → is_prefixed t ≡ true → word_named language t ≡ None
+prefixed_none core t prefixed = ap (option_map known) (prefixed_is_none t prefixed)
+prefixed_none (rfc choosings) t prefixed = ap (λ o. or_added o t) (prefixed_is_none t prefixed)
+    ∙ (ap (λ b. cond b (Some feature_word) (cond (is_text t (word_text if_feature_word)) (Some if_feature_word) None)) (unprefixed t prefixed (word_text feature_word) refl)
+    ∙ ap (λ b. cond b (Some if_feature_word) None) (unprefixed t prefixed (word_text if_feature_word) refl))
+
+-- ---- a row of statements
+
+module _ (language : Language) (version : YangVersion) (m : ℕ) where
+  Inside : Word → List Break → Forest (Keyword × Statement) → Type 0
+  Inside w inner f = (allowed : List narrow.Allowed) → Covers (rule_in language version w).substatements allowed → inner ≡ [] → (n : ℕ) → IsLegal m allowed (numbered m n f)
+
+  -- a feature or a condition
+  legal_added : (number : ℕ) (rows : List Allowed) (allowed : List narrow.Allowed) (w : Word) → Covers (rule_in language version w).substatements (may_stand extension_word)
+      → same_word w (known extension_word) ≡ false → keyword_kept w ≡ Some extension_word
+      → (s : Statement) (below : Forest Statement) (inner : List Break) (f g : Forest (Keyword × Statement))
+      → known_breaks language version m rows w s below inner ≡ [] → Inside w inner f → ((n : ℕ) → IsLegal m allowed (numbered m n g))
+      → IsLegal m allowed (numbered m number (kept_at (keyword_kept w) s f g))
+  unfolding numbered Inside
+  legal_added number rows allowed w covers other is s below inner f g e inside rest =
+      subst (λ k. IsLegal m allowed (numbered m number (kept_at k s f g))) (sym is) (by (is_allowed w rows) (same_word w (known extension_word)) other e)
+    where
+      by : (a x : Bool) → x ≡ false → cond (not a) (broken 1 m s.line) (cond x [] (own_breaks language version m w s below ++ inner)) ≡ []
+          → IsLegal m allowed (numbered m number (kept_at (Some extension_word) s f g))
+      by false x unlike e = absurd cc
+      by true true unlike e = absurd cc
+      by true false unlike e = (
+        record { known = λ unlike. absurd cc; named = λ defines. absurd cc; stands = refl },
+        inside (may_stand extension_word) covers (none_second (own_breaks language version m w s below) inner e) (number + 1),
+        rest (number + suc (size f)),
+      )
+
+  -- one of the core's
+  legal_known : (number : ℕ) (rows : List Allowed) (allowed : List narrow.Allowed) → Covers rows allowed → (k : Keyword)
+      → (s : Statement) (below : Forest Statement) (inner : List Break) (f g : Forest (Keyword × Statement))
+      → known_breaks language version m rows (known k) s below inner ≡ [] → Inside (known k) inner f → ((n : ℕ) → IsLegal m allowed (numbered m n g))
+      → IsLegal m allowed (numbered m number (kept_at (unless_extension k) s f g))
+  unfolding numbered Inside
+  legal_known number rows allowed covers k s below inner f g e inside rest = by (is_allowed (known k) rows) refl (same_keyword k extension_word) e
+    where
+      form : WideForm
+      form = (rule_in language version (known k)).form
+
+      by : (a : Bool) → is_allowed (known k) rows ≡ a → (x : Bool)
+          → cond (not a) (broken 1 m s.line) (cond x [] (own_breaks language version m (known k) s below ++ inner)) ≡ []
+          → IsLegal m allowed (numbered m number (kept_at (cond x None (Some k)) s f g))
+      by false may x e = absurd cc
+      by true may true e = rest number
+      by true may false e =
+          let own = none_first (own_breaks language version m (known k) s below) inner e in (
+            record {
+              known = λ other. covers k may;
+              named = λ defines. identifier_is version m form s (none_first (argument_breaks m version form s) _ own) (form_is language version k defines);
+              stands = refl;
+            },
+            inside (may_stand k) (covers_known language version k) (none_second (own_breaks language version m (known k) s below) inner e) (number + 1),
+            rest (number + suc (size f)),
+          )
+
+  legal_named : (number : ℕ) (rows : List Allowed) (allowed : List narrow.Allowed) → Covers rows allowed
+      → (s : Statement) (below : Forest Statement) (inner : List Break) (f g : Forest (Keyword × Statement)) (prefixed : Bool) (o : Option Word) → (prefixed ≡ true → o ≡ None)
+      → cond prefixed [] (named_breaks language version m rows o s below inner) ≡ []
+      → ((w : Word) → o ≡ Some w → Inside w inner f) → ((n : ℕ) → IsLegal m allowed (numbered m n g))
+      → IsLegal m allowed (numbered m number (kept_at (option_and_then keyword_kept o) s f g))
+  legal_named number rows allowed covers s below inner f g true None is e inside rest = rest number
+  legal_named number rows allowed covers s below inner f g true (Some w) is e inside rest = let none = is refl in absurd cc
+  legal_named number rows allowed covers s below inner f g false None is e inside rest = absurd cc
+  legal_named number rows allowed covers s below inner f g false (Some (known k)) is e inside rest =
+      legal_known number rows allowed covers k s below inner f g e (inside (known k) refl) rest
+  legal_named number rows allowed covers s below inner f g false (Some feature_word) is e inside rest =
+      legal_added number rows allowed feature_word (covers_feature language version) refl refl s below inner f g e (inside feature_word refl) rest
+  legal_named number rows allowed covers s below inner f g false (Some if_feature_word) is e inside rest =
+      legal_added number rows allowed if_feature_word (covers_condition language version) refl refl s below inner f g e (inside if_feature_word refl) rest
+
+  pub legal_row : (rows : List Allowed) (allowed : List narrow.Allowed) → Covers rows allowed → (f : Forest Statement) → row_breaks_in language version m rows f ≡ []
+      → (number : ℕ) → IsLegal m allowed (numbered m number (kept_in language f))
+  unfolding row_breaks_in kept_in numbered Inside
+  legal_row rows allowed covers end e number = tt
+  legal_row rows allowed covers (node s below after) e number =
+      let inner = row_breaks_in language version m (substatements_of language version s.keyword) below in
+      let this = breaks_at language version m rows s below inner in
+      legal_named number rows allowed covers s below inner (kept_in language below) (kept_in language after) (is_prefixed s.keyword) (word_named language s.keyword)
+      (prefixed_none language s.keyword)
+      (none_first this (row_breaks_in language version m rows after) e)
+      (λ w is allowed covers none. legal_row (substatements_of language version s.keyword) allowed
+      (subst (λ o. Covers (option_map_or (λ w. (rule_in language version w).substatements) o []) allowed) (sym is) covers) below none)
+      (legal_row rows allowed covers after (none_second this (row_breaks_in language version m rows after) e))
+
+-- ---- modules
+
+-- `module` statements, numbered from one on; each has an identifier for its argument, and legal substatements
+abbrev pub AreModules : ℕ → Forest Source → Type 0
+AreModules home end = Unit {0}
+AreModules home (node s below after) = (s.keyword ≡ module_word) × (s.home ≡ home) × (is_identifier (argument_in s) ≡ true)
+    × IsLegal home (may_stand module_word) below × AreModules (home + 1) after
+
+pub record IsModule (language : Language) (m : ℕ) (s : Statement) (below : Forest Statement) : Type 0 where
+  pub keyword : kept_keyword_in language s ≡ Some module_word
+  pub own : own_breaks language (version_in language below) m (known module_word) s below ≡ []
+  pub inner : row_breaks_in language (version_in language below) m (rule_in language (version_in language below) (known module_word)).substatements below ≡ []
+
+pub is_module : (language : Language) (m : ℕ) (s : Statement) (below : Forest Statement) → top_breaks language m s below ≡ [] → IsModule language m s below
+is_module language m s below e = by (word_named language s.keyword) refl e
+  where
+    version : YangVersion
+    version = version_in language below
+
+    own : List Break
+    own = own_breaks language version m (known module_word) s below
+
+    inner : List Break
+    inner = row_breaks_in language version m (rule_in language version (known module_word)).substatements below
+
+    named : (k : Keyword) → word_named language s.keyword ≡ Some (known k) → (b : Bool) → same_keyword module_word k ≡ b
+        → cond b (own ++ inner) (broken 1 m s.line) ≡ [] → IsModule language m s below
+    named k is false same e = absurd cc
+    named k is true same e = record {
+      keyword = ap (λ o. option_and_then keyword_kept o) (is ∙ ap (λ j. Some (known j)) (sym (same_is module_word k same)));
+      own = none_first own inner e;
+      inner = none_second own inner e;
+    }
+
+    by : (o : Option Word) → word_named language s.keyword ≡ o
+        → cond (option_map_or (same_word (known module_word)) o false) (own ++ inner) (broken 1 m s.line) ≡ [] → IsModule language m s below
+    by None is e = absurd cc
+    by (Some (known k)) is e = named k is (same_keyword module_word k) refl e
+    by (Some feature_word) is e = absurd cc
+    by (Some if_feature_word) is e = absurd cc
+
+-- a module is one source, and the others follow
+pub sources_first : (language : Language) (home number : ℕ) (s : Statement) (below after : Forest Statement) → kept_keyword_in language s ≡ Some module_word
+    → sources_in_from language home number (node s below after)
+    ≡ node (record { keyword = module_word; statement = s; number = number; home = home }) (numbered home (number + 1) (kept_in language below))
+    (sources_in_from language (home + 1) (number + suc (size (kept_in language below) + 0)) after)
+unfolding sources_in_from kept_in numbered
+sources_first language home number s below after is =
+    ap (λ o. join (numbered home number (kept_at o s (kept_in language below) end))
+    (sources_in_from language (home + 1) (number + size (kept_at o s (kept_in language below) end)) after)) is
+
+module_form : (language : Language) (version : YangVersion) → (rule_in language version (known module_word)).form ≡ as_before identifier_form
+module_form core version = refl
+module_form (rfc choosings) version = refl
+
+pub are_modules : (language : Language) (home : ℕ) (modules : Forest Statement) → breaks_in_from language home modules ≡ []
+    → (number : ℕ) → AreModules home (sources_in_from language home number modules)
+unfolding sources_in_from breaks_in_from
+are_modules language home end e number = tt
+are_modules language home (node s below after) e number =
+    let version = version_in language below in
+    let form = (rule_in language version (known module_word)).form in
+    let here = is_module language home s below (none_first (top_breaks language home s below) (breaks_in_from language (home + 1) after) e) in
+    subst (AreModules home) (sym (sources_first language home number s below after here.keyword)) (
+      refl,
+      refl,
+      identifier_is version home form s (none_first (argument_breaks home version form s) _ here.own) (module_form language version),
+      legal_row language version home (rule_in language version (known module_word)).substatements (may_stand module_word) (covers_known language version module_word)
+          below here.inner (number + 1),
+      are_modules language (home + 1) after (none_second (top_breaks language home s below) (breaks_in_from language (home + 1) after) e) _,
+    )

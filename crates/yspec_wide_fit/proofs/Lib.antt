@@ -1,0 +1,10 @@
+pub mod LegalLemmas
+pub mod SoundLemmas
+pub mod ExpandedLemmas
+pub mod NodeLemmas
+pub mod CompilingLemmas
+pub mod ModuleLemmas
+pub mod NameLemmas
+pub mod PathLemmas
+pub mod AscendingLemmas
+pub mod FitLemmas
