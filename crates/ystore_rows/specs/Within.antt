@@ -15,7 +15,7 @@ pub record Within : Type 0 where
   pub play : List (FaultCode × SchemaId)
 
 abbrev pub within_of : Extent → Within
-within_of (Small play) = record { children = []; room = 0; same = []; play = play.items }
+within_of (Small play place) = record { children = []; room = 0; same = []; play = play.items }
 within_of (Large parts) = record {
   children = nodes_of parts.value.children;
   room = room_of parts.value.children;
@@ -25,5 +25,5 @@ within_of (Large parts) = record {
 
 -- where the node above was put
 abbrev pub place_of : Extent → ℕ
-place_of (Small play) = 0
+place_of (Small play place) = place
 place_of (Large parts) = parts.value.place

@@ -21,7 +21,7 @@ pub struct Parts {
 /// The same, in little room where there are neither nodes nor flags.
 #[derive(Drop)]
 pub enum Extent {
-    Small(Vec<Absence>),
+    Small { play: Vec<Absence>, place: u32 },
     Large(Box<Parts>),
 }
 
@@ -35,7 +35,7 @@ impl Extent {
     pub fn empty(alloc: Global) -> Extent
         ensures { within_of result ≡ record { children = []; room = 0; same = []; play = [] } }
     {
-        Extent::Small(Vec::new(alloc))
+        small(Vec::new(alloc))
     }
 
     /// No nodes, with room for so many.
@@ -49,7 +49,7 @@ impl Extent {
             ≡ record { children = []; room = room; same = same.items; play = play.items }) }
     {
         if room == 0 && same.is_empty() {
-            return Ok(Extent::Small(play));
+            return Ok(small(play));
         }
         large(alloc, same, play, room)
     }
@@ -59,7 +59,7 @@ impl Extent {
         ensures { result ≡ length (within_of self.now).children }
     {
         match self {
-            Extent::Small(_) => 0,
+            Extent::Small { .. } => 0,
             Extent::Large(parts) => parts.children.len(),
         }
     }
@@ -69,7 +69,7 @@ impl Extent {
         ensures { result ≡ slice_get (within_of self.now).children place }
     {
         match self {
-            Extent::Small(_) => None,
+            Extent::Small { .. } => None,
             Extent::Large(parts) => parts.children.child_at(place),
         }
     }
@@ -79,7 +79,7 @@ impl Extent {
         ensures { result ≡ length (rows.of_schema schema (within_of self.now).children) }
     {
         match self {
-            Extent::Small(_) => 0,
+            Extent::Small { .. } => 0,
             Extent::Large(parts) => parts.children.count_of(schema),
         }
     }
@@ -89,7 +89,7 @@ impl Extent {
         ensures { result ≡ option_map (λ c. c.1) (slice_get (within_of self.now).children place) }
     {
         match self {
-            Extent::Small(_) => None,
+            Extent::Small { .. } => None,
             Extent::Large(parts) => parts.children.get(place),
         }
     }
@@ -99,7 +99,7 @@ impl Extent {
         ensures { result ≡ slice_get (rows.of_schema schema (within_of self.now).children) place }
     {
         match self {
-            Extent::Small(_) => None,
+            Extent::Small { .. } => None,
             Extent::Large(parts) => parts.children.get_of(schema, place),
         }
     }
@@ -109,7 +109,7 @@ impl Extent {
         ensures { result ≡ places.place_near near node (rows.of_schema schema (within_of self.now).children) }
     {
         match self {
-            Extent::Small(_) => 0,
+            Extent::Small { .. } => 0,
             Extent::Large(parts) => parts.children.index_near(schema, node, near),
         }
     }
@@ -119,7 +119,7 @@ impl Extent {
         ensures { result ≡ place_of self.now }
     {
         match self {
-            Extent::Small(_) => 0,
+            Extent::Small { place, .. } => *place as usize,
             Extent::Large(parts) => parts.place,
         }
     }
@@ -129,7 +129,7 @@ impl Extent {
         ensures { result.now ≡ (within_of self.now).same }
     {
         match self {
-            Extent::Small(_) => &[],
+            Extent::Small { .. } => &[],
             Extent::Large(parts) => parts.same.as_slice(),
         }
     }
@@ -139,7 +139,7 @@ impl Extent {
         ensures { result.now ≡ (within_of self.now).play }
     {
         match self {
-            Extent::Small(play) => play.as_slice(),
+            Extent::Small { play, .. } => play.as_slice(),
             Extent::Large(parts) => parts.play.as_slice(),
         }
     }
@@ -152,9 +152,10 @@ impl Extent {
     {
         match self {
             Extent::Large(parts) => parts.children.reserve(),
-            Extent::Small(play) => {
+            Extent::Small { play, place } => {
                 let mut made = large(alloc, Vec::new(alloc), Vec::new(alloc), 1)?;
                 made.set_play(mem::replace(play, Vec::new(alloc)));
+                made.set_place(*place as usize);
                 *self = made;
                 Ok(())
             }
@@ -167,7 +168,7 @@ impl Extent {
         ensures { within_of self.new ≡ record (within_of self.old) { children = rows.added child (within_of self.old).children } }
     {
         match self {
-            Extent::Small(_) => 0,
+            Extent::Small { .. } => 0,
             Extent::Large(parts) => parts.children.add(child),
         }
     }
@@ -187,7 +188,7 @@ impl Extent {
         ensures { within_of self.new ≡ record (within_of self.old) { children = rows.put child node (within_of self.old).children } }
     {
         match self {
-            Extent::Small(_) => 0,
+            Extent::Small { .. } => 0,
             Extent::Large(parts) => parts.children.put(child, node),
         }
     }
@@ -216,7 +217,7 @@ impl Extent {
         ensures { within_of self.new ≡ record (within_of self.old) { children = rows.shifted schema from to (within_of self.old).children } }
     {
         match self {
-            Extent::Small(_) => None,
+            Extent::Small { .. } => None,
             Extent::Large(parts) => parts.children.shift_at(schema, from, to),
         }
     }
@@ -237,7 +238,7 @@ impl Extent {
         ensures { within_of self.new ≡ record (within_of self.old) { play = play.items } }
     {
         match self {
-            Extent::Small(was) => *was = play,
+            Extent::Small { play: was, .. } => *was = play,
             Extent::Large(parts) => parts.play = play,
         }
     }
@@ -246,10 +247,18 @@ impl Extent {
     pub fn set_place(&mut self, place: usize)
         ensures { within_of self.new ≡ within_of self.old }
     {
-        if let Extent::Large(parts) = self {
-            parts.place = place;
+        match self {
+            Extent::Small { place: was, .. } => *was = u32::try_from(place).unwrap_or(u32::MAX),
+            Extent::Large(parts) => parts.place = place,
         }
     }
+}
+
+/// Neither nodes nor flags, without room.
+fn small(play: Vec<Absence>) -> Extent
+    ensures { within_of result ≡ record { children = []; room = 0; same = []; play = play.items } }
+{
+    Extent::Small { play, place: 0 }
 }
 
 /// No nodes, with room for so many, and flags.
