@@ -4,6 +4,7 @@
 mod fault;
 mod features;
 mod judging;
+mod kept;
 mod linked;
 mod linking;
 mod modules;
@@ -14,9 +15,11 @@ mod verdicts;
 mod versions;
 
 pub use fault::CompileFault;
+pub use kept::KeptMeanings;
 pub use linked::{Linked, StmtId};
 pub use linking::{link, link_in};
 pub use modules::prefixed_in;
 pub use statements::Statements;
+pub use versions::means_empty;
 pub use ylink_grammar::{CompileCode, Language};
-pub use ylink_types::Meant;
+pub use ylink_types::{Kept, Meant};

@@ -1,5 +1,7 @@
 //! The statements of a set of modules that links, and what can be asked of them.
 
+ghost use Rattle.std.specs.Prelude.{◌≡◌, []};
+ghost use Rattle.yspec.specs.linking.Circles.{definition_circles};
 ghost use Rattle.ylink_grammar.specs.LinkView as statements;
 ghost use Rattle.ylink_names.specs.MeaningView.{AreMeanings};
 ghost use Rattle.ylink_names.specs.Ordered.{AreInOrder};
@@ -7,13 +9,14 @@ ghost use Rattle.ylink_names.specs.PrefixView as prefix;
 ghost use Rattle.ylink_types.specs.TypedefView as typedef;
 ghost use Rattle.ylink.specs.VerdictView.{AreVerdicts};
 
+use crate::kept::KeptMeanings;
 use crate::modules::{module_at, prefixed_in};
 use crate::statements::Statements;
-use crate::verdicts::verdict_held;
+use crate::verdicts::{verdict_held, verdicts_of};
 use std::alloc::{AllocError, Global};
 use ylink_grammar::{Source, Sources, Stated, argument_of};
-use ylink_names::Prefixes;
-use ylink_types::{Meant, Typedefs, Verdict};
+use ylink_names::{Prefixes, holders_of};
+use ylink_types::{Identities, Kept, Meant, Typedefs, Verdict};
 use ytext::Stmt;
 use ytype::YType;
 
@@ -33,15 +36,18 @@ pub struct Linked<'t> {
     verdicts: Vec<Option<Box<Verdict<'t>>>>,
     ghost prefixed: { prefix.IsOf prefixes (statements.view sources) },
     ghost ordered: { AreInOrder order.items (statements.view sources) },
+    // No definition refers to itself.
+    ghost straight: { definition_circles (statements.view sources) ≡ [] },
     ghost named: { typedef.IsOf typedefs (statements.view sources) },
     ghost meant: { AreMeanings (typedef.meanings_in typedefs) (statements.view sources) },
     ghost judged: { AreVerdicts verdicts.items (statements.view sources) },
 }
 
 impl<'t> Linked<'t> {
-    ghost use Rattle.std.specs.Prelude.{◌≡◌, IfOk, map, option_map, slice_get};
+    ghost use Rattle.std.specs.Prelude.{◌≡◌, [], IfOk, map, option_map, slice_get};
     ghost use Rattle.std.specs.Option.{option_map_or};
     ghost use Rattle.yspec.specs.Forest.{end};
+    ghost use Rattle.yspec.specs.linking.Circles.{definition_circles};
     ghost use Rattle.yspec.specs.linking.DerivedTypes as types;
     ghost use Rattle.yspec.specs.linking.Identities as identities;
     ghost use Rattle.yspec.specs.linking.Imports as imports;
@@ -53,8 +59,10 @@ impl<'t> Linked<'t> {
     ghost use Rattle.ylink_names.specs.Ordered.{AreInOrder};
     ghost use Rattle.ylink_names.specs.PrefixView as prefix;
     ghost use Rattle.ytype.specs.Identities.{pair_view};
+    ghost use Rattle.ylink_values.specs.KeptView.{kept_view};
     ghost use Rattle.ylink_types.specs.TypedefView as typedef;
     ghost use Rattle.ylink_types.specs.TypeView.{meant_view};
+    ghost use Rattle.ylink.specs.KeptMeaningsView.{AreMeantOf};
     ghost use Rattle.ylink.specs.VerdictView.{AreVerdicts};
     ghost use Rattle.ylink.specs.LinkedView.{view, wholes};
     ghost use Rattle.ylink.specs.StatementsView.{left, numbers_of};
@@ -69,6 +77,7 @@ impl<'t> Linked<'t> {
     ) -> Linked<'t>
         requires prefixed { prefix.IsOf prefixes (statements.view sources) }
         requires ordered { AreInOrder order.items (statements.view sources) }
+        requires straight { definition_circles (statements.view sources) ≡ [] }
         requires named { typedef.IsOf typedefs (statements.view sources) }
         requires meant { AreMeanings (typedef.meanings_in typedefs) (statements.view sources) }
         requires judged { AreVerdicts verdicts.items (statements.view sources) }
@@ -213,6 +222,30 @@ impl<'t> Linked<'t> {
             Some(verdict) => verdict.meaning(),
             None => None,
         }
+    }
+
+    /// What the `type` statements mean over the names of values that are kept.
+    pub fn meanings_kept(
+        &self,
+        alloc: Global,
+        kept: Kept<'_>,
+    ) -> Result<KeptMeanings<'t>, AllocError>
+        ensures { IfOk result (λ meanings.
+            AreMeantOf (kept_view kept.entry) meanings (view self.now)) }
+    {
+        let meanings = Vec::from_slice(alloc, self.meanings())?;
+        let holders = holders_of(alloc, &self.sources)?;
+        let identities = Identities::of(alloc, &self.sources, kept, &holders, &meanings)?;
+        let typedefs = Typedefs::of(
+            alloc,
+            &self.sources,
+            kept,
+            meanings,
+            identities,
+            &self.order,
+        )?;
+        let verdicts = verdicts_of(alloc, &self.sources, &typedefs, kept)?;
+        Ok(KeptMeanings::new(verdicts))
     }
 
     /// The type of a `type` statement; none of a leafref, nor of a type derived from one.

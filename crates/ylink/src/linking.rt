@@ -1,8 +1,9 @@
 //! From modules to their linked statements.
 
-ghost use Rattle.std.specs.Prelude.{◌≡◌, None, IfOk};
+ghost use Rattle.std.specs.Prelude.{◌≡◌, [], None, IfOk};
 ghost use Rattle.yspec.specs.Results.{Gives};
 ghost use Rattle.yspec.specs.schema.Breaks.{least_from};
+ghost use Rattle.yspec.specs.linking.Circles.{definition_circles};
 ghost use Rattle.yspec.specs.linking.Compiling.{linked, meanings_phase};
 ghost use Rattle.yspec_wide.specs.Compiling.{linked_in, names_phase_in, meanings_phase_in};
 ghost use Rattle.yspec_wide.specs.Sources.{sources_in};
@@ -129,6 +130,7 @@ fn link_types<'t>(
     requires named { typedef.IsOf typedefs (statements.view sources) }
     requires meant { AreMeanings (typedef.meanings_in typedefs) (statements.view sources) }
     requires rests { typedef.RestsOn all_kept typedefs (statements.view sources) }
+    requires straight { definition_circles (statements.view sources) ≡ [] }
     requires first { None ≡ least_from None
         (statement_phase_in (language_view language.now) (modules_view modules.now)) }
     requires names { None ≡ least_from None (names_phase_in (language_view language.now)
@@ -140,7 +142,7 @@ fn link_types<'t>(
     ensures whole { IfOk result (λ linked. wholes linked
         ≡ wholes_in (language_view language.now) (modules_view modules.entry.now)) }
 {
-    let verdicts = verdicts_of(alloc, &sources, &typedefs)?;
+    let verdicts = verdicts_of(alloc, &sources, &typedefs, Kept::All)?;
     let own = broken_type_rule(&sources, &verdicts);
     if let Some(found) = broken_version_type_rule(alloc, &sources, versions, &verdicts, own)? {
         return Err(CompileFault::from(found));

@@ -6,10 +6,10 @@ ghost use Rattle.yspec.specs.linking.Scopes.{placed};
 ghost use Rattle.ybase_preorder.specs.View.{row_by};
 ghost use Rattle.ylink_grammar.specs.LinkView.{view};
 ghost use Rattle.ylink_grammar.specs.SourceView.{source_view};
-ghost use Rattle.ylink_values.specs.KeptView.{all_kept};
+ghost use Rattle.ylink_values.specs.KeptView.{kept_view};
 ghost use Rattle.ylink_types.specs.TypeView.{verdict_view};
-ghost use Rattle.ylink_types.specs.TypedefView.{verdicts_in, IsOf, RestsOn};
-ghost use Rattle.ylink.specs.VerdictView.{judged, members_below, members_in, table_view, verdict_held, AreVerdicts};
+ghost use Rattle.ylink_types.specs.TypedefView.{verdicts_in, AreOf, RestsOn};
+ghost use Rattle.ylink.specs.VerdictView.{judged_of, members_below, members_in, table_view, verdict_held, AreVerdictsOf};
 
 use std::alloc::{AllocError, Global};
 use ybase_preorder::Siblings;
@@ -49,23 +49,24 @@ fn add_member<'t>(
     Ok(())
 }
 
-/// Adds the verdicts on the `type` statements among the statements of a row, and below it, to a table; it answers those of
-/// the row itself, where they are members of a union.
+/// Adds the verdicts on the `type` statements among the statements of a row, and below it, to a table, given which names of
+/// values are kept; it answers those of the row itself, where they are members of a union.
 fn add_verdicts<'t>(
     alloc: Global,
     sources: &Sources<'t>,
     typedefs: &Typedefs<'t>,
+    kept: Kept<'_>,
     in_union: bool,
     statements: Siblings<'_, Source<'t>>,
     table: &mut Vec<Option<Box<Verdict<'t>>>>,
 ) -> Result<Vec<Verdict<'t>>, AllocError>
-    requires { RestsOn all_kept typedefs.now (view sources.now) }
+    requires { RestsOn (kept_view kept) typedefs.now (view sources.now) }
     ensures members { IfOk result (λ members. map verdict_view members.items
-        ≡ members_below (view sources.now) (verdicts_in typedefs.now) in_union
+        ≡ members_below (kept_view kept.entry) (view sources.now) (verdicts_in typedefs.now) in_union
         (row_by source_view statements.entry)) }
     ensures table { (ancestors : List _) → in_union ≡ is_member ancestors
         → OnOk result (table_view table.new.items ≡ table_view table.old.items
-        ++ map (judged (view sources.now) (verdicts_in typedefs.now))
+        ++ map (judged_of (kept_view kept.entry) (view sources.now) (verdicts_in typedefs.now))
         (placed ancestors (row_by source_view statements.entry))) }
 {
     let mut members = Vec::new(alloc);
@@ -74,40 +75,34 @@ fn add_verdicts<'t>(
         let number = table.len();
         table.push(None)?;
         let below = statement.children();
-        let inner = add_verdicts(alloc, sources, typedefs, is_type, below, table)?;
+        let inner = add_verdicts(alloc, sources, typedefs, kept, is_type, below, table)?;
         if !is_type {
             continue;
         }
-        let verdict = judge_type(
-            alloc,
-            sources,
-            typedefs,
-            Kept::All,
-            in_union,
-            statement,
-            inner,
-        )?;
+        let verdict = judge_type(alloc, sources, typedefs, kept, in_union, statement, inner)?;
         add_member(in_union, &verdict, &mut members)?;
         set_verdict(alloc, table, number, verdict)?;
     }
     Ok(members)
 }
 
-/// The verdicts on the `type` statements of a set, given its typedefs.
+/// The verdicts on the `type` statements of a set, given its typedefs over the names of values that are kept.
 pub(crate) fn verdicts_of<'t>(
     alloc: Global,
     sources: &Sources<'t>,
     typedefs: &Typedefs<'t>,
+    kept: Kept<'_>,
 ) -> Result<Vec<Option<Box<Verdict<'t>>>>, AllocError>
-    requires { RestsOn all_kept typedefs.now (view sources.now) }
-    ensures { IsOf typedefs.now (view sources.now)
-        → IfOk result (λ table. AreVerdicts table.items (view sources.now)) }
+    requires { RestsOn (kept_view kept) typedefs.now (view sources.now) }
+    ensures { AreOf (kept_view kept.entry) typedefs.now (view sources.now)
+        → IfOk result (λ table. AreVerdictsOf (kept_view kept.entry) table.items (view sources.now)) }
 {
     let mut table = Vec::new(alloc);
     add_verdicts(
         alloc,
         sources,
         typedefs,
+        kept,
         false,
         sources.modules(),
         &mut table,

@@ -66,7 +66,7 @@ fn is_empty(alloc: Global, of: &YType) -> Result<bool, AllocError>
 }
 
 /// Whether what a `type` statement means is `empty`.
-fn means_empty(alloc: Global, meant: &Meant<'_>) -> Result<bool, AllocError>
+pub fn means_empty(alloc: Global, meant: &Meant<'_>) -> Result<bool, AllocError>
     ensures { IsBareMeant (meant_view meant.now)
         → IfOk result (λ b. b ≡ spec.is_empty_meant (meant_view meant.now)) }
 {

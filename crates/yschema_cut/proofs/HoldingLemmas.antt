@@ -1,8 +1,9 @@
 -- What is told of conditions by their numbers is what the definition says of the nodes of a set.
-use Rattle.std.proofs.Common.{◌≡◌, ℕ, zero, suc, ◌+◌, ◌<◌, Bool, true, false, cond, not, ◌&&◌, ◌||◌, List, [], ◌∷◌, ◌++◌, append_assoc, length, drop, take, get_or, Option, Some, None, refl, sym, ap, ap₂, ◌∙◌, subst, arith}
+use Rattle.std.proofs.Common.{◌≡◌, ℕ, zero, suc, ◌+◌, ◌<◌, Bool, true, false, cond, not, ◌&&◌, ◌||◌, List, [], ◌∷◌, ◌++◌, append_assoc, length, map, drop, take, get_or, Option, Some, None, refl, sym, ap, ap₂, ◌∙◌, subst, arith}
 use Rattle.std.specs.Prelude.{filter, slice_get}
 use Rattle.std.specs.List.{Contains, list_all}
-use Rattle.yspec.specs.Forest.{Forest, end, node, row, size}
+use Rattle.std.proofs.lemmas.List.{map-append}
+use Rattle.yspec.specs.Forest.{Forest, end, node, preorder, row, size}
 use Rattle.yspec.specs.linking.Scopes.{Placed, placed, statements_of}
 use Rattle.yspec.specs.linking.Source.{Source}
 use Rattle.yspec.specs.linking.Parts.{Part}
@@ -140,18 +141,36 @@ module _ (language : Language) (features : FeaturesOn) (slots : List (Slot held.
       ap₂ (λ b f. cond b (left_with p below f (standing_by first after)) (standing_by first after)) here inside
       ∙ ap (λ f. cond (second p.own) (left_with p below (standing_by second below) f) f) rest
 
-  pub standing_same : holding ≡ told_from (holds_at features.conditions.items on) 0 slots → IsOf features language modules → are_kept_right language modules ≡ true
-      → standing_by (kept_hold (holds_in holding)) (augmented_in language modules).0 ≡ standing language modules (augmented_in language modules).0
-  standing_same holding_is is kept =
-      let asked = features.conditions.items in
-      let says : (p : Placed) → Contains (statements_of modules) p → Says p.source =
-      λ p at. ap (λ bs. get_or bs p.source.number true) holding_is
-      ∙ (get_told (holds_at asked on) 0 slots p.source.number (placed_within p at)
-      ∙ (ap (holds_at asked on) (plain p.source.number) ∙ is.asked p at on)) in
-      let all = each_right [] modules says kept in
-      alike (kept_hold (holds_in holding)) (stands language modules)
-      (λ own right. row_holds own right ∙ tells_standing language modules on is.tells own)
-      (augmented_in language modules).0 (own_augmented Right language modules all)
+  own_alike : (first second : Forest Source → Bool) → ((own : Forest Source) → Each Right own → first own ≡ second own)
+      → (f : Forest Part) → EachOwn Right f → map (λ (p : Part). first p.own) (preorder f) ≡ map (λ (p : Part). second p.own) (preorder f)
+  own_alike first second same end right = refl
+  own_alike first second same (node p below after) right =
+      let all : (test : Forest Source → Bool) → map (λ (q : Part). test q.own) (preorder below ++ preorder after)
+      ≡ map (λ (q : Part). test q.own) (preorder below) ++ map (λ (q : Part). test q.own) (preorder after) =
+      λ test. map-append (λ (q : Part). test q.own) (preorder below) (preorder after) in
+      ap₂ (λ b bs. b ∷ bs) (same p.own right.0)
+      (all first ∙ (ap₂ (λ xs ys. xs ++ ys) (own_alike first second same below right.1) (own_alike first second same after right.2) ∙ sym (all second)))
+
+  all_right : holding ≡ told_from (holds_at features.conditions.items on) 0 slots → IsOf features language modules → are_kept_right language modules ≡ true
+      → Each Right modules
+  all_right holding_is is kept = each_right [] modules (λ p at. ap (λ bs. get_or bs p.source.number true) holding_is
+      ∙ (get_told (holds_at features.conditions.items on) 0 slots p.source.number (placed_within p at)
+      ∙ (ap (holds_at features.conditions.items on) (plain p.source.number) ∙ is.asked p at on))) kept
     where
       plain : (n : ℕ) → 0 + n ≡ n
       plain n = omega arith
+
+  -- whether the parts of a set stand themselves
+  pub own_standing : holding ≡ told_from (holds_at features.conditions.items on) 0 slots → IsOf features language modules → are_kept_right language modules ≡ true
+      → map (λ (p : Part). kept_hold (holds_in holding) p.own) (preorder (augmented_in language modules).0)
+      ≡ map (λ (p : Part). stands language modules p.own) (preorder (augmented_in language modules).0)
+  own_standing holding_is is kept =
+      own_alike (kept_hold (holds_in holding)) (stands language modules) (λ own right. row_holds own right ∙ tells_standing language modules on is.tells own)
+      (augmented_in language modules).0 (own_augmented Right language modules (all_right holding_is is kept))
+
+  pub standing_same : holding ≡ told_from (holds_at features.conditions.items on) 0 slots → IsOf features language modules → are_kept_right language modules ≡ true
+      → standing_by (kept_hold (holds_in holding)) (augmented_in language modules).0 ≡ standing language modules (augmented_in language modules).0
+  standing_same holding_is is kept =
+      alike (kept_hold (holds_in holding)) (stands language modules)
+      (λ own right. row_holds own right ∙ tells_standing language modules on is.tells own)
+      (augmented_in language modules).0 (own_augmented Right language modules (all_right holding_is is kept))

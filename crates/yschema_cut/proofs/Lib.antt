@@ -5,4 +5,5 @@ mod DefaultLemmas
 mod OwnLemmas
 mod CuttingLemmas
 mod HoldingLemmas
+mod StandingLemmas
 mod NodeLemmas

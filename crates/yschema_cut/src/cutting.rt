@@ -8,6 +8,7 @@ ghost use Rattle.yspec_wide.specs.Expansion.{augmented_in};
 ghost use Rattle.yspec_wide.specs.Language as languages;
 ghost use Rattle.yspec_wide.specs.Language.{core};
 ghost use Rattle.yspec_wide.specs.Standing.{standing, standing_by};
+ghost use Rattle.yschema_cut.specs.Cutting.{TellsStanding};
 ghost use Rattle.ybase_preorder.specs.Layout.{places};
 ghost use Rattle.ylink_grammar.specs.LanguageView.{language_view};
 ghost use Rattle.ylink_grammar.specs.LinkView.{view};
@@ -19,7 +20,7 @@ ghost use Rattle.yschema_given.specs.Keeping.{are_kept_right};
 use crate::defaults::{defaults_off, lose_defaults};
 use crate::holding::holding_of;
 use crate::keeping::kept;
-use crate::nodes::fates_of;
+use crate::nodes::{fates_of, own_standing_of};
 use crate::totals::{standing_of, totals_of};
 use std::alloc::{AllocError, Global};
 use ylink_grammar::{Language, Sources};
@@ -62,6 +63,22 @@ fn cut_by_features<'a, 't>(
 {
     let holding = holding_of(alloc, features, sources)?;
     cut_by(alloc, holding.as_slice(), table)
+}
+
+/// Of each node that a set of modules defines in a language, by its number, whether all conditions of it itself hold, where it is
+/// told which of the set's features are on. Of nodes above it nothing is asked.
+pub fn standing_in(
+    alloc: Global,
+    sources: &Sources<'_>,
+    features: &FeaturesOn,
+    table: &NodeTable<'_, '_>,
+) -> Result<Vec<bool>, AllocError>
+    ensures { (l : languages.Language) → let m = view sources.now in
+        IsOf features.now l m → are_kept_right l m ≡ true → parts_in table.now ≡ places None 0 (augmented_in l m).0
+        → IfOk result (λ standing. TellsStanding standing.items l m (augmented_in l m).0) }
+{
+    let holding = holding_of(alloc, features, sources)?;
+    own_standing_of(alloc, table.slots(), holding.as_slice())
 }
 
 /// The nodes that stand of those that a set of modules defines in a language, each `uses` replaced and each augment applied,

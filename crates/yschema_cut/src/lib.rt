@@ -8,4 +8,4 @@ mod keeping;
 mod nodes;
 mod totals;
 
-pub use cutting::{cut, cut_by};
+pub use cutting::{cut, cut_by, standing_in};

@@ -66,6 +66,22 @@ pub(crate) fn fates_of(
     Ok(fates)
 }
 
+/// Whether all conditions of each node of a table itself hold.
+pub(crate) fn own_standing_of(
+    alloc: Global,
+    slots: &[Slot<ExpandedNode<'_, '_>>],
+    holding: &[bool],
+) -> Result<Vec<bool>, AllocError>
+    ensures { IfOk result (λ standing. standing.items
+        ≡ map (λ r. spec.kept_hold (spec.holds_in holding.now) (part_view r.label).own) slots.now) }
+{
+    let mut standing = Vec::with_capacity(alloc, slots.len())?;
+    for slot in slots {
+        standing.push(holds(&slot.label, holding))?;
+    }
+    Ok(standing)
+}
+
 /// That a node has no default.
 fn no_default<'a, 't>(_node: &ExpandedNode<'a, 't>) -> Given<'a, 't>
     ensures { (own : Forest Source) → stated_with result own ≡ without_default own }

@@ -1,3 +1,4 @@
 pub mod KeepingLemmas
 pub mod StatingLemmas
 pub mod HoldingLemmas
+pub mod SourceLemmas

@@ -6,14 +6,14 @@ ghost use Rattle.ybase_index.specs.Index.{found, texts_of};
 ghost use Rattle.ybase_preorder.specs.Layout.{IsLaidOut, numbered_by};
 ghost use Rattle.ybase_preorder.specs.View.{forest_in, slots_in};
 ghost use Rattle.yschema_plan.specs.Finding.{is_found, list_of, name_of};
-ghost use Rattle.yschema_plan.specs.Needs.{needs_below};
+ghost use Rattle.yschema_plan.specs.Needs.{all_stand, needs_below};
 ghost use Rattle.yschema_plan.specs.PlannedView.{planned_view};
 ghost use Rattle.ylink_grammar.specs.LinkView as link;
 ghost use Rattle.ylink_names.specs.PrefixView.{IsOf};
 
 use crate::finding::index_of;
 use crate::levels::are_deeper;
-use crate::needs::{is_told, needs_below};
+use crate::needs::{is_told, must_stand, needs_below};
 use crate::nodes::{PlanNode, PlanNodes};
 use crate::planned::Planned;
 use crate::planning::planned;
@@ -42,7 +42,7 @@ pub struct Plan<'a, 't> {
     ghost indexed: { (among : _) → (above : _) → (m : ℕ) → (name : _)
         → found index among above m name ≡ option_map number_in
         (find (is_found among above m name) (list_of table)) },
-    ghost told: { needs.items ≡ needs_below (numbered_by planned_view 0 (forest_in table)) },
+    ghost told: { needs.items ≡ needs_below all_stand (numbered_by planned_view 0 (forest_in table)) },
 }
 
 impl<'a, 't> Plan<'a, 't> {
@@ -50,23 +50,25 @@ impl<'a, 't> Plan<'a, 't> {
     ghost use Rattle.ybase_index.specs.declared.keys.Among.TheVariants as among;
     ghost use Rattle.ybase_index.specs.Names.{AreNamesOf};
     ghost use Rattle.yschema_plan.specs.Finding.{is_before, is_found, name_of};
-    ghost use Rattle.yspec.specs.linking.Compiling.{plan_of};
-    ghost use Rattle.yspec.specs.linking.Augments.{augmented};
+    ghost use Rattle.yspec.specs.Forest.{Forest};
+    ghost use Rattle.yspec.specs.linking.Parts.{Part};
     ghost use Rattle.yschema_expand.specs.TableView.{parts_in};
     ghost use Rattle.yspec.specs.linking.Planned as spec;
     ghost use Rattle.ylink_grammar.specs.LinkView as link;
     ghost use Rattle.yspec.specs.Forest.{size, levels};
-    ghost use Rattle.yspec.specs.linking.NodeBreaks.{has_mandatory, is_config_above, is_needed, row_below};
+    ghost use Rattle.yspec.specs.linking.NodeBreaks.{has_mandatory, is_config_above, row_below};
     ghost use Rattle.yspec.specs.linking.SchemaNodes.{number_in, default_case};
     ghost use Rattle.ybase_preorder.specs.Layout.{labels_by, places};
     ghost use Rattle.yschema_plan.specs.PlannedView.{planned_view};
-    ghost use Rattle.yschema_plan.specs.PlanView.{view};
+    ghost use Rattle.yschema_plan.specs.Needs.{is_needed_by, needs_below, stands_in};
+    ghost use Rattle.yschema_plan.specs.PlanView.{plan_with, view};
     ghost use Rattle.yschema_plan.specs.NodesView.{left, node_view};
     ghost use Rattle.yspec.specs.linking.Prefixes as names;
     ghost use Rattle.ylink_arguments.specs.NameView.{name_view};
     ghost use Rattle.ylink_names.specs.PrefixView.{node_name_view};
 
-    /// The plan of a set of modules, given what their prefixes stand for and the nodes that they define.
+    /// The plan of a set of modules, given what their prefixes stand for and nodes: all that they define, or those of them that
+    /// stand.
     pub fn of(
         alloc: Global,
         sources: &'a Sources<'t>,
@@ -74,14 +76,13 @@ impl<'a, 't> Plan<'a, 't> {
         nodes: &'a NodeTable<'a, 't>,
     ) -> Result<Plan<'a, 't>, AllocError>
         requires prefixed { IsOf prefixes.now (link.view sources.now) }
-        requires made { parts_in nodes.now
-            ≡ places None 0 (augmented (link.view sources.now)).0 }
-        ensures { IfOk result (λ plan. view plan
-            ≡ plan_of (link.view sources.entry.now)) }
+        requires made { (parts : Forest Part) × (parts_in nodes.now ≡ places None 0 parts) }
+        ensures { (parts : Forest Part) → parts_in nodes.entry.now ≡ places None 0 parts
+            → IfOk result (λ plan. view plan ≡ plan_with (link.view sources.entry.now) parts) }
     {
         let table = planned(alloc, nodes.roots())?;
         let index = index_of(alloc, &table)?;
-        let needs = needs_below(alloc, &table)?;
+        let needs = needs_below(alloc, &[], &table)?;
         Ok(Plan {
             sources,
             prefixes,
@@ -251,11 +252,27 @@ impl<'a, 't> Plan<'a, 't> {
         is_told(&self.needs, number as usize)
     }
 
-    /// Whether a node must be stored where the one above it is (RFC 7950, 3).
-    pub fn is_needed(&self, node: PlanNode<'a, 't>) -> bool
-        ensures { result ≡ is_needed (view self.now) (node_view node.entry) }
+    /// Of each node, by number, whether one right below it must be stored where it is itself, where it is told by number which
+    /// stand themselves; those of which nothing is told do.
+    pub fn needs_standing(&self, alloc: Global, standing: &[bool]) -> Result<Vec<bool>, AllocError>
+        ensures { IfOk result (λ needs. needs.items
+            ≡ needs_below (stands_in standing.now) (view self.now).nodes) }
     {
-        node.planned.must_be(self.has_mandatory_below(node.number))
+        needs_below(alloc, standing, &self.table)
+    }
+
+    /// Whether a node stands itself and must be stored where the one above it is (RFC 7950, 3), by what is told so of each.
+    pub fn is_needed_standing(
+        &self,
+        node: PlanNode<'a, 't>,
+        standing: &[bool],
+        needs: &[bool],
+    ) -> bool
+        requires { needs.now ≡ needs_below (stands_in standing.now) (view self.now).nodes }
+        ensures { result
+            ≡ is_needed_by (stands_in standing.now) (view self.now) (node_view node.entry) }
+    {
+        must_stand(standing, needs, node.number as usize, &node.planned)
     }
 
     /// Whether the node above one is configuration; so is what stands above the top nodes.

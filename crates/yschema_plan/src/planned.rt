@@ -78,6 +78,20 @@ impl<'a, 't> Planned<'a, 't> {
         self.node.keyword()
     }
 
+    /// The number of its statement; where a case is implied, that of the node in it.
+    pub fn statement_number(&self) -> u32
+        ensures { result ≡ (part_at self.now).source.number }
+    {
+        self.node.source.number()
+    }
+
+    /// The module in which its statement stands, by its number in the set.
+    pub fn home(&self) -> usize
+        ensures { result ≡ (part_at self.now).source.home }
+    {
+        self.node.source.label().home
+    }
+
     /// The module to which it belongs, by its number in the set.
     pub fn owner(&self) -> usize
         ensures { result ≡ (part_at self.now).owner }

@@ -1,17 +1,30 @@
--- What is told at the `augment` that adds a node.
-use Rattle.std.proofs.Common.{◌≡◌, ℕ, Bool, true, false, ◌&&◌, List, [], Option, Some, None, refl, sym, ap, ◌∙◌}
+-- What is told at the `augment` that adds a node, and of all nodes by which of them stand.
+use Rattle.std.proofs.Common.{◌≡◌, ℕ, suc, ◌<◌, Bool, true, false, ◌&&◌, ◌||◌, List, [], ◌∷◌, ◌++◌, length, get_or, Option, Some, None, refl, sym, ap, ap₂, ◌∙◌, arith}
 use Rattle.std.specs.Prelude.{option_map, option_and_then, slice_get}
+use Rattle.std.specs.List.{Contains, flat_map}
 use Rattle.std.specs.Option.{option_map_or}
+use Rattle.std.proofs.lemmas.List.Elements.{Contains-append_left, Contains-append_right}
+use Rattle.std.proofs.lemmas.Option.{slice_get-get_or}
+use Rattle.yspec.specs.Forest.{Forest, end, node, preorder}
 use Rattle.yspec.specs.schema.Breaks.{Break, broken, least_from, when}
 use Rattle.yspec.specs.linking.Source.{Source}
 use Rattle.yspec.specs.linking.Scopes.{Placed, statement_at}
-use Rattle.yspec.specs.linking.Planned.{Plan, Planned, node_of}
-use Rattle.yspec.specs.linking.NodeBreaks.{addition_breaks, broken_in, is_foreign, is_needed}
+use Rattle.yspec.specs.linking.Planned.{Plan, Planned, node_of, nodes_of}
+use Rattle.yspec.specs.linking.NodeBreaks.{broken_in, is_foreign, must_be, row_below}
+use Rattle.yspec_wide.specs.Language.{Language}
+use Rattle.yspec_wide.specs.Additions.{stands_itself, has_mandatory_standing, is_needed_standing, addition_breaks_in}
 use Rattle.ybase_preorder.specs.Layout.{forest_of, numbered_by}
+use Rattle.ybase_preorder.specs.View.{forest_in}
 use Rattle.ybase_preorder.specs.declared.slot.Slot.{Slot}
 use Rattle.ylink_grammar.specs.declared.source.Source as held
 use Rattle.ylink_grammar.specs.SourceView.{source_view}
 use Rattle.ylink_names.proofs.BelowLemmas.{source_at}
+use Rattle.yschema_plan.specs.Needs.{has_mandatory_by, is_needed_by, is_told, must_stand, needs_below, stands_in}
+use Rattle.yschema_plan.specs.PlanView.{view}
+use Rattle.yschema_plan.specs.declared.plan.Plan as code
+use Rattle.yschema_plan.proofs.NeedLemmas.{told_at}
+use Rattle.yschema_resolve.specs.Standing.{TellsStanding, addition_breaks_by}
+use Rattle.yschema_resolve.proofs.TypeLemmas.{number_is}
 
 told_in : Source → List Break
 told_in s = broken 15 s.home s.statement.line
@@ -29,30 +42,69 @@ by_slot plan rows n are =
     by None = refl
     by (Some p) = refl
 
-is_wrong : Plan → Planned → Bool
-is_wrong plan p = is_foreign p (option_and_then (node_of plan) p.parent) && (p.config && is_needed plan p)
-
-nothing_told : (start : Option Break) (b : Bool) → start ≡ least_from start (when b [])
+pub nothing_told : (start : Option Break) (b : Bool) → start ≡ least_from start (when b [])
 nothing_told start true = refl
 nothing_told start false = refl
 
-pub told_at_augment : (start : Option Break) (plan : Plan) (p : Planned) (rows : List (Slot held.Source)) (n : ℕ) (r : Slot held.Source)
-    → numbered_by source_view 0 (forest_of rows) ≡ plan.modules → Some n ≡ p.part.added_by → slice_get rows n ≡ Some r
-    → least_from start (when (is_foreign p (option_and_then (node_of plan) p.parent) && (p.config && is_needed plan p))
-    (broken 15 r.label.home (source_view n r.label).statement.line))
-    ≡ least_from start (addition_breaks plan p)
+pub told_at_augment : (start : Option Break) (plan : Plan) (added : Option ℕ) (wrong : Bool) (rows : List (Slot held.Source)) (n : ℕ) (r : Slot held.Source)
+    → numbered_by source_view 0 (forest_of rows) ≡ plan.modules → Some n ≡ added → slice_get rows n ≡ Some r
+    → least_from start (when wrong (broken 15 r.label.home (source_view n r.label).statement.line))
+    ≡ least_from start (when wrong (option_map_or (broken_in plan) added []))
 unfolding told_in
-told_at_augment start plan p rows n r are added at =
-    ap (λ bs. least_from start (when (is_foreign p (option_and_then (node_of plan) p.parent) && (p.config && is_needed plan p)) bs))
+told_at_augment start plan added wrong rows n r are is at =
+    ap (λ bs. least_from start (when wrong bs))
     (sym (ap (λ o. option_map_or told_in (option_map (λ (x : Slot held.Source). source_view n x.label) o) []) at)
-    ∙ (by_slot plan rows n are ∙ ap (λ o. option_map_or (broken_in plan) o []) added))
+    ∙ (by_slot plan rows n are ∙ ap (λ o. option_map_or (broken_in plan) o []) is))
 
-pub no_augment : (start : Option Break) (plan : Plan) (p : Planned) (rows : List (Slot held.Source)) (n : ℕ)
-    → numbered_by source_view 0 (forest_of rows) ≡ plan.modules → Some n ≡ p.part.added_by → slice_get rows n ≡ None
-    → start ≡ least_from start (addition_breaks plan p)
-unfolding told_in is_wrong
-no_augment start plan p rows n are added at =
-    nothing_told start (is_wrong plan p)
-    ∙ ap (λ bs. least_from start (when (is_wrong plan p) bs))
+pub no_augment : (start : Option Break) (plan : Plan) (added : Option ℕ) (wrong : Bool) (rows : List (Slot held.Source)) (n : ℕ)
+    → numbered_by source_view 0 (forest_of rows) ≡ plan.modules → Some n ≡ added → slice_get rows n ≡ None
+    → start ≡ least_from start (when wrong (option_map_or (broken_in plan) added []))
+unfolding told_in
+no_augment start plan added wrong rows n are is at =
+    nothing_told start wrong
+    ∙ ap (λ bs. least_from start (when wrong bs))
     (sym (ap (λ o. option_map_or told_in (option_map (λ (x : Slot held.Source). source_view n x.label) o) []) at)
-    ∙ (by_slot plan rows n are ∙ ap (λ o. option_map_or (broken_in plan) o []) added))
+    ∙ (by_slot plan rows n are ∙ ap (λ o. option_map_or (broken_in plan) o []) is))
+
+-- ---- all nodes
+
+same_of_all : {A B : Type 0} (f g : A → List B) (xs : List A) → ((x : A) → Contains xs x → f x ≡ g x) → flat_map f xs ≡ flat_map g xs
+same_of_all f g [] same = refl
+same_of_all f g (x ∷ xs) same =
+    ap₂ (λ ys zs. ys ++ zs) (same x (0, omega arith, refl)) (same_of_all f g xs (λ y at. same y (suc at.0, omega (arith, at.1), at.2)))
+
+-- nodes that stand by what is told of each
+needs_same : (first second : Planned → Bool) (f : Forest Planned) → ((p : Planned) → Contains (preorder f) p → first p ≡ second p)
+    → (has_mandatory_by first f ≡ has_mandatory_by second f) × (needs_below first f ≡ needs_below second f)
+needs_same first second end same = (refl, refl)
+needs_same first second (node p below after) same =
+    let others = preorder below ++ preorder after in
+    let behind : (q : Planned) → Contains others q → first q ≡ second q = λ q at. same q (suc at.0, omega (arith, at.1), at.2) in
+    let inside = needs_same first second below (λ q at. behind q (Contains-append_left (preorder below) (preorder after) q at)) in
+    let later = needs_same first second after (λ q at. behind q (Contains-append_right (preorder below) (preorder after) q at)) in (
+      ap₂ (λ b c. b || c) (ap₂ (λ own below. own && must_be p below) (same p (0, omega arith, refl)) inside.0) later.0,
+      ap₂ (λ b bs. b ∷ bs) inside.0 (ap₂ (λ bs cs. bs ++ cs) inside.1 later.1),
+    )
+
+module _ (language : Language) (plan : Plan) where
+  mandatory_is : (f : Forest Planned) → has_mandatory_by (stands_itself language plan) f ≡ has_mandatory_standing language plan f
+  mandatory_is end = refl
+  mandatory_is (node p below after) = ap₂ (λ inside later. (stands_itself language plan p && must_be p inside) || later)
+      (mandatory_is below) (mandatory_is after)
+
+pub breaks_same : (language : Language) (plan : code.Plan) (standing : List Bool) → TellsStanding standing language (view plan)
+    → flat_map (addition_breaks_by (stands_in standing) (view plan)) (nodes_of (view plan))
+    ≡ flat_map (addition_breaks_in language (view plan)) (nodes_of (view plan))
+breaks_same language plan standing tells =
+    let v = view plan in
+    let each : (p : Planned) → Contains (nodes_of v) p → stands_in standing p ≡ stands_itself language v p =
+    λ p at.
+    let there : slice_get (nodes_of v) at.0 ≡ Some p = slice_get-get_or (nodes_of v) at.0 p at.1 ∙ ap Some at.2 in
+    ap (λ n. get_or standing n true) (number_is plan at.0 p there) ∙ tells at.0 p there in
+    let needs = (needs_same (stands_in standing) (stands_itself language v) v.nodes each).1 in
+    let below : (n : ℕ) → has_mandatory_by (stands_in standing) (row_below v n) ≡ has_mandatory_standing language v (row_below v n) =
+    λ n. sym (told_at (stands_in standing) (forest_in plan.table) n) ∙ (ap (λ told. is_told told n) needs
+    ∙ (told_at (stands_itself language v) (forest_in plan.table) n ∙ mandatory_is language v (row_below v n))) in
+    same_of_all (addition_breaks_by (stands_in standing) v) (addition_breaks_in language v) (nodes_of v) (λ p at.
+    ap₂ (λ own inside. when (is_foreign p (option_and_then (node_of v) p.parent) && (p.config && (own && must_be p inside)))
+    (option_map_or (broken_in v) p.part.added_by [])) (each p at) (below p.number))

@@ -5,9 +5,9 @@ use Rattle.std.specs.Option.{option_map_or}
 use Rattle.yspec.specs.Forest.{size}
 use Rattle.yspec.specs.types.Types.{YangType}
 use Rattle.yspec.specs.linking.TypeStatements.{Meant, own, of_target}
-use Rattle.yspec.specs.linking.Planned.{Planned, Plan, nodes_of, meant_in, target_of, target_meant, referring, type_by, type_within, leads_to}
+use Rattle.yspec.specs.linking.Planned.{Planned, Plan, nodes_of, meant_in, target_of, target_meant, referring, type_by, leads_to}
 use Rattle.yspec.specs.linking.Planned as plans
-use Rattle.yschema_resolve.specs.ChainTypes.{own_type, as_meant, type_led}
+use Rattle.yschema_resolve.specs.ChainTypes.{own_type, as_meant, target_as, target_number}
 use Rattle.ybase_graph.specs.Chains.{next_of, end_within, end_of, leads, is_on_circle}
 use Rattle.ybase_graph.proofs.ChainLemmas.{some_same, some_none, end_here, end_there, end_none, leads_here, leads_there}
 
@@ -37,84 +37,85 @@ module _ (plan : Plan) (p : Planned) (others : Planned → Option YangType) wher
   with_target (Some (of_target home steps required)) t e m x h =
       ap (λ x. option_map (referring required) (option_and_then others x)) e ∙ ap (option_map (referring required)) h ∙ said_last required m x
 
--- `next` tells for the number of each node to which node it refers
-module _ (plan : Plan) (next : List (Option ℕ)) where
-  abbrev pub Stands : Planned → Type 0
-  Stands p = slice_get (nodes_of plan) p.number ≡ Some p
+-- a node stands at its number
+abbrev pub Stands : Plan → Planned → Type 0
+Stands plan p = slice_get (nodes_of plan) p.number ≡ Some p
 
-  type_zero : (p : Planned) → type_within plan zero p ≡ None
-  unfolding type_within
-  type_zero p = refl
+same_node : (plan : Plan) (p q : Planned) → Stands plan p → Stands plan q → p.number ≡ q.number → p ≡ q
+same_node plan p q a b e = ap (λ (o : Option Planned). option_map_or (λ x. x) o p) (sym a ∙ ap (slice_get (nodes_of plan)) e ∙ b)
 
-  type_suc : (s : ℕ) → (p : Planned) → type_within plan (suc s) p ≡ option_and_then (type_by plan (type_within plan s) p) (meant_in plan p)
-  unfolding type_within
-  type_suc s p = refl
+-- `next` tells for the number of each node to which node it refers, by what the `type` statements of nodes mean
+module _ (plan : Plan) (meant : Planned → Option Meant) (next : List (Option ℕ))
+    (refers : (p : Planned) → Stands plan p → next_of next p.number ≡ target_number plan meant p)
+    (found : (p t : Planned) → Stands plan p → target_as plan meant p ≡ Some t → Stands plan t) where
+  by_target : (p : Planned) → (Goal : Type 0) → (target_as plan meant p ≡ None → Goal) → ((t : Planned) → target_as plan meant p ≡ Some t → Goal) → Goal
+  by_target p Goal without with = go (target_as plan meant p) refl
+    where
+      go : (o : Option Planned) → target_as plan meant p ≡ o → Goal
+      go None e = without e
+      go (Some t) e = with t e
 
-  leads_zero : (g i : ℕ) → (p : Planned) → leads next zero g i ≡ leads_to plan zero g p
-  unfolding leads leads_to
-  leads_zero g i p = refl
+  no_next : (p : Planned) → Stands plan p → target_as plan meant p ≡ None → next_of next p.number ≡ None
+  no_next p stands e = refers p stands ∙ ap (option_map (λ (t : Planned). t.number)) e
 
-  leads_suc : (s g : ℕ) → (p : Planned)
-      → leads_to plan (suc s) g p ≡ option_map_or (λ (t : Planned). t.number == g || leads_to plan s g t) (target_of plan p) false
-  unfolding leads_to
-  leads_suc s g p = refl
+  a_next : (p t : Planned) → Stands plan p → target_as plan meant p ≡ Some t → next_of next p.number ≡ Some t.number
+  a_next p t stands e = refers p stands ∙ ap (option_map (λ (t : Planned). t.number)) e
 
-  same_node : (p q : Planned) → Stands p → Stands q → p.number ≡ q.number → p ≡ q
-  same_node p q a b e = ap (λ (o : Option Planned). option_map_or (λ x. x) o p) (sym a ∙ ap (slice_get (nodes_of plan)) e ∙ b)
+  -- ---- types, each by way of so many references at most
 
-  module _ (refers : (p : Planned) → Stands p → next_of next p.number ≡ option_map (λ (t : Planned). t.number) (target_of plan p))
-      (found : (p t : Planned) → Stands p → target_of plan p ≡ Some t → Stands t) where
-    by_target : (p : Planned) → (Goal : Type 0) → (target_of plan p ≡ None → Goal) → ((t : Planned) → target_of plan p ≡ Some t → Goal) → Goal
-    by_target p Goal without with = go (target_of plan p) refl
-      where
-        go : (o : Option Planned) → target_of plan p ≡ o → Goal
-        go None e = without e
-        go (Some t) e = with t e
-
-    no_next : (p : Planned) → Stands p → target_of plan p ≡ None → next_of next p.number ≡ None
-    no_next p stands e = refers p stands ∙ ap (option_map (λ (t : Planned). t.number)) e
-
-    a_next : (p t : Planned) → Stands p → target_of plan p ≡ Some t → next_of next p.number ≡ Some t.number
-    a_next p t stands e = refers p stands ∙ ap (option_map (λ (t : Planned). t.number)) e
-
-    pub leads_same : (s g : ℕ) → (p : Planned) → Stands p → leads next s g p.number ≡ leads_to plan s g p
-    leads_same zero g p stands = leads_zero g p.number p
-    leads_same (suc s) g p stands = by_target p (leads next (suc s) g p.number ≡ leads_to plan (suc s) g p)
-        (λ e. leads_here next (suc s) g p.number (no_next p stands e)
-        ∙ sym (leads_suc s g p ∙ ap (λ (o : Option Planned). option_map_or (λ (t : Planned). t.number == g || leads_to plan s g t) o false) e))
-        (λ t e. leads_there next s g p.number t.number (a_next p t stands e)
-        ∙ ap (λ b. t.number == g || b) (leads_same s g t (found p t stands e))
-        ∙ sym (leads_suc s g p ∙ ap (λ (o : Option Planned). option_map_or (λ (t : Planned). t.number == g || leads_to plan s g t) o false) e))
-
+  module _ (within : ℕ → Planned → Option YangType) (none : (p : Planned) → within zero p ≡ None)
+      (one_more : (s : ℕ) (p : Planned) → within (suc s) p ≡ option_and_then (type_by plan (within s) p) (meant p)) where
     -- the type of a node is that of the end of its chain, with the node's own say
-    pub type_at_end : (s : ℕ) → (p q : Planned) → Stands p → Stands q → end_within next s p.number ≡ Some q.number
-        → type_within plan s p ≡ option_map (as_meant (meant_in plan p)) (own_type (meant_in plan q))
+    type_at_end : (s : ℕ) → (p q : Planned) → Stands plan p → Stands plan q → end_within next s p.number ≡ Some q.number
+        → within s p ≡ option_map (as_meant (meant p)) (own_type (meant q))
     type_at_end zero p q a b h = absurd (some_none q.number (sym h ∙ end_none next p.number))
     type_at_end (suc s) p q a b h = by_target p
-        (type_within plan (suc s) p ≡ option_map (as_meant (meant_in plan p)) (own_type (meant_in plan q)))
-        (λ e. let same = same_node p q a b (some_same p.number q.number (sym (end_here next s p.number (no_next p a e)) ∙ h)) in
-        type_suc s p ∙ without_target plan p (type_within plan s) (meant_in plan p) e ∙ own_kept (meant_in plan p)
-        ∙ ap (λ (x : Planned). option_map (as_meant (meant_in plan p)) (own_type (meant_in plan x))) same)
-        (λ t e. type_suc s p ∙ with_target plan p (type_within plan s) (meant_in plan p) t e (meant_in plan t)
-        (own_type (meant_in plan q))
+        (within (suc s) p ≡ option_map (as_meant (meant p)) (own_type (meant q)))
+        (λ e. let same = same_node plan p q a b (some_same p.number q.number (sym (end_here next s p.number (no_next p a e)) ∙ h)) in
+        one_more s p ∙ without_target plan p (within s) (meant p) e ∙ own_kept (meant p)
+        ∙ ap (λ (x : Planned). option_map (as_meant (meant p)) (own_type (meant x))) same)
+        (λ t e. one_more s p ∙ with_target plan p (within s) (meant p) t e (meant t)
+        (own_type (meant q))
         (type_at_end s t q (found p t a e) b (sym (end_there next s p.number t.number (a_next p t a e)) ∙ h)))
 
-    pub no_type_without_end : (s : ℕ) → (p : Planned) → Stands p → end_within next s p.number ≡ None → type_within plan s p ≡ None
-    no_type_without_end zero p a h = type_zero p
-    no_type_without_end (suc s) p a h = by_target p (type_within plan (suc s) p ≡ None)
+    no_type_without_end : (s : ℕ) → (p : Planned) → Stands plan p → end_within next s p.number ≡ None → within s p ≡ None
+    no_type_without_end zero p a h = none p
+    no_type_without_end (suc s) p a h = by_target p (within (suc s) p ≡ None)
         (λ e. absurd (some_none p.number (sym (end_here next s p.number (no_next p a e)) ∙ h)))
-        (λ t e. type_suc s p ∙ with_target plan p (type_within plan s) (meant_in plan p) t e None None
+        (λ t e. one_more s p ∙ with_target plan p (within s) (meant p) t e None None
         (no_type_without_end s t (found p t a e) (sym (end_there next s p.number t.number (a_next p t a e)) ∙ h)))
 
-    -- ---- with references for all nodes
-
+    -- with references for all nodes
     module _ (count : length next ≡ size plan.nodes) where
-      pub circles_same : (p : Planned) → Stands p → is_on_circle next p.number ≡ plans.is_on_circle plan p
-      circles_same p a = leads_same (length next) p.number p a ∙ ap (λ n. leads_to plan n p.number p) count
+      pub type_by_end : (p q : Planned) → Stands plan p → Stands plan q → end_of next p.number ≡ Some q.number
+          → within (suc (size plan.nodes)) p ≡ option_map (as_meant (meant p)) (own_type (meant q))
+      type_by_end p q a b h = sym (ap (λ n. within (suc n) p) count) ∙ type_at_end (suc (length next)) p q a b h
 
-      pub type_by_end : (p q : Planned) → Stands p → Stands q → end_of next p.number ≡ Some q.number
-          → type_led plan p ≡ option_map (as_meant (meant_in plan p)) (own_type (meant_in plan q))
-      type_by_end p q a b h = sym (ap (λ n. type_within plan (suc n) p) count) ∙ type_at_end (suc (length next)) p q a b h
+      pub no_type : (p : Planned) → Stands plan p → end_of next p.number ≡ None → within (suc (size plan.nodes)) p ≡ None
+      no_type p a h = sym (ap (λ n. within (suc n) p) count) ∙ no_type_without_end (suc (length next)) p a h
 
-      pub no_type : (p : Planned) → Stands p → end_of next p.number ≡ None → type_led plan p ≡ None
-      no_type p a h = sym (ap (λ n. type_within plan (suc n) p) count) ∙ no_type_without_end (suc (length next)) p a h
+-- ---- circles
+
+leads_zero : (plan : Plan) (next : List (Option ℕ)) (g i : ℕ) (p : Planned) → leads next zero g i ≡ leads_to plan zero g p
+unfolding leads leads_to
+leads_zero plan next g i p = refl
+
+leads_suc : (plan : Plan) (s g : ℕ) (p : Planned)
+    → leads_to plan (suc s) g p ≡ option_map_or (λ (t : Planned). t.number == g || leads_to plan s g t) (target_of plan p) false
+unfolding leads_to
+leads_suc plan s g p = refl
+
+module _ (plan : Plan) (next : List (Option ℕ))
+    (refers : (p : Planned) → Stands plan p → next_of next p.number ≡ target_number plan (meant_in plan) p)
+    (found : (p t : Planned) → Stands plan p → target_as plan (meant_in plan) p ≡ Some t → Stands plan t) where
+  leads_same : (s g : ℕ) → (p : Planned) → Stands plan p → leads next s g p.number ≡ leads_to plan s g p
+  leads_same zero g p stands = leads_zero plan next g p.number p
+  leads_same (suc s) g p stands = by_target plan (meant_in plan) next refers found p (leads next (suc s) g p.number ≡ leads_to plan (suc s) g p)
+      (λ e. leads_here next (suc s) g p.number (no_next plan (meant_in plan) next refers found p stands e)
+      ∙ sym (leads_suc plan s g p ∙ ap (λ (o : Option Planned). option_map_or (λ (t : Planned). t.number == g || leads_to plan s g t) o false) e))
+      (λ t e. leads_there next s g p.number t.number (a_next plan (meant_in plan) next refers found p t stands e)
+      ∙ ap (λ b. t.number == g || b) (leads_same s g t (found p t stands e))
+      ∙ sym (leads_suc plan s g p ∙ ap (λ (o : Option Planned). option_map_or (λ (t : Planned). t.number == g || leads_to plan s g t) o false) e))
+
+  pub circles_same : length next ≡ size plan.nodes → (p : Planned) → Stands plan p → is_on_circle next p.number ≡ plans.is_on_circle plan p
+  circles_same count p a = leads_same (length next) p.number p a ∙ ap (λ n. leads_to plan n p.number p) count

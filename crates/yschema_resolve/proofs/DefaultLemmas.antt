@@ -1,5 +1,6 @@
 -- Values of defaults: those that are refused, and those that come twice.
-use Rattle.std.proofs.Common.{◌≡◌, ◌≢◌, ℕ, suc, ◌<◌, ◌≤◌, map, eqb, ◌++◌, ◌&&◌, Bool, true, false, not, cond, ltb, ◌||◌, Bor, List, [], ◌∷◌, length, Option, Some, None, is_some, refl, sym, ap, ap₂, ◌∙◌, arith}
+use Rattle.std.proofs.Common.{◌≡◌, ◌≢◌, ℕ, suc, ◌+◌, ◌<◌, ◌≤◌, drop, get_or, map, eqb, ◌++◌, ◌&&◌, Bool, true, false, not, cond, ltb, ◌||◌, Bor, List, [], ◌∷◌, length, Option, Some, None, is_some, refl, sym, ap, ap₂, ◌∙◌, arith}
+use Rattle.std.proofs.Math.Path.{fun_ext}
 use Rattle.std.specs.List.{list_any, cons_option, filter_map}
 use Rattle.std.specs.Option.{option_map_or}
 use Rattle.std.specs.Prelude.{option_map, option_and_then}
@@ -7,7 +8,7 @@ use Rattle.std.specs.Ordering.{is_eq}
 use Rattle.std.specs.BTreeSet.{BTreeSet, contains_by}
 use Rattle.std.specs.BTreeMap.{is_at}
 use Rattle.std.proofs.lemmas.Bool.{lt-ltb, le-ltb, ltb-true, ltb-false, ne_eqb, eqb-true}
-use Rattle.std.proofs.lemmas.List.{length-map}
+use Rattle.std.proofs.lemmas.List.{at_drop_more, at_drop_all}
 use Rattle.yspec.specs.types.Types.{YangType, Val}
 use Rattle.yspec.specs.types.Values.{value_of_text}
 use Rattle.yspec.specs.types.Order.{value_cmp, same_value}
@@ -15,15 +16,19 @@ use Rattle.yspec.specs.Forest.{Forest}
 use Rattle.yspec.specs.linking.Source.{Source, Stated, first_with, found_with}
 use Rattle.yspec.specs.linking.DerivedTypes.{default_meant}
 use Rattle.yspec.specs.linking.Keyword.{Keyword, same_keyword, leaf_word, leaf_list_word, choice_word, type_word, default_word}
-use Rattle.yspec.specs.linking.Planned.{Planned, Plan, stated_in, type_of}
+use Rattle.yspec.specs.linking.Planned.{Planned, Plan, stated_in}
 use Rattle.yspec.specs.linking.SchemaNodes.{is_mandatory, min_elements_of, is_key, own_defaults, type_default, default_texts, value_stated, default_case}
-use Rattle.yspec.specs.linking.NodeBreaks.{is_empty, is_refused, has_equal, is_wrong_default, are_wrong_defaults, is_wrong_case, is_default_wrong}
+use Rattle.yspec.specs.linking.NodeBreaks.{is_empty, has_equal, is_wrong_case}
+use Rattle.yspec_wide.specs.Language.{Language}
+use Rattle.yspec_wide.specs.Types as wide
+use Rattle.yspec_wide.specs.Types.{default_texts_in, same_if_any, is_refused_in, is_wrong_default_in, are_wrong_defaults_in, standing_type, is_default_wrong_in}
+use Rattle.yspec.proofs.TypeProofs.OrderLemmas.{tells_values}
 use Rattle.ylink_grammar.specs.SourceView.{stated_view}
 use Rattle.ylink_grammar.specs.declared.source.Stated as code
 use Rattle.ylink_grammar.proofs.SourceLemmas.{first_found}
 use Rattle.yschema_resolve.specs.ModulesView.{AreNamesOf, value_by}
 use Rattle.yschema_resolve.specs.declared.modules.ModuleTable.{ModuleTable}
-use Rattle.yschema_resolve.specs.Values.{comes_twice, wrong_leaf, wrong_leaf_list}
+use Rattle.yschema_resolve.specs.Values.{comes_twice, is_refused_by, unmarked_type, wrong_leaf, wrong_leaf_list}
 
 -- ---- values that were seen
 
@@ -110,30 +115,31 @@ equal_values plan type (t ∷ ts) = by (value_stated plan type t) (equal_values 
     by None h = ap (λ b. b || has_equal plan type ts) (any_none (same None) ts (λ u. refl)) ∙ h
     by (Some v) h = ap₂ ◌||◌ (any_values (value_stated plan type) (same_value v) ts) h
 
-taken_most : {A B : Type 0} (f : A → Option B) (xs : List A) → length (filter_map f xs) ≤ length xs
-taken_most {B = B} f [] = omega arith
-taken_most {B = B} f (x ∷ xs) = by (f x) (taken_most f xs)
-  where
-    by : (o : Option B) → length (filter_map f xs) ≤ length xs → length (cons_option o (filter_map f xs)) ≤ suc (length xs)
-    by None h = omega (arith, h)
-    by (Some y) h = omega (arith, h)
+-- what a type makes of a text is the same by the names that are held
+same_value_by : (table : ModuleTable) (plan : Plan) → AreNamesOf table plan.modules → value_by table ≡ value_stated plan
+same_value_by table plan are = fun_ext (λ type. fun_ext (λ t. ap (λ names. value_of_text names type t.text) (are t.home)))
 
--- one is refused where fewer are taken than there are
-pub any_refused : (plan : Plan) (type : YangType) (ts : List Stated) → list_any (is_refused plan type) ts ≡ ltb (length (filter_map (value_stated plan type) ts)) (length ts)
-any_refused plan type [] = refl
-any_refused plan type (t ∷ ts) = by (value_stated plan type t) (taken_most (value_stated plan type) ts) (any_refused plan type ts)
-  where
-    taken : List Val
-    taken = filter_map (value_stated plan type) ts
+-- a type takes a text as it does itself
+pub right_itself : (v : Val) → same_if_any (Some v) (Some v) ≡ true
+right_itself v = (tells_values v v).1 refl
 
-    next : (m n : ℕ) (b : Bool) → ltb m n ≡ b → b ≡ ltb (suc m) (suc n)
-    next m n true e = sym (lt-ltb (suc m) (suc n) (omega (arith, ltb-true m n e)))
-    next m n false e = sym (le-ltb (suc m) (suc n) (omega (arith, ltb-false m n e)))
+-- ---- texts, one after another
 
-    by : (o : Option Val) → length taken ≤ length ts → list_any (is_refused plan type) ts ≡ ltb (length taken) (length ts)
-        → (not (is_some o) || list_any (is_refused plan type) ts) ≡ ltb (length (cons_option o taken)) (suc (length ts))
-    by None most h = sym (lt-ltb (length taken) (suc (length ts)) (omega (arith, most)))
-    by (Some v) most h = h ∙ next (length taken) (length ts) (ltb (length taken) (length ts)) refl
+module _ {A B : Type 0} (see : A → B) (test : B → Bool) (xs : List A) where
+  abbrev any_of : List A → Bool
+  any_of ys = list_any test (map see ys)
+
+  pub first_refused : (i : ℕ) (x : A) (whole : Bool) → i < length xs → x ≡ get_or xs i x → test (see x) ≡ true → any_of (drop i xs) ≡ whole → true ≡ whole
+  first_refused i x whole within is refused so_far =
+      sym (at_drop_more any_of xs i x within ∙ ap (λ b. b || any_of (drop (i + 1) xs)) (ap (λ y. test (see y)) (sym is) ∙ refused)) ∙ so_far
+
+  pub first_right : (i : ℕ) (x : A) (whole : Bool) → i < length xs → x ≡ get_or xs i x → test (see x) ≡ false → any_of (drop i xs) ≡ whole
+      → any_of (drop (i + 1) xs) ≡ whole
+  first_right i x whole within is right so_far =
+      sym (at_drop_more any_of xs i x within ∙ ap (λ b. b || any_of (drop (i + 1) xs)) (ap (λ y. test (see y)) (sym is) ∙ right)) ∙ so_far
+
+  pub all_right : (i : ℕ) (whole : Bool) → length xs ≤ i → any_of (drop i xs) ≡ whole → false ≡ whole
+  all_right i whole past so_far = sym (at_drop_all any_of xs i past) ∙ so_far
 
 -- ---- the defaults of a node
 
@@ -170,63 +176,69 @@ texts_of_type plan p [] more d none are is ends =
     by None = refl
     by (Some t) = refl
 
-module _ (plan : Plan) (p : Planned) (type : YangType) where
+-- in a language
+module _ (language : Language) (plan : Plan) (p : Planned) where
+  -- a leaf-list of YANG 1 has none
+  pub may_have : (texts : List Stated) → wide.has_defaults language plan p ≡ true → texts ≡ default_texts plan p → texts ≡ default_texts_in language plan p
+  may_have texts may are = are ∙ ap (λ b. cond b (default_texts plan p) []) (sym may)
+
+  pub has_none : (texts : List Stated) → wide.has_defaults language plan p ≡ false → texts ≡ [] → texts ≡ default_texts_in language plan p
+  has_none texts may are = are ∙ ap (λ b. cond b (default_texts plan p) []) (sym may)
+
+module _ (language : Language) (plan : Plan) (p : Planned) (type : YangType) where
   abbrev stated : Bool
   stated = not (is_empty (own_defaults p))
 
   abbrev refused : Bool
-  refused = list_any (is_refused plan type) (default_texts plan p)
+  refused = list_any (is_refused_in language plan p type) (default_texts_in language plan p)
 
   abbrev equal : Bool
-  equal = has_equal plan type (default_texts plan p)
+  equal = has_equal plan type (default_texts_in language plan p)
 
   some_stated : (texts : List code.Stated) → map stated_view texts ≡ own_defaults p → not (eqb (length texts) 0) ≡ stated
   some_stated texts are = ap not (no_texts texts ∙ ap is_empty are)
 
+  -- those that aren't right, by the names that are held
+  pub refused_as : (table : ModuleTable) → AreNamesOf table plan.modules → (unmarked : Option YangType) → unmarked ≡ unmarked_type language plan p
+      → (texts : List Stated) → texts ≡ default_texts_in language plan p → list_any (is_refused_by table type unmarked) texts ≡ refused
+  refused_as table are unmarked is texts texts_are =
+      ap₂ list_any (ap₂ (λ (value : YangType → Stated → Option Val) (u : Option YangType).
+      λ (t : Stated). not (same_if_any (value type t) (option_and_then (λ v. value v t) u))) (same_value_by table plan are) is) texts_are
+
   -- of a leaf with a default of its own
   pub wrong_beside : (texts : List code.Stated) → map stated_view texts ≡ own_defaults p → is_mandatory p ≡ true
-      → not (eqb (length texts) 0) ≡ is_wrong_default plan p type
+      → not (eqb (length texts) 0) ≡ is_wrong_default_in language plan p type
   wrong_beside texts are must = some_stated texts are ∙ ap (λ b. cond b stated refused) (sym must)
 
+  -- of another
+  pub wrong_refused : (told : Bool) → told ≡ refused → is_mandatory p ≡ false → told ≡ is_wrong_default_in language plan p type
+  wrong_refused told is may = is ∙ ap (λ b. cond b stated refused) (sym may)
+
   -- of a leaf-list with some of its own
-  by_least : (b : Bool) → ltb 0 (min_elements_of p) ≡ b → cond b stated (refused || (p.config && equal)) ≡ are_wrong_defaults plan p type
+  by_least : (b : Bool) → ltb 0 (min_elements_of p) ≡ b → cond b stated (refused || (p.config && equal)) ≡ are_wrong_defaults_in language plan p type
   by_least b is = ap (λ d. cond d stated (refused || (p.config && equal))) (sym is)
 
   pub wrong_least : (texts : List code.Stated) → map stated_view texts ≡ own_defaults p → (n : ℕ) → n ≡ min_elements_of p → 0 < n
-      → not (eqb (length texts) 0) ≡ are_wrong_defaults plan p type
+      → not (eqb (length texts) 0) ≡ are_wrong_defaults_in language plan p type
   wrong_least texts are n is above = some_stated texts are ∙ by_least true (ap (ltb 0) (sym is) ∙ lt-ltb 0 n above)
 
-  module _ (texts : List code.Stated) (are : map stated_view texts ≡ default_texts plan p) where
-    some_refused : (values : List Val) → values ≡ filter_map (value_stated plan type) (map stated_view texts) → ltb (length values) (length texts) ≡ refused
-    some_refused values taken =
-        ap₂ (λ m n. ltb m n) (ap length taken) (sym (length-map texts stated_view))
-        ∙ (sym (any_refused plan type (map stated_view texts)) ∙ ap (list_any (is_refused plan type)) are)
+  -- of another leaf-list
+  module _ (n : ℕ) (is : n ≡ min_elements_of p) (none : n ≤ 0) (told : Bool) (told_is : told ≡ refused) where
+    others : (refused || (p.config && equal)) ≡ are_wrong_defaults_in language plan p type
+    others = by_least false (ap (ltb 0) (sym is) ∙ le-ltb 0 n none)
 
-    some_equal : (values : List Val) → values ≡ filter_map (value_stated plan type) (map stated_view texts) → comes_twice same_value values ≡ equal
-    some_equal values taken = ap (comes_twice same_value) taken ∙ (sym (equal_values plan type (map stated_view texts)) ∙ ap (has_equal plan type) are)
+    pub wrong_one : told ≡ true → true ≡ are_wrong_defaults_in language plan p type
+    wrong_one holds = ap (λ r. r || (p.config && equal)) (sym holds ∙ told_is) ∙ others
 
-    -- of a leaf
-    pub wrong_refused : (values : List Val) → values ≡ filter_map (value_stated plan type) (map stated_view texts) → is_mandatory p ≡ false
-        → ltb (length values) (length texts) ≡ is_wrong_default plan p type
-    wrong_refused values taken may = some_refused values taken ∙ ap (λ b. cond b stated refused) (sym may)
+    pub wrong_twice : told ≡ false → p.config ≡ true → (texts : List Stated) → texts ≡ default_texts_in language plan p
+        → (values : List Val) → values ≡ filter_map (value_stated plan type) texts → comes_twice same_value values ≡ are_wrong_defaults_in language plan p type
+    wrong_twice fails config texts texts_are values taken =
+        ap (comes_twice same_value) taken
+        ∙ (sym (equal_values plan type texts) ∙ (ap (has_equal plan type) texts_are
+        ∙ (ap₂ (λ r c. r || (c && equal)) (sym fails ∙ told_is) (sym config) ∙ others)))
 
-    -- of a leaf-list
-    module _ (n : ℕ) (is : n ≡ min_elements_of p) (none : n ≤ 0) (values : List Val) (taken : values ≡ filter_map (value_stated plan type) (map stated_view texts)) where
-      by_values : (b : Bool) → ltb (length values) (length texts) ≡ b → (b || (p.config && comes_twice same_value values)) ≡ are_wrong_defaults plan p type
-      by_values b fewer =
-          ap₂ (λ r e. r || (p.config && e)) (sym fewer ∙ some_refused values taken) (some_equal values taken)
-          ∙ by_least false (ap (ltb 0) (sym is) ∙ le-ltb 0 n none)
-
-      pub wrong_fewer : length values < length texts → true ≡ are_wrong_defaults plan p type
-      wrong_fewer fewer = by_values true (lt-ltb (length values) (length texts) fewer)
-
-      pub wrong_twice : length texts ≤ length values → p.config ≡ true → comes_twice same_value values ≡ are_wrong_defaults plan p type
-      wrong_twice all config =
-          ap (λ c. c && comes_twice same_value values) (sym config) ∙ by_values false (le-ltb (length values) (length texts) all)
-
-      pub right_state : length texts ≤ length values → p.config ≡ false → false ≡ are_wrong_defaults plan p type
-      right_state all state =
-          ap (λ c. c && comes_twice same_value values) (sym state) ∙ by_values false (le-ltb (length values) (length texts) all)
+    pub right_state : told ≡ false → p.config ≡ false → false ≡ are_wrong_defaults_in language plan p type
+    right_state fails state = ap₂ (λ r c. r || (c && equal)) (sym fails ∙ told_is) (sym state) ∙ others
 
 -- ---- the default of a type
 
@@ -256,13 +268,14 @@ without_default plan p found is none = by (is_mandatory p || ltb 0 (min_elements
 
 -- ---- by the keyword of a node
 
-abbrev wrong_by : Plan → Planned → Keyword → Bool
-wrong_by plan p w = cond (same_keyword leaf_word w) (wrong_leaf plan p (is_key plan p) (type_of plan p))
-    (cond (same_keyword leaf_list_word w) (wrong_leaf_list plan p (type_of plan p))
-    (same_keyword choice_word w && (is_some (stated_in default_word p) && is_wrong_case plan p (default_case plan p))))
+module _ (language : Language) (plan : Plan) (p : Planned) where
+  abbrev wrong_by : Keyword → Bool
+  wrong_by w = cond (same_keyword leaf_word w) (wrong_leaf language plan p (is_key plan p) (standing_type language plan p))
+      (cond (same_keyword leaf_list_word w) (wrong_leaf_list language plan p (standing_type language plan p))
+      (same_keyword choice_word w && (is_some (stated_in default_word p) && is_wrong_case plan p (default_case plan p))))
 
-pub leaf_as : (plan : Plan) (p : Planned) → leaf_word ≡ p.part.source.keyword → wrong_leaf plan p (is_key plan p) (type_of plan p) ≡ is_default_wrong plan p
-leaf_as plan p is = ap (wrong_by plan p) is
+  pub leaf_as : leaf_word ≡ p.part.source.keyword → wrong_leaf language plan p (is_key plan p) (standing_type language plan p) ≡ is_default_wrong_in language plan p
+  leaf_as is = ap wrong_by is
 
-pub leaf_list_as : (plan : Plan) (p : Planned) → leaf_list_word ≡ p.part.source.keyword → wrong_leaf_list plan p (type_of plan p) ≡ is_default_wrong plan p
-leaf_list_as plan p is = ap (wrong_by plan p) is
+  pub leaf_list_as : leaf_list_word ≡ p.part.source.keyword → wrong_leaf_list language plan p (standing_type language plan p) ≡ is_default_wrong_in language plan p
+  leaf_list_as is = ap wrong_by is

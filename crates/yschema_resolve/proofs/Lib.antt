@@ -3,6 +3,8 @@ pub mod MeaningLemmas
 pub mod CollectLemmas
 pub mod ModuleLemmas
 pub mod TypeLemmas
+pub mod KeptLemmas
+pub mod CoreLemmas
 pub mod ReferenceLemmas
 pub mod DefaultLemmas
 pub mod ConfigLemmas
@@ -10,3 +12,5 @@ mod TupleLemmas
 mod MarkLemmas
 pub mod JudgingLemmas
 pub mod AdditionLemmas
+pub mod UnfitKeyLemmas
+pub mod CallerLemmas

@@ -1,6 +1,9 @@
 pub mod ChainTypes
+pub mod MeaningsView
 pub mod ModulesView
 pub mod TypesView
 pub mod Values
 pub mod TuplesView
 pub mod ResolvedView
+pub mod Standing
+pub mod UnfitKeys

@@ -1,14 +1,20 @@
 //! Configuration that must be stored, added to nodes of other modules (RFC 7950, 7.17).
 
-ghost use Rattle.std.specs.Prelude.{◌≡◌, ◌&&◌, option_and_then};
+ghost use Rattle.std.specs.Prelude.{◌≡◌, IfOk, None, option_and_then};
+ghost use Rattle.std.specs.List.{flat_map};
 ghost use Rattle.yspec.specs.schema.Breaks.{least_from};
-ghost use Rattle.yspec.specs.linking.Planned.{node_of};
+ghost use Rattle.yspec.specs.linking.Planned.{node_of, nodes_of};
 ghost use Rattle.yspec.specs.linking.NodeBreaks as breaks;
+ghost use Rattle.yspec_wide.specs.Additions.{addition_breaks_in};
+ghost use Rattle.yspec_wide.specs.Language.{Language};
 ghost use Rattle.ylink_grammar.specs.BreakView.{seen};
+ghost use Rattle.yschema_plan.specs.Needs.{needs_below, stands_in};
 ghost use Rattle.yschema_plan.specs.NodesView.{node_view};
 ghost use Rattle.yschema_plan.specs.PlannedView.{planned_view};
 ghost use Rattle.yschema_plan.specs.PlanView.{view};
+ghost use Rattle.yschema_resolve.specs.Standing as spec;
 
+use std::alloc::{AllocError, Global};
 use ylink_grammar::{BrokenRule, CompileCode, broken, least_when};
 use yschema_plan::{Plan, PlanNode, Planned};
 
@@ -26,23 +32,32 @@ fn is_foreign<'a, 't>(plan: &Plan<'a, 't>, planned: &Planned<'a, 't>) -> bool
     }
 }
 
-/// Whether it is configuration that must be stored, right below a node of another module.
-fn is_wrong_addition<'a, 't>(plan: &Plan<'a, 't>, node: PlanNode<'a, 't>) -> bool
-    ensures { let p = node_view node.entry in
-        result ≡ (breaks.is_foreign p (option_and_then (node_of (view plan.now)) p.parent)
-        && (p.config && breaks.is_needed (view plan.now) p)) }
+/// Whether it is configuration that stands itself and must be stored, right below a node of another module.
+fn is_wrong_addition<'a, 't>(
+    plan: &Plan<'a, 't>,
+    standing: &[bool],
+    needs: &[bool],
+    node: PlanNode<'a, 't>,
+) -> bool
+    requires { needs.now ≡ needs_below (stands_in standing.now) (view plan.now).nodes }
+    ensures { result
+        ≡ spec.is_wrong_addition (stands_in standing.now) (view plan.now) (node_view node.entry) }
 {
-    is_foreign(plan, &node.planned) && (node.planned.config && plan.is_needed(node))
+    is_foreign(plan, &node.planned)
+        && (node.planned.config && plan.is_needed_standing(node, standing, needs))
 }
 
 /// The lesser of one so far and of what is told of a node at the `augment` that adds it.
-pub(crate) fn least_addition<'a, 't>(
+fn least_addition<'a, 't>(
     plan: &Plan<'a, 't>,
+    standing: &[bool],
+    needs: &[bool],
     node: PlanNode<'a, 't>,
     so_far: Option<BrokenRule>,
 ) -> Option<BrokenRule>
-    ensures { seen result
-        ≡ least_from (seen so_far) (breaks.addition_breaks (view plan.now) (node_view node.entry)) }
+    requires { needs.now ≡ needs_below (stands_in standing.now) (view plan.now).nodes }
+    ensures { seen result ≡ least_from (seen so_far)
+        (spec.addition_breaks_by (stands_in standing.now) (view plan.now) (node_view node.entry)) }
 {
     let Some(number) = node.planned.added_by() else {
         return so_far;
@@ -51,8 +66,41 @@ pub(crate) fn least_addition<'a, 't>(
         Some(row) => {
             let source = &row.label;
             let found = broken(CompileCode::C15, source.home, source.statement);
-            least_when(is_wrong_addition(plan, node), so_far, found)
+            least_when(
+                is_wrong_addition(plan, standing, needs, node),
+                so_far,
+                found,
+            )
         }
         None => so_far,
     }
+}
+
+/// The least of all that are told, where it is told of each node whether one right below it must be stored.
+fn least_of_all(plan: &Plan<'_, '_>, standing: &[bool], needs: &[bool]) -> Option<BrokenRule>
+    requires { needs.now ≡ needs_below (stands_in standing.now) (view plan.now).nodes }
+    ensures { let p = view plan.now in seen result
+        ≡ least_from None (flat_map (spec.addition_breaks_by (stands_in standing.now) p) (nodes_of p)) }
+{
+    let mut told = None;
+    for node in plan.iter() {
+        told = least_addition(plan, standing, needs, node, told);
+    }
+    told
+}
+
+/// The least of the configuration that must be stored, added to nodes of other modules, of all that a set of modules defines:
+/// whether what it is added to stands or not. It is told by number which nodes stand themselves; those of which nothing is told
+/// do.
+pub fn broken_addition_rule(
+    alloc: Global,
+    plan: &Plan<'_, '_>,
+    standing: &[bool],
+) -> Result<Option<BrokenRule>, AllocError>
+    ensures { (l : Language) → let p = view plan.now in spec.TellsStanding standing.now l p
+        → IfOk result (λ told. seen told
+        ≡ least_from None (flat_map (addition_breaks_in l p) (nodes_of p))) }
+{
+    let needs = plan.needs_standing(alloc, standing)?;
+    Ok(least_of_all(plan, standing, needs.as_slice()))
 }

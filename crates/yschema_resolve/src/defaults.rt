@@ -1,13 +1,18 @@
 //! Defaults that nodes can't have (RFC 7950, 7.6.1, 7.7.2 and 7.9.3).
 
-ghost use Rattle.std.specs.Prelude.{◌≡◌, ◌&&◌, map, is_some, option_map, IfOk};
-ghost use Rattle.std.specs.List.{filter_map};
+ghost use Rattle.std.specs.Prelude.{◌≡◌, ◌&&◌, Some, false, map, is_some, option_map, slice_get, IfOk};
+ghost use Rattle.std.specs.List.{filter_map, list_any};
+ghost use Rattle.std.specs.Option.{option_map_or};
+ghost use Rattle.yspec.specs.types.Types.{YangType};
 ghost use Rattle.yspec.specs.types.Order.{same_value};
 ghost use Rattle.yspec.specs.linking.Keyword.{default_word};
 ghost use Rattle.yspec.specs.linking.Planned as plans;
-ghost use Rattle.yspec.specs.linking.Planned.{stated_in, type_of};
+ghost use Rattle.yspec.specs.linking.Planned.{stated_in};
 ghost use Rattle.yspec.specs.linking.SchemaNodes as spec;
 ghost use Rattle.yspec.specs.linking.NodeBreaks as breaks;
+ghost use Rattle.yspec_wide.specs.Language as languages;
+ghost use Rattle.yspec_wide.specs.Types as wide;
+ghost use Rattle.ylink_features.specs.VersionView.{AreVersionsOf};
 ghost use Rattle.ylink_grammar.specs.SourceView.{stated_view};
 ghost use Rattle.ylink.specs.LinkedView.{IsOf};
 ghost use Rattle.yschema_plan.specs.NodesView.{node_view};
@@ -15,14 +20,17 @@ ghost use Rattle.yschema_plan.specs.PlannedView.{planned_view};
 ghost use Rattle.yschema_plan.specs.PlanView.{view};
 ghost use Rattle.yschema_resolve.specs.ModulesView.{value_by};
 ghost use Rattle.yschema_resolve.specs.ResolvedView as resolved_as;
-ghost use Rattle.yschema_resolve.specs.Values.{comes_twice, wrong_leaf, wrong_leaf_list};
+ghost use Rattle.yschema_resolve.specs.TypesView.{unmarked_view};
+ghost use Rattle.yschema_resolve.specs.Values.{comes_twice, is_refused_by, is_right_by, unmarked_type, value_if_any, wrong_leaf, wrong_leaf_list};
 
 use crate::modules::ModuleTable;
 use crate::resolved::Resolved;
+use crate::types::Unmarked;
 use std::alloc::{AllocError, Global};
 use std::collections::BTreeSet;
 use ybase_words::Keyword;
 use ylink::Linked;
+use ylink_features::Versions;
 use ylink_grammar::Stated;
 use yschema_plan::{Plan, PlanNode, Planned, is_wrong_case, own_defaults};
 use ytype::{BadValue, Val, YType};
@@ -92,7 +100,8 @@ fn type_default<'t>(linked: &Linked<'t>, planned: &Planned<'_, 't>) -> Option<St
     Some(text)
 }
 
-/// The defaults of a node, in order, each with the module in which it stands: its own, or where it has none that of its type.
+/// The defaults of a node that may have some, in order, each with the module in which it stands: its own, or where it has none
+/// that of its type.
 fn default_texts<'t>(
     alloc: Global,
     linked: &Linked<'t>,
@@ -111,6 +120,33 @@ fn default_texts<'t>(
     Ok(texts)
 }
 
+/// Whether a node may have defaults: a leaf-list of YANG 1 has none (RFC 6020, 7.7).
+fn has_defaults(versions: &Versions, planned: &Planned<'_, '_>) -> bool
+    ensures { (language : languages.Language) (plan : plans.Plan) (number : _)
+        → AreVersionsOf versions.now language plan.modules
+        → result ≡ wide.has_defaults language plan (planned_view number planned.now) }
+{
+    !(Keyword::LeafList.is(planned.keyword()) && versions.is_yang_1(planned.home()))
+}
+
+/// The defaults of a node of a plan in a language, in order, each with the module in which it stands.
+fn defaults_of<'t>(
+    alloc: Global,
+    resolved: &Resolved<'_, 't>,
+    planned: &Planned<'_, 't>,
+) -> Result<Vec<Stated<'t>>, AllocError>
+    ensures { (language : languages.Language) (plan : plans.Plan) (number : _)
+        → resolved_as.IsOf resolved.now language plan
+        → IfOk result (λ texts. map stated_view texts.items
+        ≡ wide.default_texts_in language plan (planned_view number planned.now)) }
+{
+    if has_defaults(&resolved.versions, planned) {
+        default_texts(alloc, resolved.linked, planned)
+    } else {
+        Ok(Vec::new(alloc))
+    }
+}
+
 /// The values that a type takes from the defaults of a node of a plan, in order.
 pub fn default_values<'t>(
     alloc: Global,
@@ -118,100 +154,176 @@ pub fn default_values<'t>(
     value_type: &YType,
     planned: &Planned<'_, 't>,
 ) -> Result<Vec<Val>, AllocError>
-    ensures { (plan : plans.Plan) (number : _) → resolved_as.IsOf resolved.now plan
+    ensures { (language : languages.Language) (plan : plans.Plan) (number : _)
+        → resolved_as.IsOf resolved.now language plan
         → IfOk result (λ values. values.items ≡ filter_map (spec.value_stated plan value_type.now)
-        (spec.default_texts plan (planned_view number planned.now))) }
+        (wide.default_texts_in language plan (planned_view number planned.now))) }
 {
-    let texts = default_texts(alloc, resolved.linked, planned)?;
+    let texts = defaults_of(alloc, resolved, planned)?;
     values_of(alloc, &resolved.modules, value_type, &texts)
 }
 
-/// Whether a leaf that is no key is mandatory and has a default of its own, or has one that its type doesn't take.
+/// Whether a type, where there is one, makes a value of a text of a module.
+fn is_taken_as(
+    alloc: Global,
+    modules: &ModuleTable<'_>,
+    value_type: Option<&YType>,
+    stated: Stated<'_>,
+    value: &Val,
+) -> Result<bool, AllocError>
+    ensures { IfOk result (λ same. same ≡ option_map_or (same_value value.now)
+        (value_if_any modules.now (option_map (λ t. t.now) value_type.entry) (stated_view stated.entry)) false) }
+{
+    let Some(value_type) = value_type else {
+        return Ok(false);
+    };
+    match value_of(alloc, modules, value_type, stated)? {
+        Some(other) => Ok(*value == other),
+        None => Ok(false),
+    }
+}
+
+/// Whether a type takes a text of a module, and takes it alike without the names that bear conditions (RFC 7950, 7.6.4).
+fn is_right(
+    alloc: Global,
+    modules: &ModuleTable<'_>,
+    value_type: &YType,
+    unmarked: Unmarked<'_>,
+    stated: Stated<'_>,
+) -> Result<bool, AllocError>
+    ensures { IfOk result (λ right. right ≡ is_right_by modules.now value_type.now
+        (unmarked_view value_type.now unmarked.entry) (stated_view stated.entry)) }
+{
+    let Some(value) = value_of(alloc, modules, value_type, stated)? else {
+        return Ok(false);
+    };
+    match unmarked {
+        Unmarked::Same => Ok(true),
+        Unmarked::Other(other) => is_taken_as(alloc, modules, other, stated, &value),
+    }
+}
+
+/// Whether one of some texts of modules isn't right.
+fn is_any_refused(
+    alloc: Global,
+    modules: &ModuleTable<'_>,
+    value_type: &YType,
+    unmarked: Unmarked<'_>,
+    texts: &[Stated<'_>],
+) -> Result<bool, AllocError>
+    ensures { IfOk result (λ refused. refused
+        ≡ list_any (is_refused_by modules.now value_type.now (unmarked_view value_type.now unmarked.entry))
+        (map stated_view texts.now)) }
+{
+    for text in texts {
+        if !is_right(alloc, modules, value_type, unmarked, *text)? {
+            return Ok(true);
+        }
+    }
+    Ok(false)
+}
+
+/// Whether a leaf that is no key is mandatory and has a default of its own, or has one that isn't right.
 fn is_wrong_default<'t>(
     alloc: Global,
     resolved: &Resolved<'_, 't>,
     value_type: &YType,
+    unmarked: Unmarked<'_>,
     planned: &Planned<'_, 't>,
 ) -> Result<bool, AllocError>
-    ensures { (plan : plans.Plan) (number : _) → resolved_as.IsOf resolved.now plan
-        → IfOk result (λ wrong. wrong
-        ≡ breaks.is_wrong_default plan (planned_view number planned.now) value_type.now) }
+    ensures { (language : languages.Language) (plan : plans.Plan) (number : _)
+        → resolved_as.IsOf resolved.now language plan
+        → unmarked_view value_type.now unmarked.entry
+        ≡ unmarked_type language plan (planned_view number planned.now)
+        → IfOk result (λ wrong. wrong ≡ wide.is_wrong_default_in language plan
+        (planned_view number planned.now) value_type.now) }
 {
     if planned.is_mandatory() {
         let stated = own_defaults(alloc, planned)?;
         return Ok(!stated.is_empty());
     }
-    let texts = default_texts(alloc, resolved.linked, planned)?;
-    let values = values_of(alloc, &resolved.modules, value_type, &texts)?;
-    Ok(values.len() < texts.len())
+    let texts = defaults_of(alloc, resolved, planned)?;
+    is_any_refused(alloc, &resolved.modules, value_type, unmarked, &texts)
 }
 
-/// Whether a leaf-list has defaults of its own though there must be items, or one that its type doesn't take, or, as
-/// configuration, two that are the same.
+/// Whether a leaf-list has defaults of its own though there must be items, or one that isn't right, or, as configuration, two
+/// that are the same.
 fn are_wrong_defaults<'t>(
     alloc: Global,
     resolved: &Resolved<'_, 't>,
     value_type: &YType,
+    unmarked: Unmarked<'_>,
     planned: &Planned<'_, 't>,
 ) -> Result<bool, AllocError>
-    ensures { (plan : plans.Plan) (number : _) → resolved_as.IsOf resolved.now plan
-        → IfOk result (λ wrong. wrong
-        ≡ breaks.are_wrong_defaults plan (planned_view number planned.now) value_type.now) }
+    ensures { (language : languages.Language) (plan : plans.Plan) (number : _)
+        → resolved_as.IsOf resolved.now language plan
+        → unmarked_view value_type.now unmarked.entry
+        ≡ unmarked_type language plan (planned_view number planned.now)
+        → IfOk result (λ wrong. wrong ≡ wide.are_wrong_defaults_in language plan
+        (planned_view number planned.now) value_type.now) }
 {
     if planned.min_elements() > 0 {
         let stated = own_defaults(alloc, planned)?;
         return Ok(!stated.is_empty());
     }
-    let texts = default_texts(alloc, resolved.linked, planned)?;
-    let values = values_of(alloc, &resolved.modules, value_type, &texts)?;
-    if values.len() < texts.len() {
+    let texts = defaults_of(alloc, resolved, planned)?;
+    if is_any_refused(alloc, &resolved.modules, value_type, unmarked, &texts)? {
         return Ok(true);
     }
     if planned.config {
+        let values = values_of(alloc, &resolved.modules, value_type, &texts)?;
         comes_twice(alloc, &values)
     } else {
         Ok(false)
     }
 }
 
-/// Whether a leaf has a wrong default, given whether it is a key, and its type.
+/// Whether a leaf has a wrong default, given whether it is a key, and its types.
 fn is_wrong_leaf<'t>(
     alloc: Global,
     resolved: &Resolved<'_, 't>,
     planned: &Planned<'_, 't>,
     is_key: bool,
     value_type: Option<&YType>,
+    unmarked: Unmarked<'_>,
 ) -> Result<bool, AllocError>
-    ensures { (plan : plans.Plan) (number : _) → resolved_as.IsOf resolved.now plan
+    ensures { (language : languages.Language) (plan : plans.Plan) (number : _)
+        → resolved_as.IsOf resolved.now language plan
+        → let p = planned_view number planned.now in
+        ((type : YangType) → option_map (λ t. t.now) value_type.entry ≡ Some type
+        → unmarked_view type unmarked.entry ≡ unmarked_type language plan p)
         → IfOk result (λ wrong. wrong
-        ≡ wrong_leaf plan (planned_view number planned.now) is_key
-        (option_map (λ t. t.now) value_type.entry)) }
+        ≡ wrong_leaf language plan p is_key (option_map (λ t. t.now) value_type.entry)) }
 {
     match value_type {
         Some(value_type) => {
             if is_key {
                 return Ok(false);
             }
-            is_wrong_default(alloc, resolved, value_type, planned)
+            is_wrong_default(alloc, resolved, value_type, unmarked, planned)
         }
         None => Ok(false),
     }
 }
 
-/// Whether a leaf-list has wrong defaults, given its type.
+/// Whether a leaf-list has wrong defaults, given its types.
 fn is_wrong_leaf_list<'t>(
     alloc: Global,
     resolved: &Resolved<'_, 't>,
     planned: &Planned<'_, 't>,
     value_type: Option<&YType>,
+    unmarked: Unmarked<'_>,
 ) -> Result<bool, AllocError>
-    ensures { (plan : plans.Plan) (number : _) → resolved_as.IsOf resolved.now plan
+    ensures { (language : languages.Language) (plan : plans.Plan) (number : _)
+        → resolved_as.IsOf resolved.now language plan
+        → let p = planned_view number planned.now in
+        ((type : YangType) → option_map (λ t. t.now) value_type.entry ≡ Some type
+        → unmarked_view type unmarked.entry ≡ unmarked_type language plan p)
         → IfOk result (λ wrong. wrong
-        ≡ wrong_leaf_list plan (planned_view number planned.now)
-        (option_map (λ t. t.now) value_type.entry)) }
+        ≡ wrong_leaf_list language plan p (option_map (λ t. t.now) value_type.entry)) }
 {
     match value_type {
-        Some(value_type) => are_wrong_defaults(alloc, resolved, value_type, planned),
+        Some(value_type) => are_wrong_defaults(alloc, resolved, value_type, unmarked, planned),
         None => Ok(false),
     }
 }
@@ -234,16 +346,23 @@ pub(crate) fn has_wrong_default<'a, 't>(
     is_key: bool,
     value_type: Option<&YType>,
 ) -> Result<bool, AllocError>
-    requires of_plan { resolved_as.IsOf resolved.now (view plan.now) }
-    ensures { let p = node_view node.entry in
-        is_key ≡ spec.is_key (view plan.now) p → option_map (λ t. t.now) value_type.entry
-        ≡ type_of (view plan.now) p
-        → IfOk result (λ wrong. wrong ≡ breaks.is_default_wrong (view plan.now) p) }
+    requires stands { slice_get (plans.nodes_of (view plan.now)) node.number ≡ Some (node_view node) }
+    ensures { (language : languages.Language) → let p = node_view node.entry in
+        resolved_as.IsOf resolved.now language (view plan.now)
+        → is_key ≡ spec.is_key (view plan.now) p → option_map (λ t. t.now) value_type.entry
+        ≡ wide.standing_type language (view plan.now) p
+        → IfOk result (λ wrong. wrong ≡ wide.is_default_wrong_in language (view plan.now) p) }
 {
     let planned = &node.planned;
     match planned.keyword() {
-        Keyword::Leaf => is_wrong_leaf(alloc, resolved, planned, is_key, value_type),
-        Keyword::LeafList => is_wrong_leaf_list(alloc, resolved, planned, value_type),
+        Keyword::Leaf => {
+            let unmarked = resolved.types.unmarked_type(node.number);
+            is_wrong_leaf(alloc, resolved, planned, is_key, value_type, unmarked)
+        }
+        Keyword::LeafList => {
+            let unmarked = resolved.types.unmarked_type(node.number);
+            is_wrong_leaf_list(alloc, resolved, planned, value_type, unmarked)
+        }
         Keyword::Choice => Ok(is_wrong_choice(plan, node.number, planned)),
         _ => Ok(false),
     }

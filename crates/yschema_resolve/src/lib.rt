@@ -11,7 +11,9 @@ mod references;
 mod resolved;
 mod tuples;
 mod types;
+mod unfit_keys;
 
+pub use additions::broken_addition_rule;
 pub use defaults::default_values;
 pub use judging::broken_node_rule;
 pub use resolved::Resolved;

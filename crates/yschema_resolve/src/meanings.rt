@@ -1,23 +1,49 @@
 //! What the `type` statements of nodes mean, and to which nodes leafrefs refer (RFC 7950, 9.9).
 
-ghost use Rattle.std.specs.Prelude.{◌≡◌, map, option_map, None, IfOk};
+ghost use Rattle.std.specs.Prelude.{◌≡◌, map, option_map, option_and_then, None, IfOk};
 ghost use Rattle.yspec.specs.linking.Planned as spec;
-ghost use Rattle.yspec.specs.linking.Planned.{meant_in, nodes_of};
+ghost use Rattle.yspec.specs.linking.Planned.{nodes_of};
 ghost use Rattle.yspec.specs.linking.Prefixes.{node_name};
 ghost use Rattle.yspec.specs.linking.SchemaNodes.{number_in};
 ghost use Rattle.ylink_arguments.specs.NameView.{names_view};
 ghost use Rattle.ylink.specs.TypeView.{meant_view};
-ghost use Rattle.ylink.specs.LinkedView.{IsOf};
 ghost use Rattle.yschema_plan.specs.NodesView.{node_view};
 ghost use Rattle.yschema_plan.specs.PlannedView.{planned_view};
 ghost use Rattle.yschema_plan.specs.PlanView.{view};
+ghost use Rattle.yschema_resolve.specs.ChainTypes.{meant_as, target_number};
+ghost use Rattle.yschema_resolve.specs.MeaningsView.{means};
 ghost use Rattle.yschema_resolve.specs.TypesView.{meants_view};
 
 use std::alloc::{AllocError, Global};
 use ybase_words::Keyword;
-use ylink::{Linked, Meant};
+use ylink::{KeptMeanings, Linked, Meant};
 use ylink_arguments::Name;
 use yschema_plan::{Plan, PlanNode, Planned};
+
+/// What the `type` statements of a set mean.
+#[derive(Clone, Copy)]
+pub(crate) enum TypeMeanings<'l, 't> {
+    /// Over all names of values.
+    All(&'l Linked<'t>),
+    /// Over those that are kept.
+    Kept(&'l KeptMeanings<'t>),
+}
+
+impl<'l, 't> TypeMeanings<'l, 't> {
+    ghost use Rattle.std.specs.Prelude.{◌≡◌, option_map};
+    ghost use Rattle.ylink.specs.TypeView.{meant_view};
+    ghost use Rattle.yschema_resolve.specs.MeaningsView.{means};
+
+    /// What the statement of a number means.
+    fn meant(self, number: u32) -> Option<&'l Meant<'t>>
+        ensures { option_map (λ m. meant_view m.now) result ≡ means self.entry number }
+    {
+        match self {
+            TypeMeanings::All(linked) => linked.meant(number),
+            TypeMeanings::Kept(meanings) => meanings.meant(number),
+        }
+    }
+}
 
 /// What the type of each node means, and the node to which it refers, by number.
 #[derive(Drop)]
@@ -27,13 +53,15 @@ pub(crate) struct Meanings<'l, 't> {
 }
 
 /// What the `type` statement of a node means; nothing where it has none that is right.
-fn meaning_of<'l, 't>(linked: &'l Linked<'t>, planned: &Planned<'_, 't>) -> Option<&'l Meant<'t>>
-    ensures { (plan : spec.Plan) (number : _) → IsOf linked.entry.now plan.modules
-        → option_map (λ m. meant_view m.now) result
-        ≡ meant_in plan (planned_view number planned.now) }
+fn meaning_of<'l, 't>(
+    types: TypeMeanings<'l, 't>,
+    planned: &Planned<'_, 't>,
+) -> Option<&'l Meant<'t>>
+    ensures { (number : _) → option_map (λ m. meant_view m.now) result
+        ≡ meant_as (means types.entry) (planned_view number planned.now) }
 {
     match planned.first_own(Keyword::Type) {
-        Some(statement) => linked.meant(statement.number()),
+        Some(statement) => types.meant(statement.number()),
         None => None,
     }
 }
@@ -105,10 +133,9 @@ fn target_of<'a, 't>(
     planned: &Planned<'a, 't>,
     meant: Option<&Meant<'t>>,
 ) -> Option<u32>
-    ensures { (number : _) → option_map (λ m. meant_view m.now) meant.entry
-        ≡ meant_in (view plan.now) (planned_view number planned.now)
-        → result ≡ option_map number_in
-        (spec.target_of (view plan.now) (planned_view number planned.now)) }
+    ensures { (number : _) → result ≡ option_map number_in
+        (option_and_then (spec.target_meant (view plan.now) (planned_view number planned.now))
+        (option_map (λ m. meant_view m.now) meant.entry)) }
 {
     match meant {
         Some(meant) => number_of(target_meant(plan, planned.owner(), meant)),
@@ -116,22 +143,21 @@ fn target_of<'a, 't>(
     }
 }
 
-/// Those of all nodes.
+/// Those of all nodes, given what the `type` statements of the set mean.
 pub(crate) fn meanings_of<'l, 't>(
     alloc: Global,
     plan: &Plan<'_, 't>,
-    linked: &'l Linked<'t>,
+    types: TypeMeanings<'l, 't>,
 ) -> Result<Meanings<'l, 't>, AllocError>
-    requires named { IsOf linked.now (view plan.now).modules }
     ensures meant { IfOk result (λ m. meants_view m.meant.items
-        ≡ map (meant_in (view plan.now)) (nodes_of (view plan.now))) }
+        ≡ map (meant_as (means types.entry)) (nodes_of (view plan.now))) }
     ensures targets { let p = view plan.now in IfOk result (λ m. m.targets.items
-        ≡ map (λ q. option_map number_in (spec.target_of p q)) (nodes_of p)) }
+        ≡ map (target_number p (meant_as (means types.entry))) (nodes_of p)) }
 {
     let mut meant = Vec::with_capacity(alloc, plan.nodes())?;
     let mut targets = Vec::with_capacity(alloc, plan.nodes())?;
     for node in plan.iter() {
-        let meaning = meaning_of(linked, &node.planned);
+        let meaning = meaning_of(types, &node.planned);
         targets.push(target_of(plan, &node.planned, meaning))?;
         meant.push(meaning)?;
     }

@@ -6,17 +6,20 @@ use crate::modules::ModuleTable;
 use crate::tuples::keys;
 use crate::types::{Types, types_of};
 use std::alloc::{AllocError, Global};
-use ylink::Linked;
+use ylink::{Language, Linked};
+use ylink_features::Versions;
+use ylink_standing::FeaturesOn;
 use yschema_plan::Plan;
 use ytype::YType;
 
-/// The types of a plan's nodes, to what leafrefs refer, which leafs are keys, what modules are called, and the statements,
-/// linked.
+/// The types of a plan's nodes in a language, to what leafrefs refer, which leafs are keys, what modules are called and which
+/// version of YANG they have, and the statements, linked.
 #[derive(Drop)]
 pub struct Resolved<'l, 't> {
     pub(crate) types: Types<'l, 't>,
     keys: Vec<bool>,
     pub(crate) modules: ModuleTable<'t>,
+    pub(crate) versions: Versions,
     pub(crate) linked: &'l Linked<'t>,
 }
 
@@ -24,43 +27,55 @@ impl<'l, 't> Resolved<'l, 't> {
     ghost use Rattle.std.specs.Prelude.{◌≡◌, Some, IfOk, slice_get, option_map};
     ghost use Rattle.yspec.specs.linking.Planned as spec;
     ghost use Rattle.yspec.specs.linking.SchemaNodes as nodes;
+    ghost use Rattle.yspec_wide.specs.Language as languages;
+    ghost use Rattle.yspec_wide.specs.Types.{standing_type};
+    ghost use Rattle.ylink_grammar.specs.LanguageView.{language_view};
+    ghost use Rattle.ylink_standing.specs.StandingView.{IsOf as AreOn};
     ghost use Rattle.ylink.specs.LinkedView as linked_as;
     ghost use Rattle.yschema_plan.specs.PlanView.{view};
     ghost use Rattle.yschema_resolve.specs.ResolvedView.{IsOf};
 
-    /// Those of a plan, given its statements, linked.
+    /// Those of a plan in a language, given its statements, linked, and which features are on.
     pub fn of(
         alloc: Global,
+        language: &Language,
+        features: &FeaturesOn,
         plan: &Plan<'_, 't>,
         linked: &'l Linked<'t>,
     ) -> Result<Resolved<'l, 't>, AllocError>
         requires named { linked_as.IsOf linked.now (view plan.now).modules }
-        ensures { IfOk result (λ resolved. IsOf resolved (view plan.now)) }
+        requires on { AreOn features.now (language_view language.now) (view plan.now).modules }
+        ensures { IfOk result (λ resolved.
+            IsOf resolved (language_view language.now) (view plan.now)) }
     {
         let modules = ModuleTable::of(alloc, linked)?;
+        let types = types_of(alloc, language, features, plan, linked, &modules)?;
+        let keys = keys(alloc, plan)?;
+        let versions = Versions::of(alloc, language, linked.sources())?;
         Ok(Resolved {
-            types: types_of(alloc, plan, linked, &modules)?,
-            keys: keys(alloc, plan)?,
+            types,
+            keys,
             modules,
+            versions,
             linked,
         })
     }
 
-    /// The type of the node of a number, in its module; a leafref has its target's, and none where it leads nowhere.
+    /// The type of the node of a number over the names that stand, in its module; a leafref has its target's, and none where it
+    /// leads nowhere.
     pub fn value_type(&self, number: u32) -> Option<&YType>
-        ensures { (plan : spec.Plan) (p : spec.Planned) → IsOf self.now plan
+        ensures { (language : languages.Language) (plan : spec.Plan) (p : spec.Planned)
+            → IsOf self.now language plan
             → slice_get (spec.nodes_of plan) number ≡ Some p
-            → option_map (λ t. t.now) result ≡ spec.type_of plan p }
+            → option_map (λ t. t.now) result ≡ standing_type language plan p }
     {
-        match self.types.types.get(number as usize) {
-            Some(Some(value_type)) => Some(value_type),
-            _ => None,
-        }
+        self.types.standing_type(number)
     }
 
     /// The number of the leaf or leaf-list to which the type of a node refers.
     pub fn target(&self, number: u32) -> Option<u32>
-        ensures { (plan : spec.Plan) (p : spec.Planned) → IsOf self.now plan
+        ensures { (language : languages.Language) (plan : spec.Plan) (p : spec.Planned)
+            → IsOf self.now language plan
             → slice_get (spec.nodes_of plan) number ≡ Some p
             → result ≡ option_map nodes.number_in (spec.target_of plan p) }
     {
@@ -72,7 +87,8 @@ impl<'l, 't> Resolved<'l, 't> {
 
     /// Whether the node of a number is a key of the list right above it.
     pub fn is_key(&self, number: u32) -> bool
-        ensures { (plan : spec.Plan) (p : spec.Planned) → IsOf self.now plan
+        ensures { (language : languages.Language) (plan : spec.Plan) (p : spec.Planned)
+            → IsOf self.now language plan
             → slice_get (spec.nodes_of plan) number ≡ Some p
             → result ≡ nodes.is_key plan p }
     {

@@ -1,7 +1,7 @@
 //! The types of leafs and leaf-lists, leafrefs followed to where they lead (RFC 7950, 9.9).
 
-ghost use Rattle.std.specs.Prelude.{◌≡◌, Some, map, IfOk, option_map, slice_get, unwrap_or, None};
-ghost use Rattle.yspec.specs.linking.Planned.{is_on_circle, referring};
+ghost use Rattle.std.specs.Prelude.{◌≡◌, map, IfOk, option_map, option_and_then, slice_get};
+ghost use Rattle.yspec.specs.linking.Planned.{referring};
 ghost use Rattle.ylink.specs.TypeView.{meant_view};
 ghost use Rattle.ylink.specs.LinkedView.{IsOf};
 ghost use Rattle.yschema_resolve.specs.ChainTypes.{as_meant};
@@ -10,13 +10,18 @@ ghost use Rattle.yschema_plan.specs.NodesView.{node_view};
 ghost use Rattle.yspec.specs.linking.Planned.{nodes_of};
 ghost use Rattle.yspec.specs.types.Types.{type_in};
 ghost use Rattle.yschema_resolve.specs.ModulesView.{AreNamesOf, names_in};
-ghost use Rattle.yschema_resolve.specs.TypesView.{AreOf, end_at, meants_view, meant_at, own_at, type_at, type_told};
+ghost use Rattle.yspec_wide.specs.Types.{type_of_kept};
+ghost use Rattle.ylink_grammar.specs.LanguageView.{language_view};
+ghost use Rattle.ylink_standing.specs.StandingView.{IsOf as AreOn};
+ghost use Rattle.ylink_values.specs.KeptView.{kept_view};
+ghost use Rattle.yschema_resolve.specs.TypesView.{AreOf, AreTyped, end_at, meants_view, meant_at, own_at, type_at, type_told};
 
-use crate::meanings::meanings_of;
+use crate::meanings::{TypeMeanings, meanings_of};
 use crate::modules::ModuleTable;
 use std::alloc::{AllocError, Global};
 use ybase_graph::{Chain, chains_of};
-use ylink::{Linked, Meant};
+use ylink::{Kept, Language, Linked, Meant};
+use ylink_standing::FeaturesOn;
 use yschema_plan::{Plan, PlanNode};
 use ytype::YType;
 use ytype_numbers::Restriction;
@@ -30,8 +35,20 @@ pub(crate) struct Types<'l, 't> {
     pub targets: Vec<Option<u32>>,
     /// Whether references lead back to the node.
     pub(crate) circles: Vec<bool>,
-    /// The types themselves, each in the module of its node; a leafref has its target's, and none where it leads nowhere.
-    pub types: Vec<Option<YType>>,
+    /// The types of the names that stand, each in the module of its node; a leafref has its target's, and none where it leads
+    /// nowhere.
+    pub standing: Vec<Option<YType>>,
+    /// The same of the names that bear no condition, where conditions are borne.
+    unmarked: Option<Vec<Option<YType>>>,
+}
+
+/// The type of a node over the names that bear no condition.
+#[derive(Clone, Copy)]
+pub(crate) enum Unmarked<'r> {
+    /// That over the names that stand.
+    Same,
+    /// Its own, if it has one.
+    Other(Option<&'r YType>),
 }
 
 /// What the type of the node of a number means.
@@ -154,37 +171,126 @@ fn all_circles(alloc: Global, chains: &[Chain]) -> Result<Vec<bool>, AllocError>
     Ok(circles)
 }
 
-/// What the types of a plan's nodes mean and to what they refer, given its statements, linked, and its modules.
+/// The types of a plan's nodes over the names of values that are kept, given its statements, linked, and its modules.
+fn kept_types<'t>(
+    alloc: Global,
+    plan: &Plan<'_, 't>,
+    linked: &Linked<'t>,
+    kept: Kept<'_>,
+    modules: &ModuleTable<'_>,
+) -> Result<Vec<Option<YType>>, AllocError>
+    requires named { IsOf linked.now (view plan.now).modules }
+    requires modules { AreNamesOf modules.now (view plan.now).modules }
+    ensures { let p = view plan.now in IfOk result (λ types. types.items
+        ≡ map (type_of_kept (kept_view kept.entry) p) (nodes_of p)) }
+{
+    let held = linked.meanings_kept(alloc, kept)?;
+    let meanings = meanings_of(alloc, plan, TypeMeanings::Kept(&held))?;
+    let chains = chains_of(alloc, meanings.targets.as_slice())?;
+    all_types(
+        alloc,
+        plan,
+        modules,
+        meanings.meant.as_slice(),
+        chains.as_slice(),
+    )
+}
+
+/// What the types of a plan's nodes mean and to what they refer, and the types in a language, given which features are on, the
+/// statements, linked, and what the modules are called.
 pub(crate) fn types_of<'l, 't>(
     alloc: Global,
+    language: &Language,
+    features: &FeaturesOn,
     plan: &Plan<'_, 't>,
     linked: &'l Linked<'t>,
     modules: &ModuleTable<'t>,
 ) -> Result<Types<'l, 't>, AllocError>
     requires named { IsOf linked.now (view plan.now).modules }
+    requires on { AreOn features.now (language_view language.now) (view plan.now).modules }
     requires modules { AreNamesOf modules.now (view plan.now).modules }
-    ensures { IfOk result (λ types. AreOf types (view plan.now)) }
+    ensures meant { IfOk result (λ types. AreOf types (view plan.now)) }
+    ensures typed { IfOk result (λ types.
+        AreTyped types (language_view language.now) (view plan.now)) }
 {
-    let meanings = meanings_of(alloc, plan, linked)?;
+    let meanings = meanings_of(alloc, plan, TypeMeanings::All(linked))?;
     let chains = chains_of(alloc, meanings.targets.as_slice())?;
-    let meant = meanings.meant.as_slice();
-    let types = all_types(alloc, plan, modules, meant, chains.as_slice())?;
     let circles = all_circles(alloc, chains.as_slice())?;
-    Ok(Types {
-        meant: meanings.meant,
-        targets: meanings.targets,
-        circles,
-        types,
-    })
+    match language {
+        Language::Core => {
+            let meant = meanings.meant.as_slice();
+            let standing = all_types(alloc, plan, modules, meant, chains.as_slice())?;
+            Ok(Types {
+                meant: meanings.meant,
+                targets: meanings.targets,
+                circles,
+                standing,
+                unmarked: None,
+            })
+        }
+        Language::Rfc(_) => {
+            let kept = Kept::Standing(features);
+            let standing = kept_types(alloc, plan, linked, kept, modules)?;
+            let kept = Kept::Unconditioned(language);
+            let unmarked = kept_types(alloc, plan, linked, kept, modules)?;
+            Ok(Types {
+                meant: meanings.meant,
+                targets: meanings.targets,
+                circles,
+                standing,
+                unmarked: Some(unmarked),
+            })
+        }
+    }
+}
+
+/// The type that a row holds of the node of a number.
+fn type_held(types: &[Option<YType>], number: usize) -> Option<&YType>
+    ensures { option_map (λ t. t.now) result ≡ option_and_then (λ t. t) (slice_get types.now number) }
+{
+    match types.get(number) {
+        Some(Some(value_type)) => Some(value_type),
+        _ => None,
+    }
 }
 
 impl Types<'_, '_> {
-    ghost use Rattle.std.specs.Prelude.{◌≡◌, false, slice_get, unwrap_or};
+    ghost use Rattle.std.specs.Prelude.{◌≡◌, Some, false, option_map, slice_get, unwrap_or};
+    ghost use Rattle.yspec.specs.types.Types.{YangType};
+    ghost use Rattle.yspec.specs.linking.Planned as spec;
+    ghost use Rattle.yspec_wide.specs.Language as languages;
+    ghost use Rattle.yspec_wide.specs.Types as wide;
+    ghost use Rattle.yschema_resolve.specs.TypesView.{AreTyped, unmarked_view};
 
     /// Whether references lead back to the node of a number.
     pub(crate) fn is_on_circle(&self, number: u32) -> bool
         ensures { result ≡ unwrap_or (slice_get self.now.circles.items number) false }
     {
         self.circles.get(number as usize).copied().unwrap_or(false)
+    }
+
+    /// The type of the node of a number over the names that stand.
+    pub(crate) fn standing_type(&self, number: u32) -> Option<&YType>
+        ensures { (language : languages.Language) (plan : spec.Plan) (p : spec.Planned)
+            → AreTyped self.now language plan
+            → slice_get (spec.nodes_of plan) number ≡ Some p
+            → option_map (λ t. t.now) result ≡ wide.standing_type language plan p }
+    {
+        type_held(self.standing.as_slice(), number as usize)
+    }
+
+    /// The type of the node of a number over the names that bear no condition, where it has one over those that stand.
+    pub(crate) fn unmarked_type(&self, number: u32) -> Unmarked<'_>
+        ensures { (language : languages.Language) (plan : spec.Plan) (p : spec.Planned)
+            (standing : YangType) → AreTyped self.now language plan
+            → slice_get (spec.nodes_of plan) number ≡ Some p
+            → wide.standing_type language plan p ≡ Some standing
+            → unmarked_view standing result
+            ≡ wide.type_of_kept (wide.bears_none language) plan p }
+    {
+        match &self.unmarked {
+            None => Unmarked::Same,
+            Some(types) => Unmarked::Other(type_held(types.as_slice(), number as usize)),
+        }
     }
 }

@@ -39,6 +39,10 @@ pub of-requires-3-clause-straight : goal.of-requires-3-clause-straight
 of-requires-3-clause-straight c =
     no_circles (language_view c.args.language.now) (statements.view c.args.sources) (sym (ap seen c.in_default-2.is) ∙ c.in_ok-found-2.ensures)
 
+pub link_types-requires-clause-straight : goal.link_types-requires-clause-straight
+link_types-requires-clause-straight c =
+    no_circles (language_view c.args.language.now) (statements.view c.args.sources) (sym (ap seen c.in_default-2.is) ∙ c.in_ok-found-2.ensures)
+
 -- all names are kept
 pub link_types-requires-clause-named : goal.link_types-requires-clause-named
 link_types-requires-clause-named c number =

@@ -10,6 +10,7 @@ use Rattle.ylink_grammar.specs.LinkView as statements
 use Rattle.ylink.specs.VerdictView.{AreVerdicts}
 use Rattle.ylink.specs.Told.{seen, told_by, break_view}
 use Rattle.ylink.proofs.LinkingLemmas.{types_told, refused_in_types, links}
+use Rattle.ylink.proofs.VerdictLemmas.{over_all}
 use Rattle.ylink.proofs.linking.link_types.Goals as goal
 use Rattle.ylink.proofs.linking.link_types.Goals.{In_ok-found}
 
@@ -20,8 +21,8 @@ told c =
     let s = statements.view c.args.sources in
     let language = language_view c.args.language.now in
     types_told language s (seen c.broken_type_rule-own.result) (seen c.in_ok-found.field-0)
-    (c.broken_type_rule-own.ensures (subst (λ t. AreVerdicts t s) (sym c.deref.ensures.value) (c.in_ok-verdicts.ensures c.requires.named)))
-    (c.in_ok-found.ensures language c.requires.versions (subst (λ t. AreVerdicts t s) (sym c.deref-2.ensures.value) (c.in_ok-verdicts.ensures c.requires.named)))
+    (c.broken_type_rule-own.ensures (subst (λ t. AreVerdicts t s) (sym c.deref.ensures.value) (over_all s c.args.typedefs c.in_ok-verdicts.verdicts.items c.requires.named c.in_ok-verdicts.ensures)))
+    (c.in_ok-found.ensures language c.requires.versions (subst (λ t. AreVerdicts t s) (sym c.deref-2.ensures.value) (over_all s c.args.typedefs c.in_ok-verdicts.verdicts.items c.requires.named c.in_ok-verdicts.ensures)))
 
 pub returns-in-Some-clause-told : goal.returns-in-Some-clause-told
 returns-in-Some-clause-told c =
@@ -40,3 +41,7 @@ returns-clause-told c =
     links language f s c.requires.made c.requires.first c.requires.names c.requires.meanings
     (sym (ap seen c.in_default.is) ∙ told ((goal.at.returns-clause-told c).In_ok-found))
     ∙ ap Ok (sym c.new.ensures.of)
+
+pub new-requires-clause-judged : goal.new-requires-clause-judged
+new-requires-clause-judged c =
+    over_all (statements.view c.args.sources) c.args.typedefs c.in_ok-verdicts.verdicts.items c.requires.named c.in_ok-verdicts.ensures

@@ -8,7 +8,8 @@ use Rattle.ylink_grammar.specs.LinkView.{view}
 use Rattle.ylink_grammar.specs.SourceView.{source_view}
 use Rattle.ylink_types.specs.TypeView.{verdict_view}
 use Rattle.ylink_types.specs.TypedefView.{verdicts_in}
-use Rattle.ylink.specs.VerdictView.{judged, members_below, table_view}
+use Rattle.ylink_values.specs.KeptView.{kept_view}
+use Rattle.ylink.specs.VerdictView.{judged_of, members_below, table_view}
 use Rattle.ylink.proofs.verdicts.+add_verdicts.Given as goal
 
 -- what stands below a statement is smaller than its row
@@ -21,9 +22,9 @@ invariant-loop-statement l = record {
   ends : (goal.iterator-loop-statement).is_finite l.statement-iterator;
   smaller : size (row_view l.statement-iterator) ≤ size (row_view l.fn.statements);
   members : map verdict_view l.members.items
-      ++ members_below (view l.sources) (verdicts_in l.typedefs) l.in_union (row_by source_view l.statement-iterator)
-      ≡ members_below (view l.sources) (verdicts_in l.typedefs) l.in_union (row_by source_view l.fn.statements);
+      ++ members_below (kept_view l.kept) (view l.sources) (verdicts_in l.typedefs) l.in_union (row_by source_view l.statement-iterator)
+      ≡ members_below (kept_view l.kept) (view l.sources) (verdicts_in l.typedefs) l.in_union (row_by source_view l.fn.statements);
   table : (ancestors : List (Source × Forest Source)) → l.in_union ≡ is_member ancestors
-      → table_view l.table.items ++ map (judged (view l.sources) (verdicts_in l.typedefs)) (placed ancestors (row_by source_view l.statement-iterator))
-      ≡ table_view l.fn.table.items ++ map (judged (view l.sources) (verdicts_in l.typedefs)) (placed ancestors (row_by source_view l.fn.statements));
+      → table_view l.table.items ++ map (judged_of (kept_view l.kept) (view l.sources) (verdicts_in l.typedefs)) (placed ancestors (row_by source_view l.statement-iterator))
+      ≡ table_view l.fn.table.items ++ map (judged_of (kept_view l.kept) (view l.sources) (verdicts_in l.typedefs)) (placed ancestors (row_by source_view l.fn.statements));
 }

@@ -6,6 +6,7 @@ use Rattle.yschema_resolve.specs.Values.{wrong_leaf_list}
 use Rattle.yschema_resolve.proofs.defaults.is_wrong_leaf_list.Goals as goal
 
 pub returns-in-Some : goal.returns-in-Some
-returns-in-Some c = λ plan number of_plan.
-    IfOk-weaker c.are_wrong_defaults.result _ _ (λ wrong so. so ∙ ap (wrong_leaf_list plan (planned_view number c.args.planned.now))
-    (ap (option_map (λ t. t.now)) (sym c.in-Some.is))) (c.are_wrong_defaults.ensures plan number of_plan)
+returns-in-Some c = λ language plan number of_plan unmarked.
+    let type = ap (option_map (λ t. t.now)) (sym c.in-Some.is) in
+    IfOk-weaker c.are_wrong_defaults.result _ _ (λ wrong so. so ∙ ap (wrong_leaf_list language plan (planned_view number c.args.planned.now)) type)
+    (c.are_wrong_defaults.ensures language plan number of_plan (unmarked c.in-Some.value_type.now (sym type)))
