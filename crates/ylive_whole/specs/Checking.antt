@@ -1,7 +1,12 @@
 -- What comes of edits of a document under modules, as the specification's.
-use Rattle.std.specs.Prelude.{◌≡◌, Option, Some, None}
+use Rattle.std.specs.Prelude.{◌≡◌, ℕ, List, Option, Some, None, Result}
+use Rattle.yspec.specs.Forest.{Forest}
+use Rattle.yspec.specs.text.Statement.{Statement}
 use Rattle.yspec.specs.edit.Live as spec
-use Rattle.yspec.specs.edit.Live.{CheckRefusal, of_modules, of_document}
+use Rattle.yspec.specs.edit.EditText.{Edit}
+use Rattle.yspec.specs.edit.Live.{CheckRefusal, of_modules, of_document, checked_under}
+use Rattle.yspec_wide.specs.Compiling.{compiled_in}
+use Rattle.yspec_wide.specs.Language.{Language}
 use Rattle.ylink.specs.Told as schema
 use Rattle.ylink.specs.declared.fault.CompileFault.TheVariants as compile_faults
 use Rattle.yinst_tree.specs.Told as document
@@ -12,6 +17,10 @@ use Rattle.ylive.specs.View.{outcomes_view}
 use Rattle.ylive_whole.specs.declared.checking.Checked.{Checked}
 use Rattle.ylive_whole.specs.declared.checking.CheckFault.{CheckFault}
 use Rattle.ylive_whole.specs.declared.checking.CheckFault.TheVariants.{Modules, Document, Memory}
+
+-- what comes of edits of the document that bytes denote under a set of modules in a language, or the first refusal
+abbrev pub checked_in : Language → Forest Statement → List ℕ → List Edit → Result spec.Checked CheckRefusal
+checked_in language modules document edits = checked_under (compiled_in language modules) document edits
 
 abbrev pub checked_view : Checked → spec.Checked
 checked_view checked = record { decisions = outcomes_view checked.outcomes.items; faults = views checked.faults.items }

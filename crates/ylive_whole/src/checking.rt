@@ -8,14 +8,16 @@ ghost use Rattle.ytext.specs.View.{modules_view};
 ghost use Rattle.yschema_model.specs.View as schema_view;
 ghost use Rattle.ylive.specs.View.{edits_view};
 ghost use Rattle.ylive.specs.View as live_view;
-ghost use Rattle.ylive_whole.specs.Checking.{TellsOrMemory, checked_view, told_by};
+ghost use Rattle.ylink_grammar.specs.LanguageView.{language_view};
+ghost use Rattle.ylive_whole.specs.Checking.{TellsOrMemory, checked_in, checked_view, told_by};
 
 use std::alloc::{AllocError, Global};
 use thiserror::Error;
 use ycheck::Fault;
 use yinst::{DocFault, Edit, read};
+use ylink_grammar::Language;
 use ylive::{Live, Outcome};
-use yschema::{CompileFault, compile};
+use yschema::{CompileFault, compile_in};
 use yschema_model::Schema;
 use ytext::Module;
 
@@ -39,9 +41,8 @@ pub enum CheckFault {
     Memory,
 }
 
-/// Applies edits in order to the document that JSON bytes denote under a set of modules, and then lists its faults. A
+/// Applies edits in order to the document that JSON bytes denote under a set of modules of the core, and then lists its faults. A
 /// refused edit changes nothing; refused modules or a refused document end it.
-#[tactic(auto, unfolding(yspec::specs::edit::Live::checked))]
 pub fn check_edits(
     alloc: Global,
     modules: &[Module],
@@ -52,7 +53,22 @@ pub fn check_edits(
         (checked (modules_view modules.now) document.now (edits_view edits.now)) }
     ensures memory { IfErr result TellsOrMemory }
 {
-    match compile(alloc, modules) {
+    check_edits_in(alloc, modules, &Language::Core, document, edits)
+}
+
+/// The same under modules that are read in a language.
+pub fn check_edits_in(
+    alloc: Global,
+    modules: &[Module],
+    language: &Language,
+    document: &[u8],
+    edits: &[Edit],
+) -> Result<Checked, CheckFault>
+    ensures answer { Gives checked_view told_by result (checked_in (language_view language.now)
+        (modules_view modules.now) document.now (edits_view edits.now)) }
+    ensures memory { IfErr result TellsOrMemory }
+{
+    match compile_in(alloc, modules, language) {
         Ok(schema) => check_under(alloc, schema, document, edits),
         Err(CompileFault::Memory) => Err(CheckFault::Memory),
         Err(fault) => Err(CheckFault::Modules(fault)),

@@ -3,4 +3,4 @@
 
 mod checking;
 
-pub use checking::{CheckFault, Checked, check_edits};
+pub use checking::{CheckFault, Checked, check_edits, check_edits_in};

@@ -7,11 +7,14 @@ use Rattle.std.proofs.lemmas.List.{map-append, at_drop_more, at_drop_all, append
 use Rattle.yspec.specs.Forest.{Forest, node, end, size, relabelled}
 use Rattle.yspec.specs.text.Text.{Text}
 use Rattle.yspec.specs.types.Types.{YangType, Val}
-use Rattle.yspec.specs.schema.Schema.{SchemaNode, LeafType, Status, Kind, case, Absence, key, mandatory}
+use Rattle.yspec.specs.schema.Schema.{SchemaNode, LeafType, Status, Kind, leaf, leaf_list, case, Absence, key, mandatory}
+use Rattle.yspec.specs.linking.Keyword as word
 use Rattle.yspec.specs.linking.Source.{Stated}
 use Rattle.yspec.specs.linking.Planned as spec
-use Rattle.yspec.specs.linking.SchemaNodes.{schema_node, schema_nodes, kind_by, absent_by, first_value, value_stated}
+use Rattle.yspec.specs.linking.SchemaNodes.{amount_of, kind_by, absent_by, first_value, value_stated}
 use Rattle.yspec.proofs.LinkingProofs.LinkedLemmas.{relabelled-size}
+use Rattle.yspec_wide.specs.Language.{Language}
+use Rattle.yspec_wide.specs.Types.{absence_in, default_values_in, leaf_type_in, schema_node_in, schema_nodes_in}
 use Rattle.ybase_words.specs.KeywordView.{keyword_view}
 use Rattle.ybase_words.specs.declared.keyword.Keyword.{Keyword}
 use Rattle.ybase_words.specs.declared.keyword.Keyword.TheVariants as words
@@ -53,57 +56,64 @@ leaf_type_by name type target = record { name = name; type = type; target = targ
 
 -- ---- kinds
 
+-- what only its kind of node has, by a keyword
+abbrev pub kind_for : Language → spec.Plan → spec.Planned → word.Keyword → Kind
+kind_for language plan p k = if word.same_keyword word.leaf_word k then leaf (leaf_type_in language plan p) (absence_in language plan p)
+    else (if word.same_keyword word.leaf_list_word k
+    then leaf_list (leaf_type_in language plan p) (default_values_in language plan p) (amount_of p)
+    else kind_by plan p k)
+
 -- any other keyword is that of a case
-pub other_kind : (plan : spec.Plan) (p : spec.Planned) (k : Keyword) → k ≢ words.Container → k ≢ words.Leaf → k ≢ words.LeafList → k ≢ words.List → k ≢ words.Choice
-    → case ≡ kind_by plan p (keyword_view k)
-other_kind plan p words.Module a b c d e = refl
-other_kind plan p words.YangVersion a b c d e = refl
-other_kind plan p words.Namespace a b c d e = refl
-other_kind plan p words.Prefix a b c d e = refl
-other_kind plan p words.Import a b c d e = refl
-other_kind plan p words.RevisionDate a b c d e = refl
-other_kind plan p words.Organization a b c d e = refl
-other_kind plan p words.Contact a b c d e = refl
-other_kind plan p words.Description a b c d e = refl
-other_kind plan p words.Reference a b c d e = refl
-other_kind plan p words.Revision a b c d e = refl
-other_kind plan p words.Extension a b c d e = refl
-other_kind plan p words.Typedef a b c d e = refl
-other_kind plan p words.Grouping a b c d e = refl
-other_kind plan p words.Augment a b c d e = refl
-other_kind plan p words.Container a b c d e = absurd (a refl)
-other_kind plan p words.Leaf a b c d e = absurd (b refl)
-other_kind plan p words.LeafList a b c d e = absurd (c refl)
-other_kind plan p words.List a b c d e = absurd (d refl)
-other_kind plan p words.Choice a b c d e = absurd (e refl)
-other_kind plan p words.Case a b c d e = refl
-other_kind plan p words.Uses a b c d e = refl
-other_kind plan p words.Refine a b c d e = refl
-other_kind plan p words.Type a b c d e = refl
-other_kind plan p words.FractionDigits a b c d e = refl
-other_kind plan p words.Range a b c d e = refl
-other_kind plan p words.Length a b c d e = refl
-other_kind plan p words.Enum a b c d e = refl
-other_kind plan p words.Bit a b c d e = refl
-other_kind plan p words.Path a b c d e = refl
-other_kind plan p words.RequireInstance a b c d e = refl
-other_kind plan p words.ErrorMessage a b c d e = refl
-other_kind plan p words.ErrorAppTag a b c d e = refl
-other_kind plan p words.Value a b c d e = refl
-other_kind plan p words.Position a b c d e = refl
-other_kind plan p words.Units a b c d e = refl
-other_kind plan p words.Default a b c d e = refl
-other_kind plan p words.Config a b c d e = refl
-other_kind plan p words.Mandatory a b c d e = refl
-other_kind plan p words.Presence a b c d e = refl
-other_kind plan p words.MinElements a b c d e = refl
-other_kind plan p words.MaxElements a b c d e = refl
-other_kind plan p words.OrderedBy a b c d e = refl
-other_kind plan p words.Status a b c d e = refl
-other_kind plan p words.Key a b c d e = refl
-other_kind plan p words.Unique a b c d e = refl
-other_kind plan p words.Identity a b c d e = refl
-other_kind plan p words.Base a b c d e = refl
+pub other_kind : (language : Language) (plan : spec.Plan) (p : spec.Planned) (k : Keyword) → k ≢ words.Container → k ≢ words.Leaf → k ≢ words.LeafList → k ≢ words.List → k ≢ words.Choice
+    → case ≡ kind_for language plan p (keyword_view k)
+other_kind language plan p words.Module a b c d e = refl
+other_kind language plan p words.YangVersion a b c d e = refl
+other_kind language plan p words.Namespace a b c d e = refl
+other_kind language plan p words.Prefix a b c d e = refl
+other_kind language plan p words.Import a b c d e = refl
+other_kind language plan p words.RevisionDate a b c d e = refl
+other_kind language plan p words.Organization a b c d e = refl
+other_kind language plan p words.Contact a b c d e = refl
+other_kind language plan p words.Description a b c d e = refl
+other_kind language plan p words.Reference a b c d e = refl
+other_kind language plan p words.Revision a b c d e = refl
+other_kind language plan p words.Extension a b c d e = refl
+other_kind language plan p words.Typedef a b c d e = refl
+other_kind language plan p words.Grouping a b c d e = refl
+other_kind language plan p words.Augment a b c d e = refl
+other_kind language plan p words.Container a b c d e = absurd (a refl)
+other_kind language plan p words.Leaf a b c d e = absurd (b refl)
+other_kind language plan p words.LeafList a b c d e = absurd (c refl)
+other_kind language plan p words.List a b c d e = absurd (d refl)
+other_kind language plan p words.Choice a b c d e = absurd (e refl)
+other_kind language plan p words.Case a b c d e = refl
+other_kind language plan p words.Uses a b c d e = refl
+other_kind language plan p words.Refine a b c d e = refl
+other_kind language plan p words.Type a b c d e = refl
+other_kind language plan p words.FractionDigits a b c d e = refl
+other_kind language plan p words.Range a b c d e = refl
+other_kind language plan p words.Length a b c d e = refl
+other_kind language plan p words.Enum a b c d e = refl
+other_kind language plan p words.Bit a b c d e = refl
+other_kind language plan p words.Path a b c d e = refl
+other_kind language plan p words.RequireInstance a b c d e = refl
+other_kind language plan p words.ErrorMessage a b c d e = refl
+other_kind language plan p words.ErrorAppTag a b c d e = refl
+other_kind language plan p words.Value a b c d e = refl
+other_kind language plan p words.Position a b c d e = refl
+other_kind language plan p words.Units a b c d e = refl
+other_kind language plan p words.Default a b c d e = refl
+other_kind language plan p words.Config a b c d e = refl
+other_kind language plan p words.Mandatory a b c d e = refl
+other_kind language plan p words.Presence a b c d e = refl
+other_kind language plan p words.MinElements a b c d e = refl
+other_kind language plan p words.MaxElements a b c d e = refl
+other_kind language plan p words.OrderedBy a b c d e = refl
+other_kind language plan p words.Status a b c d e = refl
+other_kind language plan p words.Key a b c d e = refl
+other_kind language plan p words.Unique a b c d e = refl
+other_kind language plan p words.Identity a b c d e = refl
+other_kind language plan p words.Base a b c d e = refl
 
 -- a schema node, from what is known of it
 abbrev pub node_by : ℕ → ℕ → Bool → Text → Status → Kind → SchemaNode
@@ -139,12 +149,12 @@ row_more make shown rows are i r made more m whole inside at count placed pushed
     ∙ (ap (λ x. laid 0 made ++ x) (sym first) ∙ so))
 
 -- the rows of a forest of planned nodes give those of the forest of schema nodes
-module _ (plan : spec.Plan) where
+module _ (language : Language) (plan : spec.Plan) where
   rows_made : (p : Option ℕ) (k : ℕ) (f : Forest code.Planned)
-      → map (place_made (schema_node plan)) (seen planned_view k (preorder.places p k f)) ≡ places p (relabelled (schema_node plan) (numbered_by planned_view k f))
+      → map (place_made (schema_node_in language plan)) (seen planned_view k (preorder.places p k f)) ≡ places p (relabelled (schema_node_in language plan) (numbered_by planned_view k f))
   rows_made p k end = refl
   rows_made p k (node l below after) =
-      let make = schema_node plan in
+      let make = schema_node_in language plan in
       let see = planned_view in
       let inner = preorder.places (Some k) (k + 1) below in
       let behind = preorder.places p (k + suc (size below)) after in
@@ -168,22 +178,22 @@ row_stands plan rows i r are within is =
     ∙ (ap (option_map (λ x. planned_view (0 + i) x.label)) there ∙ ap (λ n. Some (planned_view n r.label)) from_start))
 
 -- what is laid in the end
-all_laid : (plan : Plan) (shown : List (plan_slots.Slot code.Planned)) (i : ℕ) (made : List Slot) → shown ≡ slots_in plan.table → length shown ≤ i
-    → laid 0 made ++ ahead (schema_node (view plan)) i (drop i (slots_in plan.table)) ≡ ahead (schema_node (view plan)) 0 (slots_in plan.table)
-    → laid 0 made ≡ ahead (schema_node (view plan)) 0 (slots_in plan.table)
-all_laid plan shown i made are past so =
+all_laid : (language : Language) (plan : Plan) (shown : List (plan_slots.Slot code.Planned)) (i : ℕ) (made : List Slot) → shown ≡ slots_in plan.table → length shown ≤ i
+    → laid 0 made ++ ahead (schema_node_in language (view plan)) i (drop i (slots_in plan.table)) ≡ ahead (schema_node_in language (view plan)) 0 (slots_in plan.table)
+    → laid 0 made ≡ ahead (schema_node_in language (view plan)) 0 (slots_in plan.table)
+all_laid language plan shown i made are past so =
     let rows = slots_in plan.table in
     let ended : length rows ≤ i = subst (λ xs. length xs ≤ i) are past in
-    sym (append-nil (laid 0 made)) ∙ (ap (λ ps. laid 0 made ++ ps) (sym (at_drop_all (ahead (schema_node (view plan)) i) rows i ended)) ∙ so)
+    sym (append-nil (laid 0 made)) ∙ (ap (λ ps. laid 0 made ++ ps) (sym (at_drop_all (ahead (schema_node_in language (view plan)) i) rows i ended)) ∙ so)
 
-pub all_made : (plan : Plan) (shown : List (plan_slots.Slot code.Planned)) (i : ℕ) (made : List Slot) → shown ≡ slots_in plan.table → length shown ≤ i
-    → laid 0 made ++ ahead (schema_node (view plan)) i (drop i (slots_in plan.table)) ≡ ahead (schema_node (view plan)) 0 (slots_in plan.table)
-    → laid 0 made ≡ places None (schema_nodes (view plan))
-all_made plan shown i made are past so =
-    let make = schema_node (view plan) in
-    let whole : ahead make 0 (slots_in plan.table) ≡ places None (schema_nodes (view plan)) =
-    ap (λ ps. map (place_made make) (seen planned_view 0 ps)) plan.laid_out ∙ rows_made (view plan) None 0 (forest_in plan.table) in
-    all_laid plan shown i made are past so ∙ whole
+pub all_made : (language : Language) (plan : Plan) (shown : List (plan_slots.Slot code.Planned)) (i : ℕ) (made : List Slot) → shown ≡ slots_in plan.table → length shown ≤ i
+    → laid 0 made ++ ahead (schema_node_in language (view plan)) i (drop i (slots_in plan.table)) ≡ ahead (schema_node_in language (view plan)) 0 (slots_in plan.table)
+    → laid 0 made ≡ places None (schema_nodes_in language (view plan))
+all_made language plan shown i made are past so =
+    let make = schema_node_in language (view plan) in
+    let whole : ahead make 0 (slots_in plan.table) ≡ places None (schema_nodes_in language (view plan)) =
+    ap (λ ps. map (place_made make) (seen planned_view 0 ps)) plan.laid_out ∙ rows_made language (view plan) None 0 (forest_in plan.table) in
+    all_laid language plan shown i made are past so ∙ whole
 
 -- ---- names
 
@@ -194,14 +204,14 @@ names_laid : (k : ℕ) (rows : List Slot) → map place_name (laid k rows) ≡ n
 names_laid k [] = refl
 names_laid k (r ∷ rows) = ap (λ names. string_bytes r.node.name ∷ names) (names_laid (k + 1) rows)
 
-names_ahead : (plan : spec.Plan) (k : ℕ) (rows : List (plan_slots.Slot code.Planned)) → map place_name (ahead (schema_node plan) k rows) ≡ map name_of (labels_by planned_view k rows)
-names_ahead plan k [] = refl
-names_ahead plan k (r ∷ rows) = ap (λ names. name_of (planned_view k r.label) ∷ names) (names_ahead plan (k + 1) rows)
+names_ahead : (language : Language) (plan : spec.Plan) (k : ℕ) (rows : List (plan_slots.Slot code.Planned)) → map place_name (ahead (schema_node_in language plan) k rows) ≡ map name_of (labels_by planned_view k rows)
+names_ahead language plan k [] = refl
+names_ahead language plan k (r ∷ rows) = ap (λ names. name_of (planned_view k r.label) ∷ names) (names_ahead language plan (k + 1) rows)
 
-pub all_named : (plan : Plan) (shown : List (plan_slots.Slot code.Planned)) (i : ℕ) (made : List Slot) → shown ≡ slots_in plan.table → length shown ≤ i
-    → laid 0 made ++ ahead (schema_node (view plan)) i (drop i (slots_in plan.table)) ≡ ahead (schema_node (view plan)) 0 (slots_in plan.table)
+pub all_named : (language : Language) (plan : Plan) (shown : List (plan_slots.Slot code.Planned)) (i : ℕ) (made : List Slot) → shown ≡ slots_in plan.table → length shown ≤ i
+    → laid 0 made ++ ahead (schema_node_in language (view plan)) i (drop i (slots_in plan.table)) ≡ ahead (schema_node_in language (view plan)) 0 (slots_in plan.table)
     → names_in made ≡ map name_of (spec.nodes_of (view plan))
-all_named plan shown i made are past so =
+all_named language plan shown i made are past so =
     sym (names_laid 0 made)
-    ∙ (ap (map place_name) (all_laid plan shown i made are past so)
-    ∙ (names_ahead (view plan) 0 (slots_in plan.table) ∙ ap (map name_of) (sym (nodes_are plan))))
+    ∙ (ap (map place_name) (all_laid language plan shown i made are past so)
+    ∙ (names_ahead language (view plan) 0 (slots_in plan.table) ∙ ap (map name_of) (sym (nodes_are plan))))

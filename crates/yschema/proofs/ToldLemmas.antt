@@ -1,5 +1,5 @@
 -- What is told of several phases.
-use Rattle.std.proofs.Common.{◌≡◌, ℕ, zero, suc, ◌+◌, ◌-◌, ◌<◌, Bool, true, List, [], ◌∷◌, ◌++◌, length, get_or, Option, Some, None, Result, Ok, Err, IfOk, sym, ap, ap₂, ◌∙◌, arith}
+use Rattle.std.proofs.Common.{◌≡◌, ℕ, zero, suc, ◌+◌, ◌-◌, ◌<◌, Bool, true, List, [], ◌∷◌, ◌++◌, length, get_or, Option, Some, None, Result, Ok, Err, IfOk, refl, sym, ap, ap₂, subst, ◌∙◌, arith}
 use Rattle.std.specs.Prelude.{nat_lt}
 use Rattle.std.specs.Option.{option_map_or}
 use Rattle.ytext.specs.View.{view, modules_view}
@@ -8,13 +8,25 @@ use Rattle.yspec.specs.Forest.{Forest}
 use Rattle.yspec.specs.Results.{Fails}
 use Rattle.yspec.specs.text.Statement.{Statement}
 use Rattle.yspec.specs.schema.Breaks.{Break, broken, when, least_from, first_broken, last_module, limit_breaks, node_limit}
-use Rattle.yspec.specs.linking.Source.{Source, sources_of}
+use Rattle.yspec.specs.linking.Source.{Source}
+use Rattle.yspec.specs.linking.Imports.{import_breaks}
+use Rattle.yspec.specs.linking.Scopes.{lost_breaks}
+use Rattle.yspec.specs.linking.Circles.{import_circles, definition_circles}
+use Rattle.yspec.specs.linking.DerivedTypes.{type_breaks}
 use Rattle.yspec.specs.linking.NodeBreaks.{name_breaks}
 use Rattle.yspec.specs.linking.NodeCounts.{node_count}
-use Rattle.yspec.specs.linking.Planned.{Plan}
-use Rattle.yspec.specs.linking.Compiling.{linking_phases, linked, phases, phases_of_plan, compiled, plan_of, schema_of, schema_of_plan}
+use Rattle.yspec.specs.linking.Planned.{Plan, at_top, planned}
+use Rattle.yspec.proofs.LinkingProofs.BreakLemmas.{none_second, none_told}
+use Rattle.yspec_wide.specs.Compiling.{linked_in, compiled_in, linking_phases_in, meanings_phase_in, names_phase_in, phases_in, phases_of_plan_in, plan_in, schema_in, schema_of_plan_in, whole_plan}
+use Rattle.yspec_wide.specs.Features.{condition_breaks}
+use Rattle.yspec_wide.specs.Expansion.{augmented_in}
+use Rattle.yspec_wide.specs.Language.{Language, core}
+use Rattle.yspec_wide.specs.Standing.{standing}
+use Rattle.yspec_wide.proofs.CoreExpansionLemmas.{standing_alike}
+use Rattle.yspec_wide.specs.Sources.{sources_in}
+use Rattle.yspec_wide.specs.StatementBreaks.{statement_phase_in}
+use Rattle.yspec_wide.specs.VersionBreaks.{version_import_breaks, version_type_breaks}
 use Rattle.yschema.specs.Phases.{expansion_part, target_breaks, plan_part, rule_part}
-use Rattle.ylink.proofs.LinkingLemmas.{refused}
 use Rattle.ylink.proofs.PhaseLemmas.{told_here, told_later, told_last, told_first, told_then}
 
 -- ---- limits
@@ -39,65 +51,120 @@ passed ms m is_passed b some is true_is b_is =
     ap Some b_is ∙ sym (ap₂ (λ c x. least_from None (when c (option_map_or (λ last. broken 18 last.0 last.1) x []))) true_is
     (found ∙ ap (λ n. Some (n, (view m.top).0.line)) place))
 
-pub refused_as : (f : Forest Statement) (b : Break) → Some b ≡ first_broken (phases f) → compiled f ≡ Err b
-unfolding compiled
-refused_as f b e = ap (λ t. option_map_or Err t (Ok (schema_of f))) (sym e)
+module _ (language : Language) where
+  pub refused_as : (f : Forest Statement) (b : Break) → Some b ≡ first_broken (phases_in language f) → compiled_in language f ≡ Err b
+  unfolding compiled_in
+  refused_as f b e = ap (λ t. option_map_or Err t (Ok (schema_in language f))) (sym e)
 
-pub passes : (f : Forest Statement) → None ≡ first_broken (phases f) → compiled f ≡ Ok (schema_of f)
-unfolding compiled
-passes f e = ap (λ t. option_map_or Err t (Ok (schema_of f))) (sym e)
+  pub passes : (f : Forest Statement) → None ≡ first_broken (phases_in language f) → compiled_in language f ≡ Ok (schema_in language f)
+  unfolding compiled_in
+  passes f e = ap (λ t. option_map_or Err t (Ok (schema_in language f))) (sym e)
 
--- ---- the phases in three parts
+  -- ---- linking
 
-pub not_linked : (f : Forest Statement) (b : Break) → linked f ≡ Err b → compiled f ≡ Err b
-not_linked f b e = refused_as f b (told_first (linking_phases f) (phases_of_plan f (plan_of (sources_of f))) b (refused f b e))
+  refused : (f : Forest Statement) (b : Break) → linked_in language f ≡ Err b → Some b ≡ first_broken (linking_phases_in language f)
+  unfolding linked_in
+  refused f b e = by (first_broken (linking_phases_in language f)) e
+    where
+      by : (t : Option Break) → option_map_or Err t (Ok (sources_in language f)) ≡ Err b → Some b ≡ t
+      by (Some x) e = let same : x ≡ b = cc in ap Some (sym same)
+      by None e = absurd cc
 
-pub refused_linking : (f : Forest Statement) (t : Option Break) → Fails t (linked f) → Fails t (compiled f)
-refused_linking f None h = tt
-refused_linking f (Some b) h = not_linked f b h
+  pub linking_passed : (f : Forest Statement) (s : Forest Source) → linked_in language f ≡ Ok s
+      → (None ≡ first_broken (linking_phases_in language f)) × (s ≡ sources_in language f)
+  unfolding linked_in
+  linking_passed f s e = by (first_broken (linking_phases_in language f)) e
+    where
+      by : (t : Option Break) → option_map_or Err t (Ok (sources_in language f)) ≡ Ok s → (None ≡ t) × (s ≡ sources_in language f)
+      by (Some x) e = absurd cc
+      by None e = let same : sources_in language f ≡ s = cc in (refl, sym same)
 
-module _ (f : Forest Statement) where
-  module _ (s : Forest Source) (s_is : s ≡ sources_of f) (first : None ≡ first_broken (linking_phases f)) where
-    expansion : linking_phases f ++ (expansion_part f s ++ (name_breaks (plan_of s) ∷ rule_part f (plan_of s))) ≡ phases f
-    expansion = ap (λ m. linking_phases f ++ (expansion_part f m ++ (name_breaks (plan_of m) ∷ rule_part f (plan_of m)))) s_is
+  -- no condition of a set that links is broken
+  pub conditions_hold : (f : Forest Statement) (s : Forest Source) → s ≡ sources_in language f → None ≡ first_broken (linking_phases_in language f)
+      → condition_breaks language s ≡ []
+  conditions_hold f s s_is first =
+      let sources = sources_in language f in
+      let types = type_breaks sources ++ version_type_breaks language sources in
+      let of_types = types ∷ [] in
+      let of_meanings = meanings_phase_in language sources ∷ of_types in
+      let of_names = names_phase_in language f sources ∷ of_meanings in
+      let one = none_told (statement_phase_in language f) (first_broken of_names) (sym first) in
+      let two = none_told (names_phase_in language f sources) (first_broken of_meanings) one.1 in
+      let three = none_told (meanings_phase_in language sources) (first_broken of_types) two.1 in
+      let conditions = condition_breaks language sources in
+      let definitions = definition_circles sources ++ conditions in
+      let circles = import_circles sources ++ definitions in
+      let lost = lost_breaks sources ++ circles in
+      subst (λ x. condition_breaks language x ≡ []) (sym s_is)
+      (none_second (definition_circles sources) conditions
+      (none_second (import_circles sources) definitions
+      (none_second (lost_breaks sources) circles
+      (none_second (version_import_breaks language sources) lost
+      (none_second (import_breaks sources) (version_import_breaks language sources ++ lost) three.0)))))
 
-    pub in_expansion : (b : Break) → Some b ≡ first_broken (expansion_part f s) → compiled f ≡ Err b
-    in_expansion b e = refused_as f b (told_first (expansion_part f s) (name_breaks (plan_of s) ∷ rule_part f (plan_of s)) b e
-        ∙ (sym (told_then (linking_phases f) (expansion_part f s ++ (name_breaks (plan_of s) ∷ rule_part f (plan_of s))) first) ∙ ap first_broken expansion))
+  -- ---- the phases in three parts
 
-  -- too many nodes are told, and else what finds no target
-  module _ (s : Forest Source) where
-    pub many_told : (b : Break) → Some b ≡ least_from None (limit_breaks (nat_lt node_limit (node_count s)) f) → Some b ≡ first_broken (expansion_part f s)
-    many_told b e = told_here (limit_breaks (nat_lt node_limit (node_count s)) f) (first_broken (target_breaks s ∷ [])) b e
+  pub not_linked : (f : Forest Statement) (b : Break) → linked_in language f ≡ Err b → compiled_in language f ≡ Err b
+  not_linked f b e = refused_as f b (told_first (linking_phases_in language f)
+      (phases_of_plan_in language f (whole_plan language (sources_in language f)) (plan_in language (sources_in language f))) b (refused f b e))
 
-    pub targets_told : (t : Option Break) → None ≡ least_from None (limit_breaks (nat_lt node_limit (node_count s)) f) → t ≡ least_from None (target_breaks s)
-        → t ≡ first_broken (expansion_part f s)
-    targets_told t few e = e ∙ (sym (told_last (target_breaks s))
-        ∙ sym (told_later (limit_breaks (nat_lt node_limit (node_count s)) f) (first_broken (target_breaks s ∷ [])) few))
+  pub refused_linking : (f : Forest Statement) (t : Option Break) → Fails t (linked_in language f) → Fails t (compiled_in language f)
+  refused_linking f None h = tt
+  refused_linking f (Some b) h = not_linked f b h
 
-  -- and then names
-  pub names_told : (p : Plan) (t : Option Break) → None ≡ first_broken (expansion_part f p.modules) → t ≡ least_from None (name_breaks p)
-      → t ≡ first_broken (plan_part f p)
-  names_told p t none e = e ∙ (sym (told_last (name_breaks p)) ∙ sym (told_then (expansion_part f p.modules) (name_breaks p ∷ []) none))
+  module _ (f : Forest Statement) where
+    module _ (s : Forest Source) (s_is : s ≡ sources_in language f) (first : None ≡ first_broken (linking_phases_in language f)) where
+      behind : Forest Source → List (List Break)
+      behind m = name_breaks (whole_plan language m) ∷ rule_part language f (whole_plan language m) (plan_in language m)
 
-  module _ (p : Plan) (p_is : p ≡ plan_of (sources_of f)) (first : None ≡ first_broken (linking_phases f)) where
-    parts : linking_phases f ++ (plan_part f p ++ rule_part f p) ≡ phases f
-    parts = ap (λ q. linking_phases f ++ (plan_part f q ++ rule_part f q)) p_is
+      expansion : linking_phases_in language f ++ (expansion_part language f s ++ behind s) ≡ phases_in language f
+      unfolding behind
+      expansion = ap (λ m. linking_phases_in language f ++ (expansion_part language f m ++ behind m)) s_is
 
-    pub in_plan : (b : Break) → Some b ≡ first_broken (plan_part f p) → compiled f ≡ Err b
-    in_plan b e = refused_as f b (told_first (plan_part f p) (rule_part f p) b e
-        ∙ (sym (told_then (linking_phases f) (plan_part f p ++ rule_part f p) first) ∙ ap first_broken parts))
+      pub in_expansion : (b : Break) → Some b ≡ first_broken (expansion_part language f s) → compiled_in language f ≡ Err b
+      in_expansion b e = refused_as f b (told_first (expansion_part language f s) (behind s) b e
+          ∙ (sym (told_then (linking_phases_in language f) (expansion_part language f s ++ behind s) first) ∙ ap first_broken expansion))
 
-    module _ (third : None ≡ first_broken (plan_part f p)) where
-      in_rules : (t : Option Break) → t ≡ first_broken (rule_part f p) → t ≡ first_broken (phases f)
-      in_rules t e = e ∙ (sym (told_then (plan_part f p) (rule_part f p) third)
-          ∙ (sym (told_then (linking_phases f) (plan_part f p ++ rule_part f p) first) ∙ ap first_broken parts))
+    -- too many nodes are told, and else what finds no target
+    module _ (s : Forest Source) where
+      pub many_told : (b : Break) → Some b ≡ least_from None (limit_breaks (nat_lt node_limit (node_count s)) f) → Some b ≡ first_broken (expansion_part language f s)
+      many_told b e = told_here (limit_breaks (nat_lt node_limit (node_count s)) f) (first_broken (target_breaks language s ∷ [])) b e
 
-      pub refused_in_rules : (b : Break) → Some b ≡ first_broken (rule_part f p) → compiled f ≡ Err b
-      refused_in_rules b e = refused_as f b (in_rules (Some b) e)
+      pub targets_told : (t : Option Break) → None ≡ least_from None (limit_breaks (nat_lt node_limit (node_count s)) f) → t ≡ least_from None (target_breaks language s)
+          → t ≡ first_broken (expansion_part language f s)
+      targets_told t few e = e ∙ (sym (told_last (target_breaks language s))
+          ∙ sym (told_later (limit_breaks (nat_lt node_limit (node_count s)) f) (first_broken (target_breaks language s ∷ [])) few))
 
-      pub is_made : None ≡ first_broken (rule_part f p) → compiled f ≡ Ok (schema_of_plan p)
-      is_made e = passes f (in_rules None e) ∙ ap (λ q. Ok (schema_of_plan q)) (sym p_is)
+    -- and then names
+    pub names_told : (whole : Plan) (t : Option Break) → None ≡ first_broken (expansion_part language f whole.modules) → t ≡ least_from None (name_breaks whole)
+        → t ≡ first_broken (plan_part language f whole)
+    names_told whole t none e = e ∙ (sym (told_last (name_breaks whole)) ∙ sym (told_then (expansion_part language f whole.modules) (name_breaks whole ∷ []) none))
+
+    module _ (whole p : Plan) (whole_is : whole ≡ whole_plan language (sources_in language f)) (p_is : p ≡ plan_in language (sources_in language f))
+        (first : None ≡ first_broken (linking_phases_in language f)) where
+      parts : linking_phases_in language f ++ (plan_part language f whole ++ rule_part language f whole p) ≡ phases_in language f
+      parts = ap₂ (λ w q. linking_phases_in language f ++ (plan_part language f w ++ rule_part language f w q)) whole_is p_is
+
+      pub in_plan : (b : Break) → Some b ≡ first_broken (plan_part language f whole) → compiled_in language f ≡ Err b
+      in_plan b e = refused_as f b (told_first (plan_part language f whole) (rule_part language f whole p) b e
+          ∙ (sym (told_then (linking_phases_in language f) (plan_part language f whole ++ rule_part language f whole p) first) ∙ ap first_broken parts))
+
+      module _ (third : None ≡ first_broken (plan_part language f whole)) where
+        in_rules : (t : Option Break) → t ≡ first_broken (rule_part language f whole p) → t ≡ first_broken (phases_in language f)
+        in_rules t e = e ∙ (sym (told_then (plan_part language f whole) (rule_part language f whole p) third)
+            ∙ (sym (told_then (linking_phases_in language f) (plan_part language f whole ++ rule_part language f whole p) first) ∙ ap first_broken parts))
+
+        pub refused_in_rules : (b : Break) → Some b ≡ first_broken (rule_part language f whole p) → compiled_in language f ≡ Err b
+        refused_in_rules b e = refused_as f b (in_rules (Some b) e)
+
+        pub is_made : None ≡ first_broken (rule_part language f whole p) → compiled_in language f ≡ Ok (schema_of_plan_in language p)
+        is_made e = passes f (in_rules None e) ∙ ap (λ q. Ok (schema_of_plan_in language q)) (sym p_is)
+
+-- under the core all nodes stand
+pub all_stand : (language : Language) → language ≡ core → (s : Forest Source) → whole_plan language s ≡ plan_in language s
+all_stand language is s =
+    ap (λ f. record { modules = s; nodes = planned 0 at_top f })
+    (sym (ap (λ k. standing k s (augmented_in language s).0) is ∙ standing_alike s (augmented_in language s).0))
 
 -- what holds of every value holds of one that is answered
 pub if_ok_any : {A E : Type 0} (P : A → Type 0) → ((x : A) → P x) → (r : Result A E) → IfOk r P

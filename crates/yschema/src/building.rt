@@ -1,32 +1,40 @@
 //! From modules to their schema.
 
-ghost use Rattle.std.specs.Prelude.{◌≡◌, ◌≤◌, [], Ok, Some, None, IfOk, nat_lt, map};
+ghost use Rattle.std.specs.Prelude.{◌≡◌, ◌≤◌, [], true, Ok, Some, None, IfOk, nat_lt, map};
 ghost use Rattle.yspec.specs.Forest.{levels};
 ghost use Rattle.yspec.specs.Results.{Gives};
 ghost use Rattle.yspec.specs.document.Fitting.{LeafsAreBare};
 ghost use Rattle.yspec.specs.document.Writing.{NamesDiffer};
 ghost use Rattle.yspec.specs.schema.Breaks.{first_broken, least_from, level_limit, limit_breaks, node_limit};
-ghost use Rattle.yspec.specs.linking.Augments.{augmented, augments_of};
-ghost use Rattle.yschema_expand.specs.AugmentView.{augments_seen};
-ghost use Rattle.yspec.specs.linking.NodeCounts.{node_count};
+ghost use Rattle.yspec.specs.linking.Augments.{augments_of};
 ghost use Rattle.yspec.specs.linking.Compiling as spec;
-ghost use Rattle.yspec.specs.linking.Compiling.{compiled, linking_phases, IsCompiled};
-ghost use Rattle.yschema.specs.Added.{HoldsThose};
-ghost use Rattle.yschema.specs.Phases.{expansion_part, plan_part, rule_part, target_breaks};
-ghost use Rattle.yspec.specs.linking.Source.{sources_of};
+ghost use Rattle.yspec.specs.linking.Compiling.{compiled};
+ghost use Rattle.yspec.specs.linking.NodeCounts.{node_count};
+ghost use Rattle.yspec.specs.linking.Planned as planned;
+ghost use Rattle.yspec.specs.linking.Planned.{nodes_of};
+ghost use Rattle.yspec_fit.specs.Fit.{IsFit};
+ghost use Rattle.yspec_wide.specs.Compiling.{compiled_in, linked_in, linking_phases_in, plan_in, schema_of_plan_in, whole_plan};
+ghost use Rattle.yspec_wide.specs.Expansion.{augmented_in};
 ghost use Rattle.yspec_wide.specs.Language.{core};
+ghost use Rattle.yspec_wide.specs.Sources.{sources_in};
+ghost use Rattle.yspec_wide.specs.Standing.{standing};
+ghost use Rattle.yschema.specs.Added.{HoldsThose};
+ghost use Rattle.yschema.specs.Phases.{all_addition_breaks, expansion_part, plan_part, rule_part, Judges};
 ghost use Rattle.ytext.specs.View.{modules_view};
 ghost use Rattle.ybase_preorder.specs.Layout.{places};
-ghost use Rattle.yschema_expand.specs.Knowing.{AreCounts, Knows};
-ghost use Rattle.yschema_expand.specs.NamedView.{language_of, modules_of};
+ghost use Rattle.ybase_preorder.specs.View.{row_by, label_by};
+ghost use Rattle.ylink_grammar.specs.LanguageView.{language_view};
+ghost use Rattle.ylink_grammar.specs.SourceView.{source_view};
+ghost use Rattle.ylink_standing.specs.StandingView.{IsOf as AreOn};
+ghost use Rattle.ylink.specs.LinkedView as statements;
+ghost use Rattle.ylink.specs.Told.{seen, told_by};
+ghost use Rattle.yschema_given.specs.Keeping.{are_kept_right};
+ghost use Rattle.yschema_expand.specs.AugmentView.{augments_seen};
+ghost use Rattle.yschema_expand.specs.Knowing.{AreCounts};
+ghost use Rattle.yschema_expand.specs.NamedView.{modules_of};
 ghost use Rattle.yschema_expand.specs.TableView.{parts_in};
 ghost use Rattle.yschema_plan.specs.PlanView as plans;
-ghost use Rattle.ylink.specs.LinkedView as statements;
 ghost use Rattle.yschema_resolve.specs.ResolvedView.{IsOf};
-ghost use Rattle.ylink_grammar.specs.SourceView.{source_view};
-ghost use Rattle.ybase_preorder.specs.View.{row_by, label_by};
-ghost use Rattle.yspec.specs.linking.Planned.{nodes_of};
-ghost use Rattle.ylink.specs.Told.{seen, told_by};
 ghost use Rattle.yschema_model.specs.View.{view, module_view};
 
 use crate::augmenting::{Added, augments_in};
@@ -35,19 +43,21 @@ use crate::making::slots_of;
 use std::alloc::{AllocError, Global};
 use ybase_preorder::Node;
 use ybase_words::Keyword;
-use ylink::{CompileFault, Linked, link};
+use ylink::{CompileFault, Linked, link_in};
 use ylink_grammar::{
     BrokenRule, CompileCode, Language, Source, argument_of, argument_with, broken,
 };
+use ylink_standing::FeaturesOn;
 use yschema_augment::augmented;
-use yschema_expand::{Groupings, Made, Named, NodeTable, augments_of};
+use yschema_cut::{cut, standing_in};
+use yschema_expand::{Groupings, Named, NodeTable, augments_of};
 use yschema_model::{Schema, SchemaModule};
 use yschema_plan::{Plan, broken_name_rule};
-use yschema_resolve::{Resolved, broken_node_rule};
+use yschema_resolve::{Resolved, broken_addition_rule, broken_node_rule};
 use ytext::Module;
 
-/// The schema of a set of modules, or the least broken rule, by module, line and number, of the first phase that has one.
-/// Phases: the table of statements; prefixes, and names of modules and definitions; imports, and what names mean; types; the
+/// The schema of a set of modules of the core, or the least broken rule, by module, line and number, of the first phase that has
+/// one. Phases: the table of statements; prefixes, and names of modules and definitions; imports, and what names mean; types; the
 /// number of nodes; refines and augments; names of siblings; what nodes state and refer to; levels. Of no modules it is a schema without nodes.
 pub fn compile(alloc: Global, modules: &[Module]) -> Result<Schema, CompileFault>
     ensures exact { Gives view told_by result (compiled (modules_view modules.now)) }
@@ -55,8 +65,25 @@ pub fn compile(alloc: Global, modules: &[Module]) -> Result<Schema, CompileFault
     ensures bare { IfOk result (λ schema. LeafsAreBare (view schema).nodes) }
     ensures within { IfOk result (λ schema. levels (view schema).nodes ≤ level_limit) }
 {
-    match link(alloc, modules) {
-        Ok(linked) => compile_linked(alloc, modules, &linked),
+    compile_in(alloc, modules, &Language::Core)
+}
+
+/// The same of modules that are read in a language. Behind the names of siblings what features take away is cut (RFC 7950,
+/// 7.20.2), and of what is left is told what nodes state and refer to; what an `augment` adds is judged whether its target is left
+/// or not.
+pub fn compile_in(
+    alloc: Global,
+    modules: &[Module],
+    language: &Language,
+) -> Result<Schema, CompileFault>
+    ensures exact { Gives view told_by result
+        (compiled_in (language_view language.now) (modules_view modules.now)) }
+    ensures names { IfOk result (λ schema. NamesDiffer (view schema)) }
+    ensures bare { IfOk result (λ schema. LeafsAreBare (view schema).nodes) }
+    ensures within { IfOk result (λ schema. levels (view schema).nodes ≤ level_limit) }
+{
+    match link_in(alloc, modules, language) {
+        Ok(linked) => compile_linked(alloc, modules, language, &linked),
         Err(fault) => Err(fault),
     }
 }
@@ -65,14 +92,16 @@ pub fn compile(alloc: Global, modules: &[Module]) -> Result<Schema, CompileFault
 fn compile_linked<'t>(
     alloc: Global,
     modules: &[Module],
+    language: &Language,
     linked: &Linked<'t>,
 ) -> Result<Schema, CompileFault>
-    requires links { spec.linked (modules_view modules.now) ≡ Ok (statements.view linked.now) }
-    ensures { Gives view told_by result (compiled (modules_view modules.now)) }
+    requires links { linked_in (language_view language.now) (modules_view modules.now)
+        ≡ Ok (statements.view linked.now) }
+    ensures { Gives view told_by result
+        (compiled_in (language_view language.now) (modules_view modules.now)) }
 {
-    let language = Language::Core;
     let named = Named::new(
-        &language,
+        language,
         linked.sources(),
         linked.prefixes(),
         linked.meanings(),
@@ -82,70 +111,149 @@ fn compile_linked<'t>(
     if let Some(found) = broken_count_rule(modules, &named, &groupings, &augments) {
         return Err(CompileFault::from(found));
     }
-    let made = all_nodes(alloc, &named, &groupings, &augments)?;
+    let made = augmented(alloc, &named, &groupings, &augments)?;
     if let Some(found) = made.told {
         return Err(CompileFault::from(found));
     }
-    compile_nodes(alloc, modules, linked, &made.table)
+    match language {
+        Language::Core => compile_whole(alloc, modules, language, linked, &made.table),
+        Language::Rfc(_) => compile_standing(alloc, modules, language, linked, made.table),
+    }
 }
 
-/// The nodes that the modules of the core define, with all that augments add, and the least of the refines that aren't fit and
-/// the augments that are left (C14).
-fn all_nodes<'a, 't>(
-    alloc: Global,
-    named: &'a Named<'a, 't>,
-    groupings: &'a Groupings,
-    augments: &[Node<'a, Source<'t>>],
-) -> Result<Made<'a, 't>, AllocError>
-    requires core { language_of named.now ≡ core }
-    requires known { Knows groupings.now (language_of named.now) (modules_of named.now) }
-    requires augments { augments_seen augments.now ≡ augments_of (modules_of named.now) }
-    ensures nodes { IfOk result (λ made. parts_in made.table
-        ≡ places None 0 (augmented (modules_of named.entry.now)).0) }
-    ensures told { IfOk result (λ made. seen made.told ≡ least_from None (target_breaks (modules_of named.entry.now))) }
-{
-    augmented(alloc, named, groupings, augments)
-}
-
-/// Compiles modules whose nodes are made, and are no more than they may be.
-fn compile_nodes<'t>(
+/// Compiles modules of the core, all of whose nodes stand.
+fn compile_whole<'t>(
     alloc: Global,
     modules: &[Module],
+    language: &Language,
     linked: &Linked<'t>,
     nodes: &NodeTable<'_, 't>,
 ) -> Result<Schema, CompileFault>
-    requires links { spec.linked (modules_view modules.now) ≡ Ok (statements.view linked.now) }
-    requires made { parts_in nodes.now ≡ places None 0 (augmented (statements.view linked.now)).0 }
-    requires none { None ≡ first_broken
-        (expansion_part (modules_view modules.now) (statements.view linked.now)) }
-    ensures { Gives view told_by result (compiled (modules_view modules.now)) }
+    requires core { language_view language.now ≡ core }
+    requires links { linked_in (language_view language.now) (modules_view modules.now)
+        ≡ Ok (statements.view linked.now) }
+    requires made { parts_in nodes.now
+        ≡ places None 0 (augmented_in (language_view language.now) (statements.view linked.now)).0 }
+    requires none { None ≡ first_broken (expansion_part (language_view language.now)
+        (modules_view modules.now) (statements.view linked.now)) }
+    ensures { Gives view told_by result
+        (compiled_in (language_view language.now) (modules_view modules.now)) }
 {
     let plan = Plan::of(alloc, linked.sources(), linked.prefixes(), nodes)?;
     if let Some(found) = broken_name_rule(&plan) {
         return Err(CompileFault::from(found));
     }
-    let resolved = Resolved::of(alloc, &plan, linked)?;
-    compile_rules(alloc, modules, &plan, &resolved)
+    let added = broken_addition_rule(alloc, &plan, &[])?;
+    let features = FeaturesOn::of_set(alloc, language, linked.sources(), linked.prefixes())?;
+    let resolved = Resolved::of(alloc, language, &features, &plan, linked)?;
+    compile_rules(alloc, modules, language, added, &plan, &resolved)
 }
 
-/// Compiles modules that have no more nodes than they may, and no names twice.
+/// Compiles modules of which some nodes may not stand: names and what augments add are judged before these are cut.
+fn compile_standing<'t>(
+    alloc: Global,
+    modules: &[Module],
+    language: &Language,
+    linked: &Linked<'t>,
+    nodes: NodeTable<'_, 't>,
+) -> Result<Schema, CompileFault>
+    requires links { linked_in (language_view language.now) (modules_view modules.now)
+        ≡ Ok (statements.view linked.now) }
+    requires made { parts_in nodes
+        ≡ places None 0 (augmented_in (language_view language.now) (statements.view linked.now)).0 }
+    requires none { None ≡ first_broken (expansion_part (language_view language.now)
+        (modules_view modules.now) (statements.view linked.now)) }
+    ensures { Gives view told_by result
+        (compiled_in (language_view language.now) (modules_view modules.now)) }
+{
+    let features = FeaturesOn::of_set(alloc, language, linked.sources(), linked.prefixes())?;
+    let judged = judged_whole(alloc, language, linked, &features, &nodes)?;
+    match judged {
+        Ok(added) => {
+            let left = cut(alloc, language, linked.sources(), &features, nodes)?;
+            compile_planned(alloc, modules, language, linked, &features, added, &left)
+        }
+        Err(found) => Err(CompileFault::from(found)),
+    }
+}
+
+/// What is told of the names of all nodes, and else of what augments add to nodes of other modules, in this phase or a later
+/// one.
+fn judged_whole<'t>(
+    alloc: Global,
+    language: &Language,
+    linked: &Linked<'t>,
+    features: &FeaturesOn,
+    nodes: &NodeTable<'_, 't>,
+) -> Result<Result<Option<BrokenRule>, BrokenRule>, AllocError>
+    requires on { AreOn features.now (language_view language.now) (statements.view linked.now) }
+    requires kept { are_kept_right (language_view language.now) (statements.view linked.now) ≡ true }
+    requires made { parts_in nodes.now
+        ≡ places None 0 (augmented_in (language_view language.now) (statements.view linked.now)).0 }
+    ensures { IfOk result (λ judged. Judges judged (language_view language.now)
+        (whole_plan (language_view language.now) (statements.view linked.now))) }
+{
+    let whole = Plan::of(alloc, linked.sources(), linked.prefixes(), nodes)?;
+    if let Some(found) = broken_name_rule(&whole) {
+        return Ok(Err(found));
+    }
+    let standing = standing_in(alloc, linked.sources(), features, nodes)?;
+    let added = broken_addition_rule(alloc, &whole, standing.as_slice())?;
+    Ok(Ok(added))
+}
+
+/// Compiles modules whose nodes are those that stand, given what is told of what augments add.
+fn compile_planned<'t>(
+    alloc: Global,
+    modules: &[Module],
+    language: &Language,
+    linked: &Linked<'t>,
+    features: &FeaturesOn,
+    added: Option<BrokenRule>,
+    nodes: &NodeTable<'_, 't>,
+) -> Result<Schema, CompileFault>
+    requires links { linked_in (language_view language.now) (modules_view modules.now)
+        ≡ Ok (statements.view linked.now) }
+    requires on { AreOn features.now (language_view language.now) (statements.view linked.now) }
+    requires told { let l = language_view language.now in seen added ≡ least_from None
+        (all_addition_breaks l (whole_plan l (sources_in l (modules_view modules.now)))) }
+    requires made { let l = language_view language.now in let s = statements.view linked.now in
+        parts_in nodes.now ≡ places None 0 (standing l s (augmented_in l s).0) }
+    requires second { let l = language_view language.now in None ≡ first_broken
+        (plan_part l (modules_view modules.now) (whole_plan l (sources_in l (modules_view modules.now)))) }
+    ensures { Gives view told_by result
+        (compiled_in (language_view language.now) (modules_view modules.now)) }
+{
+    let plan = Plan::of(alloc, linked.sources(), linked.prefixes(), nodes)?;
+    let resolved = Resolved::of(alloc, language, features, &plan, linked)?;
+    compile_rules(alloc, modules, language, added, &plan, &resolved)
+}
+
+/// Compiles modules that have no more nodes than they may, and no names twice, given what is told of what augments add.
 fn compile_rules<'t>(
     alloc: Global,
     modules: &[Module],
+    language: &Language,
+    added: Option<BrokenRule>,
     plan: &Plan<'_, 't>,
     resolved: &Resolved<'_, 't>,
 ) -> Result<Schema, CompileFault>
-    requires of_plan { IsOf resolved.now (plans.view plan.now) }
-    requires made { plans.view plan.now ≡ spec.plan_of (sources_of (modules_view modules.now)) }
-    requires first { None ≡ first_broken (linking_phases (modules_view modules.now)) }
-    requires second { None ≡ first_broken
-        (plan_part (modules_view modules.now) (plans.view plan.now)) }
-    ensures { Gives view told_by result (compiled (modules_view modules.now)) }
+    requires of_plan { IsOf resolved.now (language_view language.now) (plans.view plan.now) }
+    requires told { let l = language_view language.now in seen added ≡ least_from None
+        (all_addition_breaks l (whole_plan l (sources_in l (modules_view modules.now)))) }
+    requires made { let l = language_view language.now in
+        plans.view plan.now ≡ plan_in l (sources_in l (modules_view modules.now)) }
+    requires first { None ≡ first_broken
+        (linking_phases_in (language_view language.now) (modules_view modules.now)) }
+    requires second { let l = language_view language.now in None ≡ first_broken
+        (plan_part l (modules_view modules.now) (whole_plan l (sources_in l (modules_view modules.now)))) }
+    ensures { Gives view told_by result
+        (compiled_in (language_view language.now) (modules_view modules.now)) }
 {
-    if let Some(found) = broken_rule(alloc, modules, plan, resolved)? {
+    if let Some(found) = broken_rule(alloc, modules, language, added, plan, resolved)? {
         return Err(CompileFault::from(found));
     }
-    Ok(build(alloc, plan, resolved)?)
+    Ok(build(alloc, language, plan, resolved)?)
 }
 
 /// A limit that is passed is told at the module given last.
@@ -181,18 +289,22 @@ fn is_too_deep(plan: &Plan<'_, '_>) -> bool
     plan.nodes() > NODE_LIMIT || plan.is_deeper(LEVEL_LIMIT)
 }
 
-/// The rule that is told of what nodes state and refer to, or of levels.
+/// The rule that is told of what nodes state and refer to, given what is told of what augments add; or of levels.
 fn broken_rule<'t>(
     alloc: Global,
     modules: &[Module],
+    language: &Language,
+    added: Option<BrokenRule>,
     plan: &Plan<'_, 't>,
     resolved: &Resolved<'_, 't>,
 ) -> Result<Option<BrokenRule>, AllocError>
-    requires { IsOf resolved.now (plans.view plan.now) }
-    ensures { let p = plans.view plan.now in
-        IfOk result (λ told. seen told ≡ first_broken (rule_part (modules_view modules.now) p)) }
+    requires of_plan { IsOf resolved.now (language_view language.now) (plans.view plan.now) }
+    ensures { (whole : planned.Plan) → let l = language_view language.now in let p = plans.view plan.now in
+        seen added ≡ least_from None (all_addition_breaks l whole)
+        → IfOk result (λ told. seen told ≡ first_broken (rule_part l (modules_view modules.now) whole p)) }
 {
-    if let Some(found) = broken_node_rule(alloc, plan, resolved)? {
+    let told = broken_node_rule(alloc, language, plan, resolved, added)?;
+    if let Some(found) = told {
         return Ok(Some(found));
     }
     Ok(at_last(modules, is_too_deep(plan)))
@@ -232,15 +344,17 @@ fn modules_of(alloc: Global, plan: &Plan<'_, '_>) -> Result<Vec<SchemaModule>, A
 /// The schema whose nodes are planned.
 fn build<'t>(
     alloc: Global,
+    language: &Language,
     plan: &Plan<'_, 't>,
     resolved: &Resolved<'_, 't>,
 ) -> Result<Schema, AllocError>
-    requires of_plan { IsOf resolved.now (plans.view plan.now) }
-    requires legal { IsCompiled (spec.schema_of_plan (plans.view plan.now)) }
-    ensures { IfOk result (λ schema. view schema ≡ spec.schema_of_plan (plans.view plan.now)) }
+    requires of_plan { IsOf resolved.now (language_view language.now) (plans.view plan.now) }
+    requires fit { IsFit (schema_of_plan_in (language_view language.now) (plans.view plan.now)) }
+    ensures { IfOk result (λ schema. view schema
+        ≡ schema_of_plan_in (language_view language.now) (plans.view plan.now)) }
 {
     let modules = modules_of(alloc, plan)?;
-    let rows = slots_of(alloc, plan, resolved)?;
+    let rows = slots_of(alloc, language, plan, resolved)?;
     let names = plan.names(alloc)?;
     Schema::of(alloc, modules, rows, names)
 }

@@ -6,7 +6,7 @@ mod building;
 mod limits;
 mod making;
 
-pub use building::compile;
+pub use building::{compile, compile_in};
 pub use limits::{LEVEL_LIMIT, NODE_LIMIT};
 pub use ylink::{CompileCode, CompileFault};
 pub use yschema_model::{

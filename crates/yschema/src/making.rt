@@ -4,6 +4,8 @@ ghost use Rattle.std.specs.Prelude.{◌≡◌, Some, None, map, option_map, slic
 ghost use Rattle.yspec.specs.types.Types.{string_type};
 ghost use Rattle.yspec.specs.linking.Planned.{nodes_of};
 ghost use Rattle.yspec.specs.linking.SchemaNodes as spec;
+ghost use Rattle.yspec_wide.specs.Types as wide;
+ghost use Rattle.ylink_grammar.specs.LanguageView.{language_view};
 ghost use Rattle.yschema_plan.specs.Finding.{name_of};
 ghost use Rattle.yschema_plan.specs.NodesView as plans;
 ghost use Rattle.yschema_plan.specs.PlannedView.{planned_view};
@@ -15,6 +17,7 @@ ghost use Rattle.yschema.specs.Made.{place_made, planned_place};
 
 use std::alloc::{AllocError, Global};
 use ybase_words::Keyword;
+use ylink_grammar::Language;
 use yschema_model::{Absence, Kind, LeafType, SchemaNode, Slot, TypeName, id_of};
 use yschema_plan::{Plan, PlanNode, Planned};
 use yschema_resolve::{Resolved, default_values, tuples_of};
@@ -23,15 +26,16 @@ use ytype::{Val, YType};
 /// The values of the defaults of a leaf or leaf-list, in order.
 fn values_of<'a, 't>(
     alloc: Global,
+    language: &Language,
     plan: &Plan<'a, 't>,
     resolved: &Resolved<'_, 't>,
     node: PlanNode<'a, 't>,
 ) -> Result<Vec<Val>, AllocError>
-    requires of_plan { IsOf resolved.now (plan_view.view plan.now) }
+    requires of_plan { IsOf resolved.now (language_view language.now) (plan_view.view plan.now) }
     requires stands { slice_get (nodes_of (plan_view.view plan.now)) node.number
         ≡ Some (plans.node_view node) }
     ensures { IfOk result (λ values. values.items
-        ≡ spec.default_values (plan_view.view plan.now) (plans.node_view node.entry)) }
+        ≡ wide.default_values_in (language_view language.now) (plan_view.view plan.now) (plans.node_view node.entry)) }
 {
     match resolved.value_type(node.number) {
         Some(value_type) => default_values(alloc, resolved, value_type, &node.planned),
@@ -49,17 +53,17 @@ fn first_of(values: Vec<Val>) -> Option<Val>
 /// What it means that a leaf isn't stored.
 fn absence_of<'a, 't>(
     alloc: Global,
+    language: &Language,
     plan: &Plan<'a, 't>,
     resolved: &Resolved<'_, 't>,
     node: PlanNode<'a, 't>,
 ) -> Result<Absence, AllocError>
-    requires of_plan { IsOf resolved.now (plan_view.view plan.now) }
+    requires of_plan { IsOf resolved.now (language_view language.now) (plan_view.view plan.now) }
     requires stands { slice_get (nodes_of (plan_view.view plan.now)) node.number
         ≡ Some (plans.node_view node) }
     ensures { let p = plan_view.view plan.now in
         IfOk result (λ absence. absence_view absence
-        ≡ spec.absence_of p (spec.is_key p (plans.node_view node.entry))
-        (plans.node_view node.entry)) }
+        ≡ wide.absence_in (language_view language.now) p (plans.node_view node.entry)) }
 {
     if resolved.is_key(node.number) {
         return Ok(Absence::Key);
@@ -67,7 +71,7 @@ fn absence_of<'a, 't>(
     if node.planned.is_mandatory() {
         return Ok(Absence::Mandatory);
     }
-    let defaults = values_of(alloc, plan, resolved, node)?;
+    let defaults = values_of(alloc, language, plan, resolved, node)?;
     match first_of(defaults) {
         Some(value) => Ok(Absence::DefaultUsed(value)),
         None => Ok(Absence::Allowed),
@@ -91,15 +95,16 @@ fn type_or_text(alloc: Global, value_type: Option<&YType>) -> Result<YType, Allo
 /// The type of a leaf or of items, and to which node it refers.
 fn leaf_type_of<'a, 't>(
     alloc: Global,
+    language: &Language,
     plan: &Plan<'a, 't>,
     resolved: &Resolved<'_, 't>,
     node: PlanNode<'a, 't>,
 ) -> Result<LeafType, AllocError>
-    requires of_plan { IsOf resolved.now (plan_view.view plan.now) }
+    requires of_plan { IsOf resolved.now (language_view language.now) (plan_view.view plan.now) }
     requires stands { slice_get (nodes_of (plan_view.view plan.now)) node.number
         ≡ Some (plans.node_view node) }
     ensures { IfOk result (λ made. leaf_type_view made
-        ≡ spec.leaf_type (plan_view.view plan.now) (plans.node_view node.entry)) }
+        ≡ wide.leaf_type_in (language_view language.now) (plan_view.view plan.now) (plans.node_view node.entry)) }
 {
     let name = TypeName::of(alloc, node.planned.type_name())?;
     let value_type = type_or_text(alloc, resolved.value_type(node.number))?;
@@ -113,16 +118,17 @@ fn leaf_type_of<'a, 't>(
 /// What only its kind of node has.
 fn kind_of<'a, 't>(
     alloc: Global,
+    language: &Language,
     plan: &Plan<'a, 't>,
     resolved: &Resolved<'_, 't>,
     node: PlanNode<'a, 't>,
 ) -> Result<Kind, AllocError>
-    requires of_plan { IsOf resolved.now (plan_view.view plan.now) }
+    requires of_plan { IsOf resolved.now (language_view language.now) (plan_view.view plan.now) }
     requires stands { slice_get (nodes_of (plan_view.view plan.now)) node.number
         ≡ Some (plans.node_view node) }
     ensures { let p = plans.node_view node.entry in
         IfOk result (λ kind. kind_view kind
-        ≡ spec.kind_by (plan_view.view plan.now) p p.part.source.keyword) }
+        ≡ wide.kind_in (language_view language.now) (plan_view.view plan.now) p) }
 {
     let planned = &node.planned;
     match planned.keyword() {
@@ -130,12 +136,12 @@ fn kind_of<'a, 't>(
             presence: planned.has_presence(),
         }),
         Keyword::Leaf => Ok(Kind::Leaf {
-            leaf_type: leaf_type_of(alloc, plan, resolved, node)?,
-            absence: absence_of(alloc, plan, resolved, node)?,
+            leaf_type: leaf_type_of(alloc, language, plan, resolved, node)?,
+            absence: absence_of(alloc, language, plan, resolved, node)?,
         }),
         Keyword::LeafList => Ok(Kind::LeafList {
-            leaf_type: leaf_type_of(alloc, plan, resolved, node)?,
-            defaults: values_of(alloc, plan, resolved, node)?,
+            leaf_type: leaf_type_of(alloc, language, plan, resolved, node)?,
+            defaults: values_of(alloc, language, plan, resolved, node)?,
             amount: planned.amount(),
         }),
         Keyword::List => Ok(Kind::List {
@@ -153,15 +159,16 @@ fn kind_of<'a, 't>(
 /// The schema node that a planned one stands for.
 fn node_of<'a, 't>(
     alloc: Global,
+    language: &Language,
     plan: &Plan<'a, 't>,
     resolved: &Resolved<'_, 't>,
     node: PlanNode<'a, 't>,
 ) -> Result<SchemaNode, AllocError>
-    requires of_plan { IsOf resolved.now (plan_view.view plan.now) }
+    requires of_plan { IsOf resolved.now (language_view language.now) (plan_view.view plan.now) }
     requires stands { slice_get (nodes_of (plan_view.view plan.now)) node.number
         ≡ Some (plans.node_view node) }
     ensures { IfOk result (λ made. node_view node.entry.number made
-        ≡ spec.schema_node (plan_view.view plan.now) (plans.node_view node.entry)) }
+        ≡ wide.schema_node_in (language_view language.now) (plan_view.view plan.now) (plans.node_view node.entry)) }
 {
     let planned = &node.planned;
     Ok(SchemaNode {
@@ -169,23 +176,24 @@ fn node_of<'a, 't>(
         name: String::from_str(alloc, planned.name())?,
         config: planned.config,
         status: planned.status(),
-        kind: kind_of(alloc, plan, resolved, node)?,
+        kind: kind_of(alloc, language, plan, resolved, node)?,
     })
 }
 
 /// The row of a schema that a row of a plan stands for.
 fn slot_of<'a, 't>(
     alloc: Global,
+    language: &Language,
     plan: &Plan<'a, 't>,
     resolved: &Resolved<'_, 't>,
     number: u32,
     row: &ybase_preorder::Slot<Planned<'a, 't>>,
 ) -> Result<Slot, AllocError>
-    requires of_plan { IsOf resolved.now (plan_view.view plan.now) }
+    requires of_plan { IsOf resolved.now (language_view language.now) (plan_view.view plan.now) }
     requires stands { slice_get (nodes_of (plan_view.view plan.now)) number
         ≡ Some (planned_view number row.now.label) }
     ensures { IfOk result (λ made. place_of number made
-        ≡ place_made (spec.schema_node (plan_view.view plan.now)) (planned_place number row.now)) }
+        ≡ place_made (wide.schema_node_in (language_view language.now) (plan_view.view plan.now)) (planned_place number row.now)) }
 {
     let node = PlanNode {
         number,
@@ -193,7 +201,7 @@ fn slot_of<'a, 't>(
     };
     Ok(Slot {
         parent: id_of(row.parent),
-        node: node_of(alloc, plan, resolved, node)?,
+        node: node_of(alloc, language, plan, resolved, node)?,
         below: row.below,
     })
 }
@@ -201,18 +209,19 @@ fn slot_of<'a, 't>(
 /// The rows of a schema whose nodes are planned.
 pub(crate) fn slots_of<'t>(
     alloc: Global,
+    language: &Language,
     plan: &Plan<'_, 't>,
     resolved: &Resolved<'_, 't>,
 ) -> Result<Vec<Slot>, AllocError>
-    requires { IsOf resolved.now (plan_view.view plan.now) }
+    requires { IsOf resolved.now (language_view language.now) (plan_view.view plan.now) }
     ensures laid { IfOk result (λ rows. laid 0 rows.items
-        ≡ places None (spec.schema_nodes (plan_view.view plan.now))) }
+        ≡ places None (wide.schema_nodes_in (language_view language.now) (plan_view.view plan.now))) }
     ensures names { IfOk result (λ rows. names_in rows.items
         ≡ map name_of (nodes_of (plan_view.view plan.now))) }
 {
     let mut rows = Vec::with_capacity(alloc, plan.nodes())?;
     for (number, row) in plan.slots().iter().enumerate() {
-        rows.push(slot_of(alloc, plan, resolved, number as u32, row)?)?;
+        rows.push(slot_of(alloc, language, plan, resolved, number as u32, row)?)?;
     }
     Ok(rows)
 }

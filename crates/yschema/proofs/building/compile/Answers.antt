@@ -1,17 +1,11 @@
+use Rattle.std.proofs.Common.{subst}
+use Rattle.yspec.specs.Results.{Gives}
+use Rattle.yspec_wide.proofs.CoreCompilingLemmas.{compiled_alike}
 use Rattle.ytext.specs.View.{modules_view}
 use Rattle.ylink.specs.Told.{told_by}
-use Rattle.yschema_model.proofs.CallerLemmas.{names_differ, leafs_are_bare, not_deep}
-use Rattle.yschema.proofs.ToldLemmas.{refused_linking, if_ok_any}
+use Rattle.yschema_model.specs.View.{view}
 use Rattle.yschema.proofs.building.compile.Goals as goal
 
-pub returns-in-Err-clause-exact : goal.returns-in-Err-clause-exact
-returns-in-Err-clause-exact c = refused_linking (modules_view c.args.modules.now) (told_by c.in-Err.fault) c.in-Err.ensures.told
-
-pub returns-in-Ok-clause-names : goal.returns-in-Ok-clause-names
-returns-in-Ok-clause-names c = if_ok_any _ names_differ c.compile_linked.result
-
-pub returns-in-Ok-clause-bare : goal.returns-in-Ok-clause-bare
-returns-in-Ok-clause-bare c = if_ok_any _ leafs_are_bare c.compile_linked.result
-
-pub returns-in-Ok-clause-within : goal.returns-in-Ok-clause-within
-returns-in-Ok-clause-within c = if_ok_any _ not_deep c.compile_linked.result
+pub returns-clause-exact : goal.returns-clause-exact
+returns-clause-exact c =
+    subst (λ answer. Gives view told_by c.compile_in.result answer) (compiled_alike (modules_view c.args.modules.now)) c.compile_in.ensures.exact

@@ -1,8 +1,10 @@
 use Rattle.std.proofs.Common.{ap, ap₂, ◌∙◌}
 use Rattle.std.specs.Prelude.{unwrap_or, option_map}
 use Rattle.yspec.specs.types.Types.{string_type}
-use Rattle.yspec.specs.linking.Planned.{type_of, target_of}
+use Rattle.yspec.specs.linking.Planned.{target_of}
 use Rattle.yspec.specs.linking.SchemaNodes.{number_in}
+use Rattle.yspec_wide.specs.Types.{standing_type}
+use Rattle.ylink_grammar.specs.LanguageView.{language_view}
 use Rattle.yschema_plan.specs.NodesView.{node_view}
 use Rattle.yschema_plan.specs.PlanView.{view}
 use Rattle.yschema_model.specs.Layout.{type_name_view}
@@ -13,7 +15,7 @@ pub returns : goal.returns
 returns c =
     let plan = view c.args.plan.now in
     let p = node_view c.args.node in
-    let type = c.value_type.ensures plan p c.requires.of_plan c.requires.stands in
-    let target = c.target.ensures plan p c.requires.of_plan c.requires.stands in
+    let type = c.value_type.ensures (language_view c.args.language.now) plan p c.requires.of_plan c.requires.stands in
+    let target = c.target.ensures (language_view c.args.language.now) plan p c.requires.of_plan c.requires.stands in
     ap₂ (leaf_type_by (type_name_view c.in_ok-name.name)) (c.in_ok-value_type.ensures ∙ ap (λ t. unwrap_or t string_type) type) (c.id_of.ensures ∙ target)
-    ∙ ap (λ n. leaf_type_by n (unwrap_or (type_of plan p) string_type) (option_map number_in (target_of plan p))) (c.in_ok-name.ensures ∙ c.type_name.ensures c.args.node.number)
+    ∙ ap (λ n. leaf_type_by n (unwrap_or (standing_type (language_view c.args.language.now) plan p) string_type) (option_map number_in (target_of plan p))) (c.in_ok-name.ensures ∙ c.type_name.ensures c.args.node.number)

@@ -1,6 +1,7 @@
 use Rattle.std.proofs.Common.{arith}
-use Rattle.yspec.specs.linking.SchemaNodes.{schema_node}
+use Rattle.yspec_wide.specs.Types.{schema_node_in}
 use Rattle.ybase_preorder.specs.View.{slots_in}
+use Rattle.ylink_grammar.specs.LanguageView.{language_view}
 use Rattle.yschema_plan.specs.PlanView.{view}
 use Rattle.yschema.proofs.MakingLemmas.{ahead, row_stands, row_more, count_more, all_made, all_named}
 use Rattle.yschema.proofs.making.slots_of.Goals as goal
@@ -12,7 +13,7 @@ slot_of-requires-clause-stands c =
 pub loop-number-preserved : goal.loop-number-preserved
 loop-number-preserved c =
     let plan = c.args.plan.now in
-    let make = schema_node (view plan) in
+    let make = schema_node_in (language_view c.args.language.now) (view plan) in
     let made = c.loop-number.rows.items in
     record {
       counted = count_more made c.push.new.self.items c.in_ok-slot_of.field-0 c.loop-number.number c.in_ok-push.ensures.items c.loop-number.invariant.counted;
@@ -23,10 +24,10 @@ loop-number-preserved c =
 
 pub returns-clause-laid : goal.returns-clause-laid
 returns-clause-laid c =
-    all_made c.args.plan.now c.slots-row-items.result.now c.loop-number.number c.loop-number.rows.items c.slots-row-items.ensures.rows
+    all_made (language_view c.args.language.now) c.args.plan.now c.slots-row-items.result.now c.loop-number.number c.loop-number.rows.items c.slots-row-items.ensures.rows
     (omega (arith, c.loop-number-test.false)) c.loop-number.invariant.laid
 
 pub returns-clause-names : goal.returns-clause-names
 returns-clause-names c =
-    all_named c.args.plan.now c.slots-row-items.result.now c.loop-number.number c.loop-number.rows.items c.slots-row-items.ensures.rows
+    all_named (language_view c.args.language.now) c.args.plan.now c.slots-row-items.result.now c.loop-number.number c.loop-number.rows.items c.slots-row-items.ensures.rows
     (omega (arith, c.loop-number-test.false)) c.loop-number.invariant.laid

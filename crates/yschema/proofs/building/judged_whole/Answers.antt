@@ -1,0 +1,44 @@
+use Rattle.std.proofs.Common.{◌≡◌, Some, None, true, sym, ap, subst, ◌∙◌}
+use Rattle.yspec.specs.schema.Breaks.{least_from}
+use Rattle.yspec.specs.linking.NodeBreaks.{name_breaks}
+use Rattle.yspec_wide.specs.Compiling.{whole_plan}
+use Rattle.yspec_wide.specs.Expansion.{augmented_in}
+use Rattle.ybase_preorder.specs.Layout.{places}
+use Rattle.ylink_grammar.specs.LanguageView.{language_view}
+use Rattle.ylink_grammar.specs.LinkView.{view}
+use Rattle.ylink_standing.specs.StandingView.{IsOf}
+use Rattle.ylink.specs.LinkedView as statements
+use Rattle.ylink.specs.Told.{seen}
+use Rattle.yschema_given.specs.Keeping.{are_kept_right}
+use Rattle.yschema_expand.specs.TableView.{parts_in}
+use Rattle.yschema_plan.specs.PlanView as plans
+use Rattle.yschema_resolve.specs.Standing.{TellsStanding}
+use Rattle.yschema_resolve.proofs.CallerLemmas.{parts_told}
+use Rattle.yschema.specs.Phases.{all_addition_breaks}
+use Rattle.yschema.proofs.building.judged_whole.Goals as goal
+
+pub returns-in-Some : goal.returns-in-Some
+returns-in-Some c =
+    let l = language_view c.args.language.now in
+    let s = statements.view c.args.linked.now in
+    let parts = (augmented_in l s).0 in
+    let plan_is : plans.view c.in_ok-whole.whole ≡ whole_plan l s = c.in_ok-whole.ensures parts c.requires.made ∙ ap (λ m. plans.plan_with m parts) c.sources.ensures in
+    sym (ap seen c.in-Some.is) ∙ (c.broken_name_rule.ensures ∙ ap (λ w. least_from None (name_breaks w)) plan_is)
+
+pub returns : goal.returns
+returns c =
+    let l = language_view c.args.language.now in
+    let s = statements.view c.args.linked.now in
+    let parts = (augmented_in l s).0 in
+    let v = plans.view c.in_ok-whole.whole in
+    let plan_is : v ≡ whole_plan l s = c.in_ok-whole.ensures parts c.requires.made ∙ ap (λ m. plans.plan_with m parts) c.sources.ensures in
+    let same = sym c.sources-2.ensures in
+    let m = view c.sources-2.result.now in
+    let told = c.in_ok-standing.ensures l (subst (IsOf c.args.features.now l) same c.requires.on) (subst (λ x. are_kept_right l x ≡ true) same c.requires.kept)
+    (subst (λ x. parts_in c.args.nodes.now ≡ places None 0 (augmented_in l x).0) same c.requires.made) in
+    let tells : TellsStanding c.in_ok-standing.standing.items l (plans.plan_with m (augmented_in l m).0) = parts_told c.in_ok-standing.standing.items l m (augmented_in l m).0 told in
+    let here : TellsStanding c.in_ok-standing.standing.items l v = subst (TellsStanding c.in_ok-standing.standing.items l)
+    (ap (λ x. plans.plan_with x (augmented_in l x).0) (sym same) ∙ sym plan_is) tells in (
+      sym (ap seen c.in_default.is) ∙ (c.broken_name_rule.ensures ∙ ap (λ w. least_from None (name_breaks w)) plan_is),
+      c.in_ok-added.ensures l (subst (λ xs. TellsStanding xs l v) (sym c.as_slice.ensures.value) here) ∙ ap (λ w. least_from None (all_addition_breaks l w)) plan_is,
+    )
