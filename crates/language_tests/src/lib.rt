@@ -1,0 +1,19 @@
+//! Tests of modules that are read in a language: versions of YANG, and features.
+#![tactic(auto)]
+
+#[cfg(test)]
+mod building;
+#[cfg(test)]
+mod choosing;
+#[cfg(test)]
+mod compiling;
+#[cfg(test)]
+mod documents;
+#[cfg(test)]
+mod features;
+#[cfg(test)]
+mod memory;
+#[cfg(test)]
+mod telling;
+#[cfg(test)]
+mod versions;
