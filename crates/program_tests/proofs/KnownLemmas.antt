@@ -1,5 +1,6 @@
 -- From the run of any files to that of known ones.
 use Rattle.std.proofs.Common.{◌≡◌, inl, inr, Bool, false, ℕ, List, [], ◌∷◌, codes, Some, None, refl, sym, subst, ap, ◌∙◌, arith}
+use Rattle.yspec_wide.specs.Language.{core}
 use Rattle.yspec_run.specs.Output.{Besides, Outcome, Request, files_of, outcome, plainly, printed_with, validate}
 use Rattle.ybase_output.specs.Writing.{Side}
 use Rattle.clap.proofs.OnLiterals.{clap_on_literals}
@@ -13,7 +14,7 @@ pub are_taken : refusals validate_words ≡ []
 unfolding clap_on_literals
 are_taken = refl
 
-pub ask_for : request_of validate_words ≡ validate plainly (codes "d.json") (codes "p.yang" ∷ [])
+pub ask_for : request_of validate_words ≡ validate core plainly (codes "d.json") (codes "p.yang" ∷ [])
 unfolding clap_on_literals
 ask_for = refl
 
@@ -34,13 +35,13 @@ known_answers names texts (Some a ∷ Some b ∷ []) answered none =
 known_answers names texts (Some a ∷ Some b ∷ answer ∷ answers) answered none = absurd answered.1.1
 
 pub is_known : (before after : Store) (request : Request) (names : List Text) (texts : List (List ℕ)) (o : Outcome) → before.contents ≡ told_in names texts
-    → after.failures ≡ before.failures → request ≡ validate plainly (codes "d.json") (codes "p.yang" ∷ []) → IsOutcome before after request o → IsKnown names texts o
+    → after.failures ≡ before.failures → request ≡ validate core plainly (codes "d.json") (codes "p.yang" ∷ []) → IsOutcome before after request o → IsKnown names texts o
 is_known before after request names texts o tells same asked (inl came) =
     let read = subst (λ (r : Request). WereRead before after (files_of r) came.0) asked came.1 in
     let none : unread_in came.0 ≡ 0 = omega (arith, read.failures, same) in
     let answered = subst (λ (contents : Contents). Answered contents (codes "p.yang" ∷ codes "d.json" ∷ []) came.0) tells read.answered in
     inl (came.2 ∙ ap (λ (r : Request). outcome r came.0) asked
-    ∙ ap (outcome (validate plainly (codes "d.json") (codes "p.yang" ∷ []))) (known_answers names texts came.0 answered none))
+    ∙ ap (outcome (validate core plainly (codes "d.json") (codes "p.yang" ∷ []))) (known_answers names texts came.0 answered none))
 is_known before after request names texts o tells same asked (inr none) = inr none.1
 
 pub reasons_same : (besides : Besides) (output output_after errors errors_after : Side) (given asked : Bool) (o : Outcome) (end : End) → given ≡ asked

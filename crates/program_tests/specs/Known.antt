@@ -1,6 +1,7 @@
 -- Files whose contents are known, and what checking a document of them comes to.
 use Rattle.std.specs.Prelude.{◌≡◌, ◌⊎◌, ℕ, List, [], ◌∷◌, codes, Option, Some, if◌then◌else◌}
 use Rattle.std.specs.Str.{bytes_eq}
+use Rattle.yspec_wide.specs.Language.{core}
 use Rattle.yspec_run.specs.Output.{Outcome, outcome, plainly, validate}
 use Rattle.yspec.specs.text.Text.{Text}
 use Rattle.yapp_words.specs.Running.{without_memory}
@@ -20,5 +21,5 @@ validate_words = codes "yanglive" ∷ codes "validate" ∷ codes "d.json" ∷ co
 -- the outcome for these contents, or memory was wanting
 abbrev pub IsKnown : List Text → List (List ℕ) → Outcome → Type 0
 IsKnown names contents o = let told = told_in names contents in
-    (o ≡ outcome (validate plainly (codes "d.json") (codes "p.yang" ∷ [])) (told (codes "p.yang") ∷ told (codes "d.json") ∷ []))
+    (o ≡ outcome (validate core plainly (codes "d.json") (codes "p.yang" ∷ [])) (told (codes "p.yang") ∷ told (codes "d.json") ∷ []))
     ⊎ (o ≡ without_memory)

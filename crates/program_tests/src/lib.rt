@@ -22,6 +22,8 @@ mod groupings;
 #[cfg(test)]
 mod identities;
 #[cfg(test)]
+mod languages;
+#[cfg(test)]
 mod memory;
 #[cfg(test)]
 mod modules;

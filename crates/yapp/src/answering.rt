@@ -4,6 +4,7 @@ ghost use Rattle.std.specs.Prelude.{IfOk, map, position};
 ghost use Rattle.yspec.specs.text.Text.{is_text};
 ghost use Rattle.yspec_run.specs.Output.{compilation, drawing, drawing_all, drawn, edition, explanation, performed, validation};
 ghost use Rattle.yschema_model.specs.View as schema_view;
+ghost use Rattle.ylink_grammar.specs.LanguageView.{language_view};
 ghost use Rattle.yapp_words.specs.Command.{options_view, view};
 ghost use Rattle.yapp_report.specs.Explained.{HasNoDocument, IsExplained};
 ghost use Rattle.yapp_report.specs.Failing.{LeadsTo, reported};
@@ -15,6 +16,7 @@ use crate::modules::compile_contents;
 use std::alloc::Global;
 use yapp_report::{Failure, Files, Report};
 use yapp_words::{Options, Request};
+use ylink_grammar::Language;
 use ysay_codes::{all_explanations, explanations, first_unknown};
 use yschema_model::Schema;
 
@@ -37,14 +39,15 @@ fn explain<'a>(alloc: Global, codes: &[&'a str]) -> Result<Report, Failure<'a>>
 /// How many nodes modules define, by the contents of their files.
 fn count_nodes<'a>(
     alloc: Global,
+    language: &Language,
     modules: &[&'a str],
     contents: &[Vec<u8>],
 ) -> Result<Report, Failure<'a>>
-    ensures leads { LeadsTo (compilation (map (λ n. n.now) modules.now)
+    ensures leads { LeadsTo (compilation (language_view language.now) (map (λ n. n.now) modules.now)
         (map (λ c. c.items) contents.now)) reported result }
     ensures faultless { IfOk result HasNoDocument }
 {
-    match compile_contents(alloc, modules, contents) {
+    match compile_contents(alloc, language, modules, contents) {
         Ok(compiled) => Ok(Report::Nodes(compiled.value.nodes())),
         Err(failure) => Err(failure),
     }
@@ -66,15 +69,16 @@ fn diagram_of<'a>(schema: Schema, name: &'a str) -> Result<Report, Failure<'a>>
 /// The diagram of the module of a name, by the contents of the files of modules.
 fn draw<'a>(
     alloc: Global,
+    language: &Language,
     name: &'a str,
     modules: &[&'a str],
     contents: &[Vec<u8>],
 ) -> Result<Report, Failure<'a>>
-    ensures leads { LeadsTo (drawing name.entry.now (map (λ n. n.now) modules.now)
+    ensures leads { LeadsTo (drawing (language_view language.now) name.entry.now (map (λ n. n.now) modules.now)
         (map (λ c. c.items) contents.now)) reported result }
     ensures faultless { IfOk result HasNoDocument }
 {
-    match compile_contents(alloc, modules, contents) {
+    match compile_contents(alloc, language, modules, contents) {
         Ok(compiled) => diagram_of(compiled.value, name),
         Err(failure) => Err(failure),
     }
@@ -83,14 +87,15 @@ fn draw<'a>(
 /// The diagrams of all modules, by the contents of their files.
 fn draw_all<'a>(
     alloc: Global,
+    language: &Language,
     modules: &[&'a str],
     contents: &[Vec<u8>],
 ) -> Result<Report, Failure<'a>>
-    ensures leads { LeadsTo (drawing_all (map (λ n. n.now) modules.now)
+    ensures leads { LeadsTo (drawing_all (language_view language.now) (map (λ n. n.now) modules.now)
         (map (λ c. c.items) contents.now)) reported result }
     ensures faultless { IfOk result HasNoDocument }
 {
-    match compile_contents(alloc, modules, contents) {
+    match compile_contents(alloc, language, modules, contents) {
         Ok(compiled) => Ok(Report::Diagrams(compiled.value)),
         Err(failure) => Err(failure),
     }
@@ -99,17 +104,25 @@ fn draw_all<'a>(
 /// The faults of a document under modules, by the contents of the files.
 fn validate<'a>(
     alloc: Global,
+    language: &Language,
     options: Options<'a>,
     document: &'a str,
     modules: &[&'a str],
     contents: &[Vec<u8>],
     with_reasons: bool,
 ) -> Result<Report, Failure<'a>>
-    ensures leads { LeadsTo (validation (options_view options.entry) document.entry.now (map (λ n. n.now) modules.now)
+    ensures leads { LeadsTo (validation (language_view language.now) (options_view options.entry) document.entry.now (map (λ n. n.now) modules.now)
         (map (λ c. c.items) contents.now)) reported result }
     ensures explained { IfOk result (IsExplained with_reasons) }
 {
-    match read_document(alloc, options.is_strict, document, modules, contents) {
+    match read_document(
+        alloc,
+        language,
+        options.is_strict,
+        document,
+        modules,
+        contents,
+    ) {
         Ok(read) => Ok(report_on(alloc, read.value, with_reasons, options)?),
         Err(failure) => Err(failure),
     }
@@ -118,17 +131,25 @@ fn validate<'a>(
 /// The same after the edits of a script.
 fn edit<'a>(
     alloc: Global,
+    language: &Language,
     options: Options<'a>,
     document: &'a str,
     modules: &[&'a str],
     contents: &[Vec<u8>],
     with_reasons: bool,
 ) -> Result<Report, Failure<'a>>
-    ensures leads { LeadsTo (edition (options_view options.entry) document.entry.now (map (λ n. n.now) modules.now)
+    ensures leads { LeadsTo (edition (language_view language.now) (options_view options.entry) document.entry.now (map (λ n. n.now) modules.now)
         (map (λ c. c.items) contents.now)) reported result }
     ensures explained { IfOk result (IsExplained with_reasons) }
 {
-    match edit_document(alloc, options.is_strict, document, modules, contents) {
+    match edit_document(
+        alloc,
+        language,
+        options.is_strict,
+        document,
+        modules,
+        contents,
+    ) {
         Ok(edited) => Ok(report_on_edited(alloc, edited, with_reasons, options)?),
         Err(failure) => Err(failure),
     }
@@ -147,20 +168,42 @@ fn perform<'a>(
 {
     match request {
         Request::Explain { codes } => explain(alloc, codes),
-        Request::Compile { modules } => count_nodes(alloc, modules, contents),
-        Request::Tree { name, modules } => draw(alloc, *name, modules, contents),
-        Request::Trees { modules } => draw_all(alloc, modules, contents),
+        Request::Compile { language, modules } => count_nodes(alloc, language, modules, contents),
+        Request::Tree {
+            language,
+            name,
+            modules,
+        } => draw(alloc, language, *name, modules, contents),
+        Request::Trees { language, modules } => draw_all(alloc, language, modules, contents),
         Request::Validate {
+            language,
             options,
             document,
             modules,
-        } => validate(alloc, *options, *document, modules, contents, with_reasons),
+        } => validate(
+            alloc,
+            language,
+            *options,
+            *document,
+            modules,
+            contents,
+            with_reasons,
+        ),
         Request::Edit {
+            language,
             options,
             document,
             modules,
             ..
-        } => edit(alloc, *options, *document, modules, contents, with_reasons),
+        } => edit(
+            alloc,
+            language,
+            *options,
+            *document,
+            modules,
+            contents,
+            with_reasons,
+        ),
     }
 }
 

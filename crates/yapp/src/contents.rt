@@ -42,8 +42,9 @@ pub fn names_of<'a>(alloc: Global, request: &Request<'a>) -> Result<Vec<&'a str>
 {
     match request {
         Request::Explain { .. } => Ok(Vec::new(alloc)),
-        Request::Compile { modules } | Request::Tree { modules, .. } | Request::Trees { modules } =>
-            { Vec::from_slice(alloc, modules) }
+        Request::Compile { modules, .. }
+        | Request::Tree { modules, .. }
+        | Request::Trees { modules, .. } => Vec::from_slice(alloc, modules),
         Request::Validate {
             document,
             modules,

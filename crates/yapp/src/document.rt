@@ -13,6 +13,7 @@ ghost use Rattle.ysay_fault.specs.Sentences.{explained_fault};
 ghost use Rattle.ysay_json.specs.FaultData as format;
 ghost use Rattle.ycheck.specs.View.{view};
 ghost use Rattle.yschema_model.specs.View as schema_view;
+ghost use Rattle.ylink_grammar.specs.LanguageView.{language_view};
 ghost use Rattle.yinst_tree.specs.Told.{code_number};
 ghost use Rattle.yinst_tree.specs.View.{place_view};
 ghost use Rattle.ylive.specs.View as live_view;
@@ -35,6 +36,7 @@ use yapp_words::Options;
 use ycheck::Fault;
 use ycheck_config::{Inspection, inspect};
 use yinst_tree::{DocCode, DocFault, Step, Tree, read, write};
+use ylink_grammar::Language;
 use ylive::Live;
 use ysay_fault::{explanation_with_fellow, fellows_of};
 use ysay_json::json_text;
@@ -188,24 +190,25 @@ fn stop_of(alloc: Global, bytes: &[u8], code: DocCode) -> Result<Stop, AllocErro
     }
 }
 
-/// A document under modules, by the contents of their files and its own; where that is wanted, one that gives a member twice
-/// is refused.
+/// A document under modules that are read in a language, by the contents of their files and its own; where that is wanted, one
+/// that gives a member twice is refused.
 pub(crate) fn read_document<'a, 'b>(
     alloc: Global,
+    language: &Language,
     is_strict: bool,
     document: &'a str,
     modules: &[&'a str],
     contents: &'b [Vec<u8>],
 ) -> Result<Taken<'b, Document>, Failure<'a>>
     ensures leads { (next : schema_spec.Schema → document_spec.Tree → List (List ℕ) → Outcome)
-        → LeadsTo (with_document is_strict document.entry.now (map (λ n. n.now) modules.now)
+        → LeadsTo (with_document (language_view language.now) is_strict document.entry.now (map (λ n. n.now) modules.now)
         (map (λ c. c.items) contents.entry.now) next)
         (λ read. next (schema_of read.value) (tree_of read.value)
         (map (λ c. c.items) read.rest.now)) result }
     ensures sound { IfOk result (λ read. IsSound (schema_of read.value) (tree_of read.value)) }
     ensures unrefused { IfOk result (λ read. refused_of read.value ≡ []) }
 {
-    match compile_contents(alloc, modules, contents) {
+    match compile_contents(alloc, language, modules, contents) {
         Ok(compiled) => {
             match read_by(
                 alloc,
@@ -257,24 +260,25 @@ fn run_script(mut live: Live, script: &Script<'_>) -> Result<EditedDocument, All
     }
 }
 
-/// A document after the lines of a script, by the contents of the files: those of the modules, the document's, and the
-/// script's. Where that is wanted, a member that is given twice is refused.
+/// A document under modules that are read in a language, after the lines of a script, by the contents of the files: those of the
+/// modules, the document's, and the script's. Where that is wanted, a member that is given twice is refused.
 pub fn edit_document<'a>(
     alloc: Global,
+    language: &Language,
     is_strict: bool,
     document: &'a str,
     modules: &[&'a str],
     contents: &[Vec<u8>],
 ) -> Result<EditedDocument, Failure<'a>>
     ensures leads { (next : schema_spec.Schema → document_spec.Tree → List Part → Outcome)
-        → LeadsTo (with_document is_strict document.entry.now (map (λ n. n.now) modules.now)
+        → LeadsTo (with_document (language_view language.now) is_strict document.entry.now (map (λ n. n.now) modules.now)
         (map (λ c. c.items) contents.now) (λ schema tree files.
         next schema (after_lines is_strict schema tree (lines_of (first_file files)))
         (refused_lines is_strict schema 1 tree (lines_of (first_file files)))))
         (λ e. next (live_of e).schema (live_of e).tree (refused_in e)) result }
     ensures whole { IfOk result (λ e. IsWhole (live_of e).schema (live_of e).tree) }
 {
-    match read_document(alloc, is_strict, document, modules, contents) {
+    match read_document(alloc, language, is_strict, document, modules, contents) {
         Ok(read) => Ok(edit(alloc, is_strict, read.value, first_of(read.rest))?),
         Err(failure) => Err(failure),
     }

@@ -2,7 +2,8 @@
 
 ghost use Rattle.std.specs.Prelude.{◌∷◌, [], ℕ, List, map};
 ghost use Rattle.yspec.specs.Forest.{Forest};
-ghost use Rattle.yspec.specs.linking.Compiling.{compiled};
+ghost use Rattle.yspec_wide.specs.Compiling.{compiled_in};
+ghost use Rattle.ylink_grammar.specs.LanguageView.{language_view};
 ghost use Rattle.yspec_run.specs.Output as spec;
 ghost use Rattle.yspec_run.specs.Output.{Outcome, with_compiled, with_modules, with_schema};
 ghost use Rattle.yspec.specs.schema.Schema as schema_spec;
@@ -17,8 +18,8 @@ use crate::contents::Taken;
 use std::alloc::Global;
 use yapp_report::Failure;
 use yapp_script::{break_hint, slip_hint};
-use ylink_grammar::BrokenRule;
-use yschema::{CompileFault, compile};
+use ylink_grammar::{BrokenRule, Language};
+use yschema::{CompileFault, compile_in};
 use yschema_model::Schema;
 use ytext::{Module, TextCode, TextFault, parse};
 
@@ -91,19 +92,20 @@ fn text_failure<'a>(
     }
 }
 
-/// The schema of the modules of some names.
+/// The schema in a language of the modules of some names.
 fn compile_modules<'a>(
     alloc: Global,
+    language: &Language,
     names: &[&'a str],
     contents: &[Vec<u8>],
     modules: &[Module],
 ) -> Result<Schema, Failure<'a>>
     ensures { (next : schema_spec.Schema → Outcome)
         → LeadsTo (with_compiled (map (λ n. n.now) names.now) (map (λ c. c.items) contents.now)
-        (modules_view modules.now) (compiled (modules_view modules.now)) next)
+        (modules_view modules.now) (compiled_in (language_view language.now) (modules_view modules.now)) next)
         (λ schema. next (schema_view.view schema)) result }
 {
-    match compile(alloc, modules) {
+    match compile_in(alloc, modules, language) {
         Ok(schema) => Ok(schema),
         Err(CompileFault::Refused { code, module, line }) => {
             let rule = BrokenRule { module, line, code };
@@ -135,20 +137,21 @@ fn compile_failure<'a>(
     }
 }
 
-/// The schema of the modules of some names, by the contents of their files. Their statements go as soon as it stands.
+/// The schema in a language of the modules of some names, by the contents of their files. Their statements go as soon as it stands.
 pub fn compile_contents<'a, 'b>(
     alloc: Global,
+    language: &Language,
     names: &[&'a str],
     contents: &'b [Vec<u8>],
 ) -> Result<Taken<'b, Schema>, Failure<'a>>
     ensures { (next : schema_spec.Schema → List (List ℕ) → Outcome)
-        → LeadsTo (with_schema (map (λ n. n.now) names.now)
+        → LeadsTo (with_schema (language_view language.now) (map (λ n. n.now) names.now)
         (map (λ c. c.items) contents.entry.now) next)
         (λ compiled. next (schema_view.view compiled.value) (map (λ c. c.items) compiled.rest.now))
         result }
 {
     match parse_modules(alloc, names, contents) {
-        Ok(parsed) => match compile_modules(alloc, names, contents, &parsed.value) {
+        Ok(parsed) => match compile_modules(alloc, language, names, contents, &parsed.value) {
             Ok(schema) => Ok(Taken {
                 value: schema,
                 rest: parsed.rest,

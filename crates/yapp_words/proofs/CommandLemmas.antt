@@ -1,10 +1,11 @@
 -- What clap's answers come to.
 use Rattle.std.proofs.Common.{◌≡◌, ◌⊎◌, inl, inr, List, [], ◌∷◌, ℕ, Bool, Option, Some, None, Bor, map, false, true, refl, sym, subst, ap, ap₂, ◌∙◌}
 use Rattle.std.specs.Prelude.{Result, Ok, Err, IsErrAnd, option_map, unwrap_or, ◌||◌, if◌then◌else◌}
+use Rattle.yspec_wide.specs.Language.{Language, core}
 use Rattle.yspec_run.specs.Output as spec
 use Rattle.yspec_run.specs.Output.{compile, edit, validate}
 use Rattle.clap.specs.Kinds.{or_else}
-use Rattle.clap.specs.Words.{AddsArg, AddsSubcommand, App, Kinds, IsAmong, Row, Rule, Text, app_of, fault_of, first_of, first_value, rows_of, is_simple, is_simple_and_free, new_app, subcommand_of, with_rule, with_subcommand}
+use Rattle.clap.specs.Words.{AddsArg, AddsSubcommand, App, Kinds, IsAmong, Row, Rule, Text, all_of, app_of, fault_of, first_of, first_value, matched_of, raw_values, rows_of, is_simple, is_simple_and_free, new_app, subcommand_of, with_rule, with_subcommand}
 use Rattle.clap.specs.Simple.{app_of_fields}
 use Rattle.clap.specs.declared.builder.arg.Arg.{Arg}
 use Rattle.clap.specs.declared.builder.command.Command.{Command}
@@ -13,10 +14,10 @@ use Rattle.clap.specs.declared.builder.command.Command.TheOpen.{Command-F}
 use Rattle.clap.specs.declared.error.kind.ErrorKind.{ErrorKind}
 use Rattle.clap.specs.declared.error.kind.ErrorKind.TheVariants.{OutOfMemory}
 use Rattle.clap.specs.declared.parser.matches.Found.{Found}
-use Rattle.clap.proofs.WalkLemmas.{first_value-rows}
+use Rattle.clap.proofs.WalkLemmas.{first_value-rows, raw_values-rows}
 use Rattle.clap.proofs.OnLiterals.{clap_on_literals}
 use Rattle.yapp_words.specs.Application.{IsArgument, IsCommand, yanglive}
-use Rattle.yapp_words.specs.Command.{Declines, Explains, Takes, TakesFit, asked_by, asked_of, asks_help, drawing_by, explained_by, faults_of, is_help, misuse_fault, named_stream, reads_input_twice, refused_twice, refused_value, unknown_format, value_of, view}
+use Rattle.yapp_words.specs.Command.{Declines, Explains, Takes, TakesFit, asked_by, asked_of, asks_help, drawing_by, explained_by, faults_of, features_in_core, is_help, misuse_fault, named_stream, reads_input_twice, refused_pair, refused_value, unfit_features, unknown_format, unknown_profile, value_of, view}
 use Rattle.yapp_words.specs.Running.{refused, shown, with_text}
 use Rattle.yapp_words.specs.declared.command.CommandLine.{CommandLine}
 use Rattle.yapp_words.specs.declared.command.NoRequest.{NoRequest}
@@ -66,21 +67,32 @@ pub names_or : (o : Option (Bor (List (Bor Text)))) (d : Bor (List (Bor Text)))
 names_or None d = refl
 names_or (Some b) d = refl
 
+-- the texts of an argument, or none
+pub given_all : (found : Found) (name : Text) (o : Option (Bor (List (Bor Text)))) (d b : Bor (List (Bor Text)))
+    → option_map (λ s. map (λ word. word.now) s.now) o ≡ option_map raw_values (matched_of found name)
+    → b ≡ unwrap_or o d → map (λ word. word.now) d.now ≡ [] → map (λ word. word.now) b.now ≡ unwrap_or (all_of name (rows_of found)) []
+given_all found name o d b is taken none = ap (λ (x : Bor (List (Bor Text))). map (λ (word : Bor Text). word.now) x.now) taken
+    ∙ (names_or o d ∙ (ap (unwrap_or (option_map (λ (s : Bor (List (Bor Text))). map (λ (word : Bor Text). word.now) s.now) o)) none
+    ∙ ap (λ (x : Option (List Text)). unwrap_or x []) (is ∙ raw_values-rows found name)))
+
 -- the text of an argument, or an empty one
 pub given : (found : Found) (name : Text) (o : Option (Bor Text)) (d b : Bor Text) → option_map (λ s. s.now) o ≡ first_value found name
     → b ≡ unwrap_or o d → d.now ≡ [] → b.now ≡ value_of name (rows_of found)
 given found name o d b is taken none = ap (λ (x : Bor Text). x.now) taken ∙ (now_or o d ∙ (ap (unwrap_or (option_map (λ s. s.now) o)) none
     ∙ ap (λ (x : Option Text). unwrap_or x []) (is ∙ first_value-rows found name)))
 
-pub edit_same : (d e : spec.Options) (a b s t : Text) (ms ns : List Text) → d ≡ e → a ≡ b → s ≡ t → ms ≡ ns → edit d a s ms ≡ edit e b t ns
-edit_same d e a b s t ms ns options documents scripts modules =
-    ap₂ (λ f n. edit f n s ms) options documents ∙ ap₂ (edit e b) scripts modules
+pub edit_same : (k l : Language) (d e : spec.Options) (a b s t : Text) (ms ns : List Text) → k ≡ l → d ≡ e → a ≡ b → s ≡ t → ms ≡ ns
+    → edit k d a s ms ≡ edit l e b t ns
+edit_same k l d e a b s t ms ns languages options documents scripts modules =
+    ap (λ j. edit j d a s ms) languages ∙ (ap₂ (λ f n. edit l f n s ms) options documents ∙ ap₂ (edit l e b) scripts modules)
 
-pub validate_same : (d e : spec.Options) (a b : Text) (ms ns : List Text) → d ≡ e → a ≡ b → ms ≡ ns → validate d a ms ≡ validate e b ns
-validate_same d e a b ms ns options documents modules = ap₂ (λ f n. validate f n ms) options documents ∙ ap (validate e b) modules
+pub validate_same : (k l : Language) (d e : spec.Options) (a b : Text) (ms ns : List Text) → k ≡ l → d ≡ e → a ≡ b → ms ≡ ns
+    → validate k d a ms ≡ validate l e b ns
+validate_same k l d e a b ms ns languages options documents modules =
+    ap₂ (λ j f. validate j f a ms) languages options ∙ ap₂ (validate l e) documents modules
 
-pub drawing_same : (a b : Bool) (n m : Text) (xs ys : List Text) → a ≡ b → n ≡ m → xs ≡ ys → drawing_by a n xs ≡ drawing_by b m ys
-drawing_same a b n m xs ys all names modules = ap₂ (λ c k. drawing_by c k xs) all names ∙ ap (drawing_by b m) modules
+pub drawing_same : (a b : Bool) (k l : Language) (n m : Text) (xs ys : List Text) → a ≡ b → k ≡ l → n ≡ m → xs ≡ ys → drawing_by a k n xs ≡ drawing_by b l m ys
+drawing_same a b k l n m xs ys all languages names modules = ap₂ (λ c j. drawing_by c j n xs) all languages ∙ ap₂ (drawing_by b l) names modules
 
 -- the text of an option, if it is given
 pub given_first : (found : Found) (name : Text) (o : Option (Bor Text)) → option_map (λ s. s.now) o ≡ first_value found name
@@ -96,7 +108,7 @@ pub asked_some : (o : Option (Text × List Row)) (name : Text) (rows : List Row)
 asked_some None name rows e f = cc
 asked_some (Some p) name rows e f = ap₂ (λ (n : Option Text) (r : Option (List Row)). asked_of (unwrap_or n name) (unwrap_or r rows)) e f
 
-pub asked_none : (o : Option (Text × List Row)) → None ≡ option_map (λ p. p.1) o → compile [] ≡ asked_by o
+pub asked_none : (o : Option (Text × List Row)) → None ≡ option_map (λ p. p.1) o → compile core [] ≡ asked_by o
 asked_none None e = refl
 asked_none (Some p) e = cc
 
@@ -122,13 +134,27 @@ declined_first [] others none.Memory is = tt
 declined_first (kind ∷ kinds) others a is = is
 
 -- what is misused is refused by none of the causes that are help
-misused : (format stream : Option Text) (is_twice : Bool) (text : _)
-    → (or_else (refused_value format) (or_else (refused_value stream) (refused_twice is_twice)) ≡ [] → ⊥)
-    → Declines (or_else (refused_value format) (or_else (refused_value stream) (refused_twice is_twice))) (none.Refused text)
-misused None None false text is = absurd (is refl)
-misused None None true text is = ((λ e. cc), refl)
-misused None (Some name) is_twice text is = ((λ e. cc), refl)
-misused (Some name) stream is_twice text is = ((λ e. cc), refl)
+abbrev IsRefused : Kinds → Type 0
+IsRefused kinds = (text : _) → (kinds ≡ [] → ⊥) → Declines kinds (none.Refused text)
+
+refused_first : (kinds others : Kinds) → IsRefused kinds → IsRefused others → IsRefused (or_else kinds others)
+refused_first [] others first second = second
+refused_first (kind ∷ kinds) others first second = first
+
+value_refused : (o : Option Text) → IsRefused (refused_value o)
+value_refused None text is = absurd (is refl)
+value_refused (Some name) text is = ((λ e. cc), refl)
+
+pair_refused : (b : Bool) → IsRefused (refused_pair b)
+pair_refused false text is = absurd (is refl)
+pair_refused true text is = ((λ e. cc), refl)
+
+misused : (command : Option (Text × List Row)) → IsRefused (misuse_fault command)
+misused command =
+    refused_first _ _ (value_refused (unknown_format command))
+    (refused_first _ _
+    (refused_first _ _ (value_refused (unknown_profile command)) (refused_first _ _ (value_refused (unfit_features command)) (pair_refused (features_in_core command))))
+    (refused_first _ _ (value_refused (named_stream command)) (pair_refused (reads_input_twice command))))
 
 -- what clap takes is taken, but for what is misused
 pub taken_fit : (words : List Text) (command : Option (Text × List Row)) (r : Result CommandLine NoRequest)
@@ -141,7 +167,7 @@ taken_fit words command (Ok line) none named takes = (
 taken_fit words command (Err (none.Help text)) none named takes = absurd takes
 taken_fit words command (Err (none.Refused text)) none_wrong named takes =
     subst (λ kinds. Declines kinds (none.Refused text)) (sym (ap₂ or_else none_wrong (ap misuse_fault named)))
-    (misused (unknown_format command) (named_stream command) (reads_input_twice command) text takes)
+    (misused command text takes)
 taken_fit words command (Err none.Memory) none_wrong named takes = tt
 
 pub declined_by_memory : (words : List Text) (r : Result CommandLine NoRequest) → IsErrAnd r (λ e. e ≡ none.Memory) → Takes words r

@@ -1,2 +1,3 @@
+pub mod LanguageLemmas
 pub mod CommandLemmas
 pub mod HelpLemmas

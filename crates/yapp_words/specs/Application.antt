@@ -3,7 +3,7 @@ use Rattle.std.specs.Prelude.{◌≡◌, codes, false, true, Some}
 use Rattle.clap.specs.Lexer.{usize_max}
 use Rattle.clap.specs.Words.{App, Rule, Shape, Text, app_of, new_app, new_rule, rule_of, with_rule, with_subcommand}
 use Rattle.clap.specs.Simple.{on_top}
-use Rattle.clap.specs.declared.builder.action.ArgAction.TheVariants.{Set, SetTrue}
+use Rattle.clap.specs.declared.builder.action.ArgAction.TheVariants.{Append, Set, SetTrue}
 use Rattle.clap.specs.declared.builder.arg.Arg.{Arg}
 use Rattle.clap.specs.declared.builder.command.Command.{Command}
 use Rattle.clap.specs.declared.builder.command.Command.TheViews.{out-Command}
@@ -28,15 +28,19 @@ flag name = record (new_rule name) { long = Some name; action = Some SetTrue }
 abbrev pub option : Text → Rule
 option name = record (new_rule name) { long = Some name; action = Some Set; value_names = 1 }
 
--- a command over files, of which each takes `--explain`
-abbrev pub over_files : Text → App
-over_files name = with_rule (new_app name) (flag (codes "explain"))
+-- one that may be given again, as `--features net:ssh`
+abbrev pub repeated : Text → Rule
+repeated name = record (option name) { action = Some Append }
 
--- `compile [--explain] MODULE..`
+-- a command over files, of which each takes `--explain`, `--profile` and `--features`
+abbrev pub over_files : Text → App
+over_files name = with_rule (with_rule (with_rule (new_app name) (flag (codes "explain"))) (option (codes "profile"))) (repeated (codes "features"))
+
+-- `compile [--explain] [--profile PROFILE] [--features MODULE:FEATURES].. MODULE..`
 abbrev pub compile_app : App
 compile_app = with_rule (over_files (codes "compile")) (wanted_all (codes "MODULE"))
 
--- `tree [--explain] [--all] NAME [MODULE..]`
+-- `tree ..` with these, `[--all] NAME [MODULE..]`
 abbrev pub tree_app : App
 tree_app = with_rule (with_rule (with_rule (over_files (codes "tree")) (flag (codes "all"))) (wanted (codes "NAME"))) (any_number (codes "MODULE"))
 
@@ -45,11 +49,11 @@ abbrev pub over_document : Text → App
 over_document name =
     with_rule (with_rule (with_rule (over_files name) (flag (codes "strict"))) (flag (codes "config"))) (option (codes "format"))
 
--- `validate [--explain] [--strict] [--config] [--format FORMAT] DATA MODULE..`
+-- `validate ..` with these, `[--strict] [--config] [--format FORMAT] DATA MODULE..`
 abbrev pub validate_app : App
 validate_app = with_rule (with_rule (over_document (codes "validate")) (wanted (codes "DATA"))) (wanted_all (codes "MODULE"))
 
--- `edit [--explain] [--strict] [--config] [--format FORMAT] [--dump] [--output FILE] DATA SCRIPT MODULE..`
+-- `edit ..` with these, `[--strict] [--config] [--format FORMAT] [--dump] [--output FILE] DATA SCRIPT MODULE..`
 abbrev pub edit_app : App
 edit_app = with_rule (with_rule (with_rule (with_rule (with_rule (over_document (codes "edit")) (flag (codes "dump")))
     (option (codes "output"))) (wanted (codes "DATA"))) (wanted (codes "SCRIPT"))) (wanted_all (codes "MODULE"))

@@ -2,13 +2,16 @@
 use Rattle.std.specs.Prelude.{◌≡◌, ◌&&◌, ◌||◌, not, Bool, true, false, List, [], ◌∷◌, map, codes, Option, Some, None, option_map, unwrap_or, Result, Ok, Err, if◌then◌else◌}
 use Rattle.std.specs.List.{list_any}
 use Rattle.std.specs.Str.{bytes_eq}
+use Rattle.yspec_wide.specs.Language.{Language, core}
 use Rattle.yspec_run.specs.Output as spec
 use Rattle.yspec_run.specs.Output.{explain, compile, draw, draw_all, validate, edit}
 use Rattle.clap.specs.Kinds.{or_else}
 use Rattle.clap.specs.Words.{Kinds, Row, Text, all_of, fault_of, first_of, subcommand_of}
 use Rattle.clap.specs.declared.error.kind.ErrorKind.{ErrorKind}
 use Rattle.clap.specs.declared.error.kind.ErrorKind.TheVariants.{ArgumentConflict, DisplayHelp, DisplayVersion, InvalidSubcommand, InvalidValue, OutOfMemory}
+use Rattle.ylink_grammar.specs.LanguageView.{language_view}
 use Rattle.yapp_words.specs.Application.{yanglive}
+use Rattle.yapp_words.specs.Languages.{chooses_in_core, choosings_of, is_profile, language_of, profile_of, unfit_choosing}
 use Rattle.yapp_words.specs.declared.command.Options.{Options}
 use Rattle.yapp_words.specs.declared.command.Request.{Request}
 use Rattle.yapp_words.specs.declared.command.Request.TheVariants as requests
@@ -60,6 +63,21 @@ abbrev pub unknown_format : Option (Text × List Row) → Option Text
 unknown_format None = None
 unknown_format (Some command) = let name = format_of command.1 in if is_format name then None else Some name
 
+-- a profile that isn't known, where they name one
+abbrev pub unknown_profile : Option (Text × List Row) → Option Text
+unknown_profile None = None
+unknown_profile (Some command) = let name = profile_of command.1 in if is_profile name then None else Some name
+
+-- a word that chooses features of no module, where they have one
+abbrev pub unfit_features : Option (Text × List Row) → Option Text
+unfit_features None = None
+unfit_features (Some command) = unfit_choosing (choosings_of command.1)
+
+-- whether they choose features under a profile without any
+abbrev pub features_in_core : Option (Text × List Row) → Bool
+features_in_core None = false
+features_in_core (Some command) = chooses_in_core command.1
+
 -- what is no file, so no document can be put in its place
 abbrev pub streams : List Text
 streams = codes "-" ∷ codes "/dev/stdout" ∷ codes "/dev/stderr" ∷ []
@@ -87,12 +105,20 @@ abbrev pub refused_value : Option Text → Kinds
 refused_value None = []
 refused_value (Some name) = InvalidValue ∷ []
 
-abbrev pub refused_twice : Bool → Kinds
-refused_twice is_twice = if is_twice then ArgumentConflict ∷ [] else []
+abbrev pub refused_pair : Bool → Kinds
+refused_pair is_pair = if is_pair then ArgumentConflict ∷ [] else []
+
+-- of the language that is named
+abbrev pub language_fault : Option (Text × List Row) → Kinds
+language_fault command = or_else (refused_value (unknown_profile command))
+    (or_else (refused_value (unfit_features command)) (refused_pair (features_in_core command)))
+
+-- of the files
+abbrev pub file_fault : Option (Text × List Row) → Kinds
+file_fault command = or_else (refused_value (named_stream command)) (refused_pair (reads_input_twice command))
 
 abbrev pub misuse_fault : Option (Text × List Row) → Kinds
-misuse_fault command = or_else (refused_value (unknown_format command))
-    (or_else (refused_value (named_stream command)) (refused_twice (reads_input_twice command)))
+misuse_fault command = or_else (refused_value (unknown_format command)) (or_else (language_fault command) (file_fault command))
 
 -- why words are refused as they stand, or answered with a text in their place: empty where they are taken
 abbrev pub faults_of : List Text → Kinds
@@ -119,22 +145,22 @@ abbrev pub explanation_of : List Row → spec.Request
 explanation_of rows = explain (unwrap_or (all_of (codes "CODE") rows) [])
 
 abbrev pub compilation_of : List Row → spec.Request
-compilation_of rows = compile (modules_of rows)
+compilation_of rows = compile (language_of rows) (modules_of rows)
 
 -- a word alone is the file of the module to draw
-abbrev pub drawing_by : Bool → Text → List Text → spec.Request
-drawing_by true name modules = draw_all (name ∷ modules)
-drawing_by false name [] = draw_all (name ∷ [])
-drawing_by false name (first ∷ others) = draw name (first ∷ others)
+abbrev pub drawing_by : Bool → Language → Text → List Text → spec.Request
+drawing_by true language name modules = draw_all language (name ∷ modules)
+drawing_by false language name [] = draw_all language (name ∷ [])
+drawing_by false language name (first ∷ others) = draw language name (first ∷ others)
 
 abbrev pub drawing_of : List Row → spec.Request
-drawing_of rows = drawing_by (is_given (codes "all") rows) (value_of (codes "NAME") rows) (modules_of rows)
+drawing_of rows = drawing_by (is_given (codes "all") rows) (language_of rows) (value_of (codes "NAME") rows) (modules_of rows)
 
 abbrev pub validation_of : List Row → spec.Request
-validation_of rows = validate (options_of rows) (value_of (codes "DATA") rows) (modules_of rows)
+validation_of rows = validate (language_of rows) (options_of rows) (value_of (codes "DATA") rows) (modules_of rows)
 
 abbrev pub edition_of : List Row → spec.Request
-edition_of rows = edit (options_of rows) (value_of (codes "DATA") rows)
+edition_of rows = edit (language_of rows) (options_of rows) (value_of (codes "DATA") rows)
     (value_of (codes "SCRIPT") rows) (modules_of rows)
 
 -- what the command of a name asks for
@@ -146,7 +172,7 @@ asked_of name rows = if bytes_eq name (codes "explain") then explanation_of rows
 
 -- what a subcommand and its arguments ask for; taken words name one
 abbrev pub asked_by : Option (Text × List Row) → spec.Request
-asked_by None = compile []
+asked_by None = compile core []
 asked_by (Some command) = asked_of command.0 command.1
 
 -- what taken words ask for
@@ -174,12 +200,13 @@ options_view o = record {
 
 abbrev pub view : Request → spec.Request
 view (requests.Explain names) = explain (map (λ name. name.now) names.items)
-view (requests.Compile modules) = compile (map (λ name. name.now) modules.items)
-view (requests.Tree name modules) = draw name.now (map (λ name. name.now) modules.items)
-view (requests.Trees modules) = draw_all (map (λ name. name.now) modules.items)
-view (requests.Validate options document modules) = validate (options_view options) document.now (map (λ name. name.now) modules.items)
-view (requests.Edit options document script modules) =
-    edit (options_view options) document.now script.now (map (λ name. name.now) modules.items)
+view (requests.Compile language modules) = compile (language_view language) (map (λ name. name.now) modules.items)
+view (requests.Tree language name modules) = draw (language_view language) name.now (map (λ name. name.now) modules.items)
+view (requests.Trees language modules) = draw_all (language_view language) (map (λ name. name.now) modules.items)
+view (requests.Validate language options document modules) =
+    validate (language_view language) (options_view options) document.now (map (λ name. name.now) modules.items)
+view (requests.Edit language options document script modules) =
+    edit (language_view language) (options_view options) document.now script.now (map (λ name. name.now) modules.items)
 
 -- ---- what comes in place of a request
 
@@ -230,6 +257,13 @@ TakesFit command (Ok line) = (misuse_fault command ≡ []) × (view line.request
 TakesFit command (Err (none.Help text)) = ⊥
 TakesFit command (Err (none.Refused text)) = misuse_fault command ≡ [] → ⊥
 TakesFit command (Err none.Memory) = Unit {0}
+
+-- a refusal of what is misused, of these causes; none where there is no cause
+abbrev pub Refuses : Kinds → Option NoRequest → Type 0
+Refuses kinds None = kinds ≡ []
+Refuses kinds (Some (none.Help text)) = ⊥
+Refuses kinds (Some (none.Refused text)) = kinds ≡ [] → ⊥
+Refuses kinds (Some none.Memory) = Unit {0}
 
 -- words by what they mean
 abbrev pub Understands : List Text → Result CommandLine NoRequest → Type 0

@@ -1,3 +1,4 @@
 pub mod Application
+pub mod Languages
 pub mod Command
 pub mod Running

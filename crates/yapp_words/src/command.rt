@@ -3,15 +3,18 @@
 ghost use Rattle.std.specs.Prelude.{◌≡◌, [], ◌∷◌, codes, map, string_bytes, true, IfOk, option_map};
 ghost use Rattle.std.specs.Str.{bytes_eq};
 ghost use Rattle.clap.specs.Words.{app_of, fault_of, first_of, found_of, kind_of, rows_of, subcommand_rows_of};
-ghost use Rattle.yapp_words.specs.Application.{IsArgument, IsCommand, any_number, compile_app, edit_app, explain_app, flag, option, over_document, over_files, tree_app, validate_app, wanted, wanted_all, yanglive};
+ghost use Rattle.yapp_words.specs.Application.{IsArgument, IsCommand, any_number, compile_app, edit_app, explain_app, flag, option, over_document, over_files, repeated, tree_app, validate_app, wanted, wanted_all, yanglive};
 ghost use Rattle.yapp_words.specs.Command as spec;
-ghost use Rattle.yapp_words.specs.Command.{Declines, Explains, IsRefusal, Takes, TakesFit, Understands, asks_help, asked_by, asked_of, compilation_of, drawing_of, edition_of, explained_by, explanation_of, format_of, is_given, modules_of, options_of, options_view, validation_of, value_of, view};
+ghost use Rattle.ylink_grammar.specs.LanguageView.{language_view};
+ghost use Rattle.yapp_words.specs.Command.{Declines, Explains, IsRefusal, Refuses, Takes, TakesFit, Understands, asks_help, asked_by, asked_of, compilation_of, drawing_of, edition_of, explained_by, explanation_of, file_fault, format_of, language_fault, is_given, modules_of, options_of, options_view, validation_of, value_of, view};
 ghost use Rattle.yapp_words.specs.declared.command.NoRequest.TheVariants.{Memory};
 
+use crate::language::{chooses_in_core, is_profile, language_in, profile_in, unfit_choosing_in};
 use clap::error::ErrorKind;
 use clap::{Arg, ArgAction, ArgMatches, Command};
 use std::alloc::{AllocError, Global};
 use thiserror::Error;
+use ylink_grammar::Language;
 
 /// What a command line asks for, and whether the reasons of what is told are wanted too.
 #[derive(Debug, Drop)]
@@ -35,7 +38,7 @@ pub struct Options<'a> {
     pub saved_as: Option<&'a str>,
 }
 
-/// What a command asks for. Files are named by the words that were given.
+/// What a command asks for. Files are named by the words that were given, and modules are read in a language.
 #[derive(Debug, Drop)]
 pub enum Request<'a> {
     /// What is said of codes; of all where none is named.
@@ -44,25 +47,30 @@ pub enum Request<'a> {
     },
     /// How many nodes modules define.
     Compile {
+        language: Language,
         modules: Vec<&'a str>,
     },
     /// The tree diagram of the module of a name.
     Tree {
+        language: Language,
         name: &'a str,
         modules: Vec<&'a str>,
     },
     /// Those of all modules.
     Trees {
+        language: Language,
         modules: Vec<&'a str>,
     },
     /// The faults of a document under modules.
     Validate {
+        language: Language,
         options: Options<'a>,
         document: &'a str,
         modules: Vec<&'a str>,
     },
     /// The same after the edits of a script.
     Edit {
+        language: Language,
         options: Options<'a>,
         document: &'a str,
         script: &'a str,
@@ -96,7 +104,8 @@ const VERSION: &str = "0.1.0";
 
 /// What `compile` says at the end of its help.
 const COMPILE_HELP: &str = "Prints how many schema nodes the modules define, as `3 nodes`.
-A refused module is told as FILE:LINE: CODE, L1 to L8 of its text, C1 to C18 of its statements; `yanglive explain CODE` says what it means.
+A refused module is told as FILE:LINE: CODE, L1 to L8 of its text, C1 to C18 and C22 of its statements; `yanglive explain CODE` says what it means.
+With --profile rfc modules of YANG 1 are taken too, and what rests on a feature that is off isn't there. --features net:ssh,ntp has these two of module net on, --features net: none; of a module that is named twice the first counts.
 
 Exit status:
   0  The modules compile
@@ -122,7 +131,7 @@ Example: yanglive tree net net.yang";
 const VALIDATE_HELP: &str =
     "Prints a line for each fault, and then how many there are, as `0 faults`. The line has the code (V1 to V11, with --config V12), error-tag, error-app-tag, path, and the choice (V4, V5) or the number of the unique (V9), or - for none; [N] in a path is the position of an entry or item, from 1. With --format json a fault is an object on a line of its own, in the words of RESTCONF (RFC 8040, 7.1), and so are their number and what is refused, which stays a line on the error side too.
 With --config the nodes of state (config false) are left out: none is wanted, and what is stored of one is told as V12, once for each schema node and row.
-A refused module is told as FILE:LINE: CODE (L1 to L8, C1 to C18), a refused document as FILE: CODE PATH (J1 to J7, with --strict J8); `yanglive explain CODE` says what it means.
+A refused module is told as FILE:LINE: CODE (L1 to L8, C1 to C18, C22), a refused document as FILE: CODE PATH (J1 to J7, with --strict J8); `yanglive explain CODE` says what it means.
 
 Exit status:
   0  There is no fault
@@ -175,6 +184,32 @@ Exit status:
 
 Example: yanglive explain C5 V11";
 
+/// `--profile PROFILE`
+fn profile_argument<'a>(alloc: Global) -> Arg<'a>
+    ensures { IsArgument (option (codes "profile")) result }
+{
+    Arg::new(alloc, "profile")
+        .long("profile")
+        .action(ArgAction::Set)
+        .value_name("PROFILE")
+        .help(
+            "How modules are read: core, as YANG 1.1 without features, or rfc, as YANG 1 and 1.1 with features",
+        )
+}
+
+/// `--features MODULE:FEATURES`
+fn features_argument<'a>(alloc: Global) -> Arg<'a>
+    ensures { IsArgument (repeated (codes "features")) result }
+{
+    Arg::new(alloc, "features")
+        .long("features")
+        .action(ArgAction::Append)
+        .value_name("MODULE:FEATURES")
+        .help(
+            "Under --profile rfc the features of a module that are on, with commas between; all are of a module that isn't named",
+        )
+}
+
 /// `--explain`
 fn explain_argument<'a>(alloc: Global) -> Arg<'a>
     ensures { IsArgument (flag (codes "explain")) result }
@@ -197,7 +232,9 @@ fn command_over_files<'a>(
     Command::new(alloc, name)
         .about(about)
         .after_help(help)
-        .arg(explain_argument(alloc))
+        .arg(explain_argument(alloc))?
+        .arg(profile_argument(alloc))?
+        .arg(features_argument(alloc))
 }
 
 /// The modules, which are the last words of each command over files.
@@ -205,7 +242,7 @@ fn modules_argument<'a>(alloc: Global) -> Arg<'a>
     ensures { IsArgument (wanted_all (codes "MODULE")) result }
 {
     Arg::new(alloc, "MODULE")
-        .help("The files of the modules, in YANG 1.1")
+        .help("The files of the modules")
         .required(true)
         .num_args(1..)
 }
@@ -265,7 +302,7 @@ fn document_argument<'a>(alloc: Global) -> Arg<'a>
         .required(true)
 }
 
-/// `compile [--explain] MODULE..`
+/// `compile [--explain] [--profile PROFILE] [--features MODULE:FEATURES].. MODULE..`
 fn compile_command<'a>(alloc: Global) -> Result<Command<'a>, AllocError>
     ensures { IfOk result (IsCommand compile_app) }
 {
@@ -302,11 +339,11 @@ fn other_modules_argument<'a>(alloc: Global) -> Arg<'a>
     ensures { IsArgument (any_number (codes "MODULE")) result }
 {
     Arg::new(alloc, "MODULE")
-        .help("The files of the modules, in YANG 1.1")
+        .help("The files of the modules")
         .num_args(0..)
 }
 
-/// `tree [--explain] [--all] NAME [MODULE..]`
+/// `tree ..` with these, `[--all] NAME [MODULE..]`
 fn tree_command<'a>(alloc: Global) -> Result<Command<'a>, AllocError>
     ensures { IfOk result (IsCommand tree_app) }
 {
@@ -321,7 +358,7 @@ fn tree_command<'a>(alloc: Global) -> Result<Command<'a>, AllocError>
     .arg(other_modules_argument(alloc))
 }
 
-/// `validate [--explain] [--strict] [--config] [--format FORMAT] DATA MODULE..`
+/// `validate ..` with these, `[--strict] [--config] [--format FORMAT] DATA MODULE..`
 fn validate_command<'a>(alloc: Global) -> Result<Command<'a>, AllocError>
     ensures { IfOk result (IsCommand validate_app) }
 {
@@ -365,7 +402,7 @@ fn output_argument<'a>(alloc: Global) -> Arg<'a>
         .help("Writes the edited document to FILE, once all else is printed")
 }
 
-/// `edit [--explain] [--strict] [--config] [--format FORMAT] [--dump] [--output FILE] DATA SCRIPT MODULE..`
+/// `edit ..` with these, `[--strict] [--config] [--format FORMAT] [--dump] [--output FILE] DATA SCRIPT MODULE..`
 fn edit_command<'a>(alloc: Global) -> Result<Command<'a>, AllocError>
     ensures { IfOk result (IsCommand edit_app) }
 {
@@ -406,9 +443,7 @@ fn application<'a>(alloc: Global) -> Result<Command<'a>, AllocError>
     ensures { IfOk result (λ c. app_of c ≡ yanglive) }
 {
     Command::new(alloc, "yanglive")
-        .about(
-            "Compiles and draws YANG 1.1 modules, and checks and edits JSON documents under them",
-        )
+        .about("Compiles and draws YANG modules, and checks and edits JSON documents under them")
         .version(VERSION)
         .disable_help_subcommand(true)
         .subcommand_required(true)
@@ -473,23 +508,29 @@ fn explanation_in<'a>(alloc: Global, found: &ArgMatches<'a>) -> Result<Request<'
 fn compilation_in<'a>(alloc: Global, found: &ArgMatches<'a>) -> Result<Request<'a>, AllocError>
     ensures { IfOk result (λ r. view r ≡ compilation_of (rows_of (found_of found.now))) }
 {
+    let language = language_in(alloc, found)?;
     let modules = modules_in(alloc, found)?;
-    Ok(Request::Compile { modules })
+    Ok(Request::Compile { language, modules })
 }
 
 /// What is drawn: all modules where that is asked for, or where a word stands alone, which is a module's file then.
 fn drawing_by<'a>(
     of_all: bool,
+    language: Language,
     name: &'a str,
     mut modules: Vec<&'a str>,
 ) -> Result<Request<'a>, AllocError>
-    ensures { IfOk result (λ r. view r ≡ spec.drawing_by of_all name.entry.now (map (λ n. n.now) modules.entry.items)) }
+    ensures { IfOk result (λ r. view r ≡ spec.drawing_by of_all (language_view language) name.entry.now (map (λ n. n.now) modules.entry.items)) }
 {
     if of_all || modules.is_empty() {
         modules.insert(0, name)?;
-        return Ok(Request::Trees { modules });
+        return Ok(Request::Trees { language, modules });
     }
-    Ok(Request::Tree { name, modules })
+    Ok(Request::Tree {
+        language,
+        name,
+        modules,
+    })
 }
 
 /// What the arguments of `tree` ask for.
@@ -497,8 +538,9 @@ fn drawing_in<'a>(alloc: Global, found: &ArgMatches<'a>) -> Result<Request<'a>, 
     ensures { IfOk result (λ r. view r ≡ drawing_of (rows_of (found_of found.now))) }
 {
     let name = found.get_str("NAME").unwrap_or("");
+    let language = language_in(alloc, found)?;
     let modules = modules_in(alloc, found)?;
-    drawing_by(has_flag(found, "all"), name, modules)
+    drawing_by(has_flag(found, "all"), language, name, modules)
 }
 
 /// What the arguments of `validate` ask for.
@@ -507,8 +549,10 @@ fn validation_in<'a>(alloc: Global, found: &ArgMatches<'a>) -> Result<Request<'a
 {
     let options = options_in(found);
     let document = found.get_str("DATA").unwrap_or("");
+    let language = language_in(alloc, found)?;
     let modules = modules_in(alloc, found)?;
     Ok(Request::Validate {
+        language,
         options,
         document,
         modules,
@@ -522,8 +566,10 @@ fn edition_in<'a>(alloc: Global, found: &ArgMatches<'a>) -> Result<Request<'a>, 
     let options = options_in(found);
     let document = found.get_str("DATA").unwrap_or("");
     let script = found.get_str("SCRIPT").unwrap_or("");
+    let language = language_in(alloc, found)?;
     let modules = modules_in(alloc, found)?;
     Ok(Request::Edit {
+        language,
         options,
         document,
         script,
@@ -562,6 +608,7 @@ fn line_in<'a>(alloc: Global, matches: &ArgMatches<'a>) -> Result<CommandLine<'a
         }),
         None => Ok(CommandLine {
             request: Request::Compile {
+                language: Language::Core,
                 modules: Vec::new(alloc),
             },
             with_reasons: false,
@@ -591,6 +638,43 @@ fn is_format(name: &str) -> bool
     ensures { result ≡ spec.is_format name.now }
 {
     name == "text" || name == "json"
+}
+
+/// A profile that isn't known.
+fn unknown_profile<'a>(matches: &ArgMatches<'a>) -> Option<&'a str>
+    ensures { option_map (λ name. name.now) result ≡ spec.unknown_profile (subcommand_rows_of matches.now) }
+{
+    match matches.subcommand() {
+        Some((_, found)) => {
+            let profile = profile_in(found);
+            if is_profile(profile) {
+                None
+            } else {
+                Some(profile)
+            }
+        }
+        None => None,
+    }
+}
+
+/// A word that chooses features of no module.
+fn unfit_features<'a>(matches: &ArgMatches<'a>) -> Option<&'a str>
+    ensures { option_map (λ word. word.now) result ≡ spec.unfit_features (subcommand_rows_of matches.now) }
+{
+    match matches.subcommand() {
+        Some((_, found)) => unfit_choosing_in(found),
+        None => None,
+    }
+}
+
+/// Whether features are chosen under a profile without any.
+fn features_in_core(matches: &ArgMatches<'_>) -> bool
+    ensures { result ≡ spec.features_in_core (subcommand_rows_of matches.now) }
+{
+    match matches.subcommand() {
+        Some((_, found)) => chooses_in_core(found),
+        None => false,
+    }
 }
 
 /// A stream that is named for the edited document.
@@ -649,6 +733,33 @@ fn format_refusal(alloc: Global, format: &str) -> NoRequest
     ))
 }
 
+/// The refusal of a profile that isn't known.
+fn profile_refusal(alloc: Global, profile: &str) -> NoRequest
+    ensures { IsRefusal result }
+{
+    refusal(format!(in alloc;
+        "error: invalid value '{profile}' for '--profile <PROFILE>'\n  [possible values: core, rfc]\n\nFor more information, try '--help'.\n"
+    ))
+}
+
+/// The refusal of a word that chooses features of no module.
+fn features_refusal(alloc: Global, word: &str) -> NoRequest
+    ensures { IsRefusal result }
+{
+    refusal(format!(in alloc;
+        "error: '--features {word}' names no module: write MODULE:FEATURES, as net:ssh,ntp\n\nFor more information, try '--help'.\n"
+    ))
+}
+
+/// The refusal of features under a profile without any.
+fn core_refusal(alloc: Global) -> NoRequest
+    ensures { IsRefusal result }
+{
+    refusal(format!(in alloc;
+        "error: the profile core has no features: '--features' stands with '--profile rfc'\n\nFor more information, try '--help'.\n"
+    ))
+}
+
 /// The refusal of a stream for the edited document.
 fn stream_refusal(alloc: Global, name: &str) -> NoRequest
     ensures { IsRefusal result }
@@ -676,6 +787,35 @@ fn command_refusal(alloc: Global, name: &str) -> NoRequest
     ))
 }
 
+/// The refusal of a language that can't be named so, where one is.
+fn language_refusal(alloc: Global, matches: &ArgMatches<'_>) -> Option<NoRequest>
+    ensures { Refuses (language_fault (subcommand_rows_of matches.now)) result }
+{
+    if let Some(profile) = unknown_profile(matches) {
+        return Some(profile_refusal(alloc, profile));
+    }
+    if let Some(word) = unfit_features(matches) {
+        return Some(features_refusal(alloc, word));
+    }
+    if features_in_core(matches) {
+        return Some(core_refusal(alloc));
+    }
+    None
+}
+
+/// The refusal of files that can't be named so, where some are.
+fn file_refusal(alloc: Global, matches: &ArgMatches<'_>) -> Option<NoRequest>
+    ensures { Refuses (file_fault (subcommand_rows_of matches.now)) result }
+{
+    if let Some(name) = named_stream(matches) {
+        return Some(stream_refusal(alloc, name));
+    }
+    if reads_input_twice(matches) {
+        return Some(input_refusal(alloc));
+    }
+    None
+}
+
 /// What words ask for that clap takes.
 fn line_or_refusal<'a>(
     alloc: Global,
@@ -686,11 +826,11 @@ fn line_or_refusal<'a>(
     if let Some(format) = unknown_format(matches) {
         return Err(format_refusal(alloc, format));
     }
-    if let Some(name) = named_stream(matches) {
-        return Err(stream_refusal(alloc, name));
+    if let Some(refusal) = language_refusal(alloc, matches) {
+        return Err(refusal);
     }
-    if reads_input_twice(matches) {
-        return Err(input_refusal(alloc));
+    if let Some(refusal) = file_refusal(alloc, matches) {
+        return Err(refusal);
     }
     Ok(line_in(alloc, matches)?)
 }

@@ -2,5 +2,6 @@
 #![tactic(auto)]
 
 mod command;
+mod language;
 
 pub use command::{CommandLine, NoRequest, Options, Request, read_words};

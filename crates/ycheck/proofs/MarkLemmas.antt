@@ -54,18 +54,18 @@ module _ (schema : Schema) (xs : List tree.Stored) (i : ℕ) (s : tree.Stored) (
   entries_marked tuples u v [] same = refl
   entries_marked tuples u v (x ∷ rest) same = ap₂ ◌∷◌ (entry_marked tuples u v same) (entries_marked tuples (u + 1) (suc v) rest (omega (arith, same)))
 
-  item_marked : (type : YangType) (config : Bool) → marks_at i (cond config (marks same_value (values_of type xs) ∷ []) []) ≡ cond config (has_item_twice type (row_view xs) (view s).0 ∷ []) []
+  item_marked : (type : YangType) (distinct : Bool) → marks_at i (cond distinct (marks same_value (values_of type xs) ∷ []) []) ≡ cond distinct (has_item_twice type (row_view xs) (view s).0 ∷ []) []
   item_marked type true = ap (λ b. b ∷ []) (marked same_value (λ r b. item_value type r) xs i s within is)
   item_marked type false = refl
 
   -- the answers for one instance
-  pub marks_are : (kind : Kind) (config : Bool) → marks_at i (table_of schema kind config xs) ≡ marks_of schema kind config (row_view xs) (view s).0 (view s).1
-  marks_are (list tuples amount) config = ap₂ ◌∷◌ (entry_marked tuples 0 0 refl) (entries_marked tuples 1 1 tuples.uniques refl)
-  marks_are (leaf_list type defaults amount) config = item_marked type.type config
-  marks_are (container presence) config = refl
-  marks_are (leaf type absence) config = refl
-  marks_are (choice default_case is_mandatory) config = refl
-  marks_are case config = refl
+  pub marks_are : (kind : Kind) (distinct : Bool) → marks_at i (table_of schema kind distinct xs) ≡ marks_of schema kind distinct (row_view xs) (view s).0 (view s).1
+  marks_are (list tuples amount) distinct = ap₂ ◌∷◌ (entry_marked tuples 0 0 refl) (entries_marked tuples 1 1 tuples.uniques refl)
+  marks_are (leaf_list type defaults amount) distinct = item_marked type.type distinct
+  marks_are (container presence) distinct = refl
+  marks_are (leaf type absence) distinct = refl
+  marks_are (choice default_case is_mandatory) distinct = refl
+  marks_are case distinct = refl
 
 -- ---- the table of a list
 

@@ -144,16 +144,16 @@ module _ (told times : Times) (schema : Schema) (n : SchemaNode) (t : Tree) wher
       (λ r c is. ap (λ o. cond (is_value v o) 1 0) (has r is)))
 
   item_told : (type : LeafType) (defaults : List Val) (amount : Amount) → HasValues (leaf_list type defaults amount) → (raw : Raw) (s : Stored) → s.value ≡ Some raw
-      → item_twice (row_times schema t) n type raw ≡ marks_told true 0 (cond n.config (has_item_twice type.type found s ∷ []) [])
-  item_told type defaults amount has raw s is = by n.config (taken type.type raw)
-      ∙ ap (λ (value : Option Raw). marks_told true 0 (cond n.config (is_repeated counted (option_and_then (taken type.type) value) ∷ []) [])) (sym is)
+      → item_twice (row_times schema t) n type raw ≡ marks_told true 0 (cond n.distinct_items (has_item_twice type.type found s ∷ []) [])
+  item_told type defaults amount has raw s is = by n.distinct_items (taken type.type raw)
+      ∙ ap (λ (value : Option Raw). marks_told true 0 (cond n.distinct_items (is_repeated counted (option_and_then (taken type.type) value) ∷ []) [])) (sym is)
     where
       counted : Val → ℕ
       counted = λ v. weigh_row (λ r c. cond (is_value v (item_value type.type r)) 1 0) found
 
-      by : (config : Bool) (o : Option Val)
-          → cond config (option_map_or (λ v. cond (ltb 1 (items_in schema t n.number v)) (plain_fault V10 [] ∷ []) []) o []) []
-          ≡ marks_told true 0 (cond config (is_repeated counted o ∷ []) [])
+      by : (distinct : Bool) (o : Option Val)
+          → cond distinct (option_map_or (λ v. cond (ltb 1 (items_in schema t n.number v)) (plain_fault V10 [] ∷ []) []) o []) []
+          ≡ marks_told true 0 (cond distinct (is_repeated counted o ∷ []) [])
       by false o = refl
       by true None = refl
       by true (Some v) = ap (λ c. cond (ltb 1 c) (plain_fault V10 [] ∷ []) []) (item_same type defaults amount has v)
@@ -162,23 +162,23 @@ module _ (told times : Times) (schema : Schema) (n : SchemaNode) (t : Tree) wher
   -- the faults of its own that an instance has
   own_told : (kind : Kind) → HasTuples kind → HasValues kind → Agree told times kind → (s : Stored) (b : Tree) → s.schema_number ≡ n.number
       → own_faults times (row_times schema t) n kind s.value (tuple schema s b)
-      ≡ value_told told kind s.value ++ marks_told (has_value kind) 0 (marks_of schema kind n.config found s b)
+      ≡ value_told told kind s.value ++ marks_told (has_value kind) 0 (marks_of schema kind n.distinct_items found s b)
   own_told (container presence) tuples values agree s b same = refl
   own_told (leaf type absence) tuples values agree s b same = sym (append-nil _ ∙ value_same told times type agree s.value)
   own_told (leaf_list type defaults amount) tuples values agree s b same = by s.value refl
     where
       twice : List Fault
-      twice = marks_told true 0 (cond n.config (has_item_twice type.type found s ∷ []) [])
+      twice = marks_told true 0 (cond n.distinct_items (has_item_twice type.type found s ∷ []) [])
 
       by : (value : Option Raw) → s.value ≡ value
           → option_map_or (λ raw. value_faults times type raw ++ item_twice (row_times schema t) n type raw) value [] ≡ option_map_or (value_faults told type) value [] ++ twice
       by (Some raw) is = ap₂ ◌++◌ (sym (raw_same told times type agree raw)) (item_told type defaults amount values raw s is)
-      by None is = none n.config ∙ ap (λ (value : Option Raw). marks_told true 0 (cond n.config (is_repeated counted (option_and_then (taken type.type) value) ∷ []) [])) (sym is)
+      by None is = none n.distinct_items ∙ ap (λ (value : Option Raw). marks_told true 0 (cond n.distinct_items (is_repeated counted (option_and_then (taken type.type) value) ∷ []) [])) (sym is)
         where
           counted : Val → ℕ
           counted = λ v. weigh_row (λ r c. cond (is_value v (item_value type.type r)) 1 0) found
 
-          none : (config : Bool) → [] ≡ marks_told true 0 (cond config (is_repeated counted None ∷ []) [])
+          none : (distinct : Bool) → [] ≡ marks_told true 0 (cond distinct (is_repeated counted None ∷ []) [])
           none true = refl
           none false = refl
   own_told (list shape amount) tuples values agree s b same =
@@ -373,7 +373,7 @@ module _ (told times : Times) (schema : Schema) where
       (λ s b u is. ap (λ j. option_and_then (λ x. kind_tuple schema x.kind b u) (node_at schema j)) is ∙ ap (λ o. option_and_then (λ x. kind_tuple schema x.kind b u) o) has.0)
       (λ s is. ap (λ j. option_and_then (λ x. option_and_then (kind_value x.kind) s.value) (node_at schema j)) is ∙ ap (λ o. option_and_then (λ x. option_and_then (kind_value x.kind) s.value) o) has.0)
       agree.0 s b same) (sym (below_is b sorted_b))
-      ∙ append_assoc (value_told told n.kind s.value) (marks_told (has_value n.kind) 0 (marks_of schema n.kind n.config (instances n.number t) s b)) (inside b) in
+      ∙ append_assoc (value_told told n.kind s.value) (marks_told (has_value n.kind) 0 (marks_of schema n.kind n.distinct_items (instances n.number t) s b)) (inside b) in
       let each = each_same n.number said (instance_told told schema n n.kind inside (instances n.number t)) t sorted is_said in
       let of_data : is_data n.kind ≡ true → data_told told schema n n.kind inside (mine n.number rest)
       ≡ node_faults chosen n n.kind (stored_cases (instances_in t) below) (each_instance n.number said t) (row_faults times schema (row_times schema end) [] below end)

@@ -65,14 +65,14 @@ tuples_twice schema tuples found below u [] = []
 tuples_twice schema tuples found below u (x ∷ xs) =
     has_tuple_twice schema tuples u found below ∷ tuples_twice schema tuples found below (suc u) xs
 
--- of an entry, for the key and each `unique`, whether another has its tuple; of an item of configuration, whether
+-- of an entry, for the key and each `unique`, whether another has its tuple; of an item that may stand but once, whether
 -- another has its value
 abbrev pub marks_of : Schema → Kind → Bool → Tree → Stored → Tree → List Bool
-marks_of schema (list tuples amount) config found s below =
+marks_of schema (list tuples amount) distinct found s below =
     has_tuple_twice schema tuples 0 found below ∷ tuples_twice schema tuples found below 1 tuples.uniques
-marks_of schema (leaf_list type defaults amount) config found s below =
-    if config then has_item_twice type.type found s ∷ [] else []
-marks_of schema _ config found s below = []
+marks_of schema (leaf_list type defaults amount) distinct found s below =
+    if distinct then has_item_twice type.type found s ∷ [] else []
+marks_of schema _ distinct found s below = []
 
 -- V10 of an item; V8 and V9 of an entry
 abbrev pub repetition : Bool → ℕ → Fault
@@ -96,10 +96,10 @@ entry_table schema tuples found =
     marks same_tuple (tuples_of schema tuples 0 found) ∷ tables_from schema tuples found 1 tuples.uniques
 
 abbrev pub table_of : Schema → Kind → Bool → List tree.Stored → List (List Bool)
-table_of schema (list tuples amount) config found = entry_table schema tuples found
-table_of schema (leaf_list type defaults amount) config found =
-    if config then marks same_value (values_of type.type found) ∷ [] else []
-table_of schema _ config found = []
+table_of schema (list tuples amount) distinct found = entry_table schema tuples found
+table_of schema (leaf_list type defaults amount) distinct found =
+    if distinct then marks same_value (values_of type.type found) ∷ [] else []
+table_of schema _ distinct found = []
 
 -- the answers for the instance at a place
 abbrev pub marks_at : ℕ → List (List Bool) → List Bool
@@ -137,7 +137,7 @@ each_of said (node s below after) = said s below ∷ each_of said after
 -- what an instance tells, given what is told of a row below it
 abbrev pub instance_told : Times → Schema → SchemaNode → Kind → (Tree → List Fault) → Tree → Stored → Tree → List Fault
 instance_told times schema n kind inside found s below = value_told times kind s.value
-    ++ (marks_told (has_value kind) 0 (marks_of schema kind n.config found s below) ++ inside below)
+    ++ (marks_told (has_value kind) 0 (marks_of schema kind n.distinct_items found s below) ++ inside below)
 
 abbrev pub instances_told : Times → Schema → SchemaNode → Kind → (Tree → List Fault) → Tree → List Fault
 instances_told times schema n kind inside found =

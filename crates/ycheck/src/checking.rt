@@ -466,11 +466,11 @@ fn repeated_in(
 ) -> Result<Vec<Vec<bool>>, AllocError>
     ensures { IfOk result (λ table. map (λ marks. marks.items) table.items
         ≡ table_of (schema_view.view schema.now)
-        (kind_view node.now.kind) node.now.config found.now) }
+        (kind_view node.now.kind) node.now.distinct_items found.now) }
 {
     match &node.kind {
         Kind::List { tuples, .. } => repeated_entries(alloc, schema, tuples, found),
-        Kind::LeafList { leaf_type, .. } if node.config => {
+        Kind::LeafList { leaf_type, .. } if node.distinct_items => {
             let mut table = Vec::new(alloc);
             table.push(repeated_items(alloc, &leaf_type.value_type, found)?)?;
             Ok(table)

@@ -26,7 +26,8 @@ pub enum FaultCode {
     V8 = 8,
     /// Another entry has the same values of a `unique` (RFC 7950, 7.8.3).
     V9 = 9,
-    /// Another item of a configuration leaf-list has the same value (RFC 7950, 7.7).
+    /// Another item has the same value, where items differ: in configuration, and in state of YANG 1 (RFC 7950, 7.7; RFC
+    /// 6020, 7.7).
     V10 = 10,
     /// What a leafref refers to isn't there (RFC 7950, 9.9).
     V11 = 11,

@@ -14,7 +14,7 @@ use Rattle.yinst_path.specs.declared.binding.Bound.{Bound}
 -- what a number means that no node has: what stands in no document
 abbrev pub no_node : ℕ → SchemaNode
 no_node number =
-    record { number = number; module_number = 0; name = []; config = true; status = current; kind = case }
+    record { number = number; module_number = 0; name = []; config = true; distinct_items = true; status = current; kind = case }
 
 abbrev pub node_of : Schema → ℕ → SchemaNode
 node_of schema number = unwrap_or (node_at schema number) (no_node number)

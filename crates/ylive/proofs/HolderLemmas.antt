@@ -43,22 +43,22 @@ made_row make r None key each is = absurd (none-some key is)
 made_row make r (Some a) key each is = ap row_of (sym (same_Some (make a) key is)) ∙ each a
 
 module _ (schema : Schema) (r : Row) (s : Stored) (below : Tree) where
-  item_row : (config : Bool) (u : ℕ) (key : Key) → item_key_at schema config r s u ≡ Some key → row_of key ≡ Some r
+  item_row : (distinct : Bool) (u : ℕ) (key : Key) → item_key_at schema distinct r s u ≡ Some key → row_of key ≡ Some r
   item_row true zero key is = made_row (item_key r s.schema_number) r (value_of schema s) key (λ v. refl) is
   item_row false zero key is = absurd (none-some key is)
-  item_row config (suc u) key is = absurd (none-some key is)
+  item_row distinct (suc u) key is = absurd (none-some key is)
 
-  kind_row : (config : Bool) (kind : Kind) (u : ℕ) (key : Key) → kind_key schema config kind r s below u ≡ Some key → row_of key ≡ Some r
-  kind_row config (container presence) u key is = absurd (none-some key is)
-  kind_row config (leaf type absence) u key is = absurd (none-some key is)
-  kind_row config (leaf_list type defaults amount) u key is = item_row config u key is
-  kind_row config (list tuples amount) u key is = made_row (tuple_key r s.schema_number u) r (tuple_of_paths schema below (paths_of tuples u)) key (λ vs. refl) is
-  kind_row config (choice default_case is_mandatory) u key is = absurd (none-some key is)
-  kind_row config case u key is = absurd (none-some key is)
+  kind_row : (distinct : Bool) (kind : Kind) (u : ℕ) (key : Key) → kind_key schema distinct kind r s below u ≡ Some key → row_of key ≡ Some r
+  kind_row distinct (container presence) u key is = absurd (none-some key is)
+  kind_row distinct (leaf type absence) u key is = absurd (none-some key is)
+  kind_row distinct (leaf_list type defaults amount) u key is = item_row distinct u key is
+  kind_row distinct (list tuples amount) u key is = made_row (tuple_key r s.schema_number u) r (tuple_of_paths schema below (paths_of tuples u)) key (λ vs. refl) is
+  kind_row distinct (choice default_case is_mandatory) u key is = absurd (none-some key is)
+  kind_row distinct case u key is = absurd (none-some key is)
 
-  flagged_row : (n : Option SchemaNode) (u : ℕ) (key : Key) → option_and_then (λ (m : SchemaNode). kind_key schema m.config m.kind r s below u) n ≡ Some key → row_of key ≡ Some r
+  flagged_row : (n : Option SchemaNode) (u : ℕ) (key : Key) → option_and_then (λ (m : SchemaNode). kind_key schema m.distinct_items m.kind r s below u) n ≡ Some key → row_of key ≡ Some r
   flagged_row None u key is = absurd (none-some key is)
-  flagged_row (Some n) u key is = kind_row n.config n.kind u key is
+  flagged_row (Some n) u key is = kind_row n.distinct_items n.kind u key is
 
 -- no node of another row has it
 elsewhere : (schema : Schema) (here : Row) (key : Key) → row_of key ≡ Some here → (r : Row) (s : Stored) (below : Tree) (u : ℕ) → same_row here r ≡ false
@@ -144,25 +144,25 @@ module _ (schema : Schema) (nodes : Nodes) (held : Keys) (way : Way) (g : Branch
     made_item item None key is = absurd (none-some key is)
     made_item item (Some v) key is = subst (Counts 0) (same_Some (item_key here s.schema_number v) key is) (items_held schema here s.schema_number (tree_of g) v item)
 
-    item_counts : (config : Bool) (u : ℕ) (key : Key) → is_item schema s.schema_number ≡ config → item_key_at schema config here s u ≡ Some key → Counts u key
+    item_counts : (distinct : Bool) (u : ℕ) (key : Key) → is_item schema s.schema_number ≡ distinct → item_key_at schema distinct here s u ≡ Some key → Counts u key
     item_counts true zero key item is = made_item item (value_of schema s) key is
     item_counts false zero key item is = absurd (none-some key is)
-    item_counts config (suc u) key item is = absurd (none-some key is)
+    item_counts distinct (suc u) key item is = absurd (none-some key is)
 
-    kind_counts : (config : Bool) (kind : Kind) (u : ℕ) (key : Key) → is_item schema s.schema_number ≡ is_kind_item config kind
-        → kind_key schema config kind here s below u ≡ Some key → Counts u key
-    kind_counts config (container presence) u key item is = absurd (none-some key is)
-    kind_counts config (leaf type absence) u key item is = absurd (none-some key is)
-    kind_counts config (leaf_list type defaults amount) u key item is = item_counts config u key item is
-    kind_counts config (list tuples amount) u key item is = made_tuple u (tuple_of_paths schema below (paths_of tuples u)) key is
-    kind_counts config (choice default_case is_mandatory) u key item is = absurd (none-some key is)
-    kind_counts config case u key item is = absurd (none-some key is)
+    kind_counts : (distinct : Bool) (kind : Kind) (u : ℕ) (key : Key) → is_item schema s.schema_number ≡ is_kind_item distinct kind
+        → kind_key schema distinct kind here s below u ≡ Some key → Counts u key
+    kind_counts distinct (container presence) u key item is = absurd (none-some key is)
+    kind_counts distinct (leaf type absence) u key item is = absurd (none-some key is)
+    kind_counts distinct (leaf_list type defaults amount) u key item is = item_counts distinct u key item is
+    kind_counts distinct (list tuples amount) u key item is = made_tuple u (tuple_of_paths schema below (paths_of tuples u)) key is
+    kind_counts distinct (choice default_case is_mandatory) u key item is = absurd (none-some key is)
+    kind_counts distinct case u key item is = absurd (none-some key is)
 
     flagged_counts : (n : Option SchemaNode) (u : ℕ) (key : Key) → node_at schema s.schema_number ≡ n
-        → option_and_then (λ (m : SchemaNode). kind_key schema m.config m.kind here s below u) n ≡ Some key → Counts u key
+        → option_and_then (λ (m : SchemaNode). kind_key schema m.distinct_items m.kind here s below u) n ≡ Some key → Counts u key
     flagged_counts None u key found is = absurd (none-some key is)
     flagged_counts (Some n) u key found is =
-        kind_counts n.config n.kind u key (ap (λ o. option_map_or (λ (m : SchemaNode). is_kind_item m.config m.kind) o false) found) is
+        kind_counts n.distinct_items n.kind u key (ap (λ o. option_map_or (λ (m : SchemaNode). is_kind_item m.distinct_items m.kind) o false) found) is
 
     -- others have it in the store where they have it in the document
     pub shared_is : (u : ℕ) (o : Option rust.Key) → ((key : rust.Key) → o ≡ Some key → slot_of key ≡ suc u) → option_map key_view o ≡ flagged_key schema here s below u

@@ -105,7 +105,7 @@ module _ (schema : Schema) (above : Row) (s : Stored) (t : Tree) (count : Key �
           (option_map_or (λ (n : SchemaNode). kind_judged (option_map (λ (type : LeafType). type.type) (type_in n.kind)) s.value) o right)) found
 
       unflagged : flags ≡ []
-      unflagged = ap (λ (o : Option SchemaNode). flags_from (λ u. telling.is_shared count (flagged_key schema above s t u)) 0 (option_map_or (λ (n : SchemaNode). kind_flags n.config n.kind) o 0)) found
+      unflagged = ap (λ (o : Option SchemaNode). flags_from (λ u. telling.is_shared count (flagged_key schema above s t u)) 0 (option_map_or (λ (n : SchemaNode). kind_flags n.distinct_items n.kind) o 0)) found
 
 module _ (schema : Schema) (nodes : Nodes) (f : Branches) (tree : IsTree nodes f) (told : IsTold schema nodes f) where
   abbrev document : Times

@@ -50,22 +50,22 @@ module _ (schema : Schema) (above : Row) (s : Stored) (below : Tree) where
   node_slot None key is = absurd (none-some key is)
   node_slot (Some n) key is = first_slot n.kind key is
 
-  item_slot : (config : Bool) (u : ℕ) (key : Key) → item_key_at schema config above s u ≡ Some key → slot_of key ≡ Some (suc u)
+  item_slot : (distinct : Bool) (u : ℕ) (key : Key) → item_key_at schema distinct above s u ≡ Some key → slot_of key ≡ Some (suc u)
   item_slot true zero key is = made_slot (item_key above s.schema_number) 1 (value_of schema s) key (λ v. refl) is
   item_slot false zero key is = absurd (none-some key is)
-  item_slot config (suc u) key is = absurd (none-some key is)
+  item_slot distinct (suc u) key is = absurd (none-some key is)
 
-  kind_slot : (config : Bool) (kind : Kind) (u : ℕ) (key : Key) → kind_key schema config kind above s below u ≡ Some key → slot_of key ≡ Some (suc u)
-  kind_slot config (container presence) u key is = absurd (none-some key is)
-  kind_slot config (leaf type absence) u key is = absurd (none-some key is)
-  kind_slot config (leaf_list type defaults amount) u key is = item_slot config u key is
-  kind_slot config (list tuples amount) u key is = made_slot (tuple_key above s.schema_number u) (suc u) (tuple_of_paths schema below (paths_of tuples u)) key (λ vs. refl) is
-  kind_slot config (choice default_case is_mandatory) u key is = absurd (none-some key is)
-  kind_slot config case u key is = absurd (none-some key is)
+  kind_slot : (distinct : Bool) (kind : Kind) (u : ℕ) (key : Key) → kind_key schema distinct kind above s below u ≡ Some key → slot_of key ≡ Some (suc u)
+  kind_slot distinct (container presence) u key is = absurd (none-some key is)
+  kind_slot distinct (leaf type absence) u key is = absurd (none-some key is)
+  kind_slot distinct (leaf_list type defaults amount) u key is = item_slot distinct u key is
+  kind_slot distinct (list tuples amount) u key is = made_slot (tuple_key above s.schema_number u) (suc u) (tuple_of_paths schema below (paths_of tuples u)) key (λ vs. refl) is
+  kind_slot distinct (choice default_case is_mandatory) u key is = absurd (none-some key is)
+  kind_slot distinct case u key is = absurd (none-some key is)
 
-  flagged_slot : (n : Option SchemaNode) (u : ℕ) (key : Key) → option_and_then (λ (m : SchemaNode). kind_key schema m.config m.kind above s below u) n ≡ Some key → slot_of key ≡ Some (suc u)
+  flagged_slot : (n : Option SchemaNode) (u : ℕ) (key : Key) → option_and_then (λ (m : SchemaNode). kind_key schema m.distinct_items m.kind above s below u) n ≡ Some key → slot_of key ≡ Some (suc u)
   flagged_slot None u key is = absurd (none-some key is)
-  flagged_slot (Some n) u key is = kind_slot n.config n.kind u key is
+  flagged_slot (Some n) u key is = kind_slot n.distinct_items n.kind u key is
 
   pub held_slot : (slot : ℕ) (key : Key) → key_at schema above s below slot ≡ Some key → slot_of key ≡ Some slot
   held_slot zero key is = node_slot (node_at schema s.schema_number) key is
@@ -120,23 +120,23 @@ module _ (schema : Schema) (above : Row) (s : Stored) (below : Tree) where
   tuple_past tuples zero past = absurd (omega (arith, past))
   tuple_past tuples (suc u) past = sym (ap (λ (o : Option (List LeafPath)). tuple_of_paths schema below (unwrap_or o [])) (slice_get_past tuples.uniques u (omega (arith, past))))
 
-  item_past : (config : Bool) (u : ℕ) → cond config 1 0 ≤ u → item_key_at schema config above s u ≡ None
+  item_past : (distinct : Bool) (u : ℕ) → cond distinct 1 0 ≤ u → item_key_at schema distinct above s u ≡ None
   item_past true zero past = absurd (omega (arith, past))
   item_past false zero past = refl
-  item_past config (suc u) past = refl
+  item_past distinct (suc u) past = refl
 
-  kind_past : (config : Bool) (kind : Kind) (u : ℕ) → kind_flags config kind ≤ u → kind_key schema config kind above s below u ≡ None
-  kind_past config (container presence) u past = refl
-  kind_past config (leaf type absence) u past = refl
-  kind_past config (leaf_list type defaults amount) u past = item_past config u past
-  kind_past config (list tuples amount) u past = ap (option_map (tuple_key above s.schema_number u)) (sym (tuple_past tuples u past))
-  kind_past config (choice default_case is_mandatory) u past = refl
-  kind_past config case u past = refl
+  kind_past : (distinct : Bool) (kind : Kind) (u : ℕ) → kind_flags distinct kind ≤ u → kind_key schema distinct kind above s below u ≡ None
+  kind_past distinct (container presence) u past = refl
+  kind_past distinct (leaf type absence) u past = refl
+  kind_past distinct (leaf_list type defaults amount) u past = item_past distinct u past
+  kind_past distinct (list tuples amount) u past = ap (option_map (tuple_key above s.schema_number u)) (sym (tuple_past tuples u past))
+  kind_past distinct (choice default_case is_mandatory) u past = refl
+  kind_past distinct case u past = refl
 
-  node_past : (n : Option SchemaNode) (u : ℕ) → option_map_or (λ (m : SchemaNode). kind_flags m.config m.kind) n 0 ≤ u
-      → option_and_then (λ (m : SchemaNode). kind_key schema m.config m.kind above s below u) n ≡ None
+  node_past : (n : Option SchemaNode) (u : ℕ) → option_map_or (λ (m : SchemaNode). kind_flags m.distinct_items m.kind) n 0 ≤ u
+      → option_and_then (λ (m : SchemaNode). kind_key schema m.distinct_items m.kind above s below u) n ≡ None
   node_past None u past = refl
-  node_past (Some n) u past = kind_past n.config n.kind u past
+  node_past (Some n) u past = kind_past n.distinct_items n.kind u past
 
   pub held_past : (slot : ℕ) → slots_of schema s.schema_number ≤ slot → key_at schema above s below slot ≡ None
   held_past zero past = absurd (omega (arith, past))
@@ -168,28 +168,28 @@ module _ (schema : Schema) (above : Row) (number : ℕ) where
         ∙ (ap₂ (λ b c. worth (b && (c && same_tuple vs ws))) (turned number s.schema_number) (eq-eqb u u refl)
         ∙ parts (eqb s.schema_number number) (same_tuple vs ws))
 
-    item_none : (config : Bool) (u : ℕ) → worth (is_held (tuple_key above number u vs) (item_key_at schema config above s u)) ≡ worth false
+    item_none : (distinct : Bool) (u : ℕ) → worth (is_held (tuple_key above number u vs) (item_key_at schema distinct above s u)) ≡ worth false
     item_none true zero = by (value_of schema s)
       where
         by : (o : Option Val) → worth (is_held (tuple_key above number 0 vs) (option_map (item_key above s.schema_number) o)) ≡ worth false
         by None = refl
         by (Some v) = refl
     item_none false zero = refl
-    item_none config (suc u) = refl
+    item_none distinct (suc u) = refl
 
-    kind_tuples : (config : Bool) (kind : Kind) → worth (is_held (tuple_key above number u vs) (kind_key schema config kind above s below u))
+    kind_tuples : (distinct : Bool) (kind : Kind) → worth (is_held (tuple_key above number u vs) (kind_key schema distinct kind above s below u))
         ≡ cond (eqb s.schema_number number) (worth (is_tuple vs (kind_tuple schema kind below u))) 0
-    kind_tuples config (container presence) = nothing (eqb s.schema_number number)
-    kind_tuples config (leaf type absence) = nothing (eqb s.schema_number number)
-    kind_tuples config (leaf_list type defaults amount) = item_none config u ∙ nothing (eqb s.schema_number number)
-    kind_tuples config (list tuples amount) = one_tuple (tuple_of_paths schema below (paths_of tuples u))
-    kind_tuples config (choice default_case is_mandatory) = nothing (eqb s.schema_number number)
-    kind_tuples config case = nothing (eqb s.schema_number number)
+    kind_tuples distinct (container presence) = nothing (eqb s.schema_number number)
+    kind_tuples distinct (leaf type absence) = nothing (eqb s.schema_number number)
+    kind_tuples distinct (leaf_list type defaults amount) = item_none distinct u ∙ nothing (eqb s.schema_number number)
+    kind_tuples distinct (list tuples amount) = one_tuple (tuple_of_paths schema below (paths_of tuples u))
+    kind_tuples distinct (choice default_case is_mandatory) = nothing (eqb s.schema_number number)
+    kind_tuples distinct case = nothing (eqb s.schema_number number)
 
-    node_tuples : (n : Option SchemaNode) → worth (is_held (tuple_key above number u vs) (option_and_then (λ (m : SchemaNode). kind_key schema m.config m.kind above s below u) n))
+    node_tuples : (n : Option SchemaNode) → worth (is_held (tuple_key above number u vs) (option_and_then (λ (m : SchemaNode). kind_key schema m.distinct_items m.kind above s below u) n))
         ≡ cond (eqb s.schema_number number) (worth (is_tuple vs (option_and_then (λ (m : SchemaNode). kind_tuple schema m.kind below u) n))) 0
     node_tuples None = nothing (eqb s.schema_number number)
-    node_tuples (Some n) = kind_tuples n.config n.kind
+    node_tuples (Some n) = kind_tuples n.distinct_items n.kind
 
   pub tuples_held : (t : Tree) (u : ℕ) (vs : Tuple) → times_held schema above t (suc u) (tuple_key above number u vs) ≡ tuples_in schema t number u vs
   tuples_held end u vs = refl
@@ -209,32 +209,32 @@ module _ (schema : Schema) (above : Row) (number : ℕ) where
     tuple_none (Some ws) = refl
 
     -- of an item of configuration, and of a node of another number
-    config_items : (config : Bool) (kind : Kind) → is_kind_item config kind ≡ true → worth (is_held (item_key above number v) (kind_key schema config kind above s below 0))
+    config_items : (distinct : Bool) (kind : Kind) → is_kind_item distinct kind ≡ true → worth (is_held (item_key above number v) (kind_key schema distinct kind above s below 0))
         ≡ cond (eqb s.schema_number number) (worth (is_value v (value_of schema s))) 0
-    config_items config (container presence) is = absurd (false≢true is)
-    config_items config (leaf type absence) is = absurd (false≢true is)
+    config_items distinct (container presence) is = absurd (false≢true is)
+    config_items distinct (leaf type absence) is = absurd (false≢true is)
     config_items true (leaf_list type defaults amount) is = one_item (value_of schema s)
     config_items false (leaf_list type defaults amount) is = absurd (false≢true is)
-    config_items config (list tuples amount) is = absurd (false≢true is)
-    config_items config (choice default_case is_mandatory) is = absurd (false≢true is)
-    config_items config case is = absurd (false≢true is)
+    config_items distinct (list tuples amount) is = absurd (false≢true is)
+    config_items distinct (choice default_case is_mandatory) is = absurd (false≢true is)
+    config_items distinct case is = absurd (false≢true is)
 
-    other_items : (config : Bool) (kind : Kind) → eqb s.schema_number number ≡ false → worth (is_held (item_key above number v) (kind_key schema config kind above s below 0)) ≡ worth false
-    other_items config (container presence) other = refl
-    other_items config (leaf type absence) other = refl
+    other_items : (distinct : Bool) (kind : Kind) → eqb s.schema_number number ≡ false → worth (is_held (item_key above number v) (kind_key schema distinct kind above s below 0)) ≡ worth false
+    other_items distinct (container presence) other = refl
+    other_items distinct (leaf type absence) other = refl
     other_items true (leaf_list type defaults amount) other = one_item (value_of schema s) ∙ ap (λ b. cond b (worth (is_value v (value_of schema s))) 0) other
     other_items false (leaf_list type defaults amount) other = refl
-    other_items config (list tuples amount) other = tuple_none (tuple_of_paths schema below (paths_of tuples 0))
-    other_items config (choice default_case is_mandatory) other = refl
-    other_items config case other = refl
+    other_items distinct (list tuples amount) other = tuple_none (tuple_of_paths schema below (paths_of tuples 0))
+    other_items distinct (choice default_case is_mandatory) other = refl
+    other_items distinct case other = refl
 
-    node_items : (n : Option SchemaNode) (b : Bool) → eqb s.schema_number number ≡ b → (b ≡ true → option_map_or (λ (m : SchemaNode). is_kind_item m.config m.kind) n false ≡ true)
-        → worth (is_held (item_key above number v) (option_and_then (λ (m : SchemaNode). kind_key schema m.config m.kind above s below 0) n))
+    node_items : (n : Option SchemaNode) (b : Bool) → eqb s.schema_number number ≡ b → (b ≡ true → option_map_or (λ (m : SchemaNode). is_kind_item m.distinct_items m.kind) n false ≡ true)
+        → worth (is_held (item_key above number v) (option_and_then (λ (m : SchemaNode). kind_key schema m.distinct_items m.kind above s below 0) n))
         ≡ cond (eqb s.schema_number number) (worth (is_value v (value_of schema s))) 0
     node_items None true e item = absurd (false≢true (item refl))
     node_items None false e item = ap (λ c. cond c (worth (is_value v (value_of schema s))) 0) (sym e)
-    node_items (Some n) true e item = config_items n.config n.kind (item refl)
-    node_items (Some n) false e item = other_items n.config n.kind e ∙ ap (λ c. cond c (worth (is_value v (value_of schema s))) 0) (sym e)
+    node_items (Some n) true e item = config_items n.distinct_items n.kind (item refl)
+    node_items (Some n) false e item = other_items n.distinct_items n.kind e ∙ ap (λ c. cond c (worth (is_value v (value_of schema s))) 0) (sym e)
 
   pub items_held : (t : Tree) (v : Val) → is_item schema number ≡ true → times_held schema above t 1 (item_key above number v) ≡ items_in schema t number v
   items_held end v item = refl

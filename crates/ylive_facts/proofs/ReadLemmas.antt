@@ -59,28 +59,28 @@ two_slots f more =
     ap (λ n. sum_by f (range_with_len 0 n)) e
     ∙ (sum_by-cons f 0 (1 ∷ range_with_len 2 more) ∙ ap (λ n. f 0 + n) (sum_by-cons f 1 (range_with_len 2 more)))
 
-kind_slots : (deep most : ℕ) (config : Bool) (k : Kind) → 4 ≤ deep → most + 1 ≤ deep → PathsWithin most k
-    → sum_by (slot_reads k) (range_with_len 0 (1 + kind_flags config k)) ≤ 2 + deep * name_count k
-kind_slots deep most config (container presence) some up within = omega arith
-kind_slots deep most config (leaf type absence) some up within = omega arith
+kind_slots : (deep most : ℕ) (distinct : Bool) (k : Kind) → 4 ≤ deep → most + 1 ≤ deep → PathsWithin most k
+    → sum_by (slot_reads k) (range_with_len 0 (1 + kind_flags distinct k)) ≤ 2 + deep * name_count k
+kind_slots deep most distinct (container presence) some up within = omega arith
+kind_slots deep most distinct (leaf type absence) some up within = omega arith
 kind_slots deep most true (leaf_list type defaults amount) some up within = omega arith
 kind_slots deep most false (leaf_list type defaults amount) some up within = omega arith
-kind_slots deep most config (list tuples amount) some up within =
+kind_slots deep most distinct (list tuples amount) some up within =
     let sum = two_slots (slot_reads (list tuples amount)) (length tuples.uniques) in
     let few = list_sums deep most (length tuples.keys) (sum_by length tuples.uniques) (2 * length tuples.keys) (path_reads (map own_path tuples.keys))
     (sum_by (slot_reads (list tuples amount)) (range_with_len 2 (length tuples.uniques))) some up refl (own_reads tuples.keys)
     (unique_slots (slot_reads (list tuples amount)) most 2 tuples.uniques within (λ u. let e : 2 + u ≡ suc (suc u) = omega arith in ap (slot_reads (list tuples amount)) e)) in
     omega (arith, sum, few)
-kind_slots deep most config (choice default_case is_mandatory) some up within = omega arith
-kind_slots deep most config case some up within = omega arith
+kind_slots deep most distinct (choice default_case is_mandatory) some up within = omega arith
+kind_slots deep most distinct case some up within = omega arith
 
 -- ---- a schema node
 
 node_slots : (deep most : ℕ) (o : Option SchemaNode) → 4 ≤ deep → most + 1 ≤ deep → PathsWithinAt most o
-    → sum_by (λ slot. option_map_or (λ (n : SchemaNode). slot_reads n.kind slot) o 0) (range_with_len 0 (1 + option_map_or (λ (n : SchemaNode). kind_flags n.config n.kind) o 0))
+    → sum_by (λ slot. option_map_or (λ (n : SchemaNode). slot_reads n.kind slot) o 0) (range_with_len 0 (1 + option_map_or (λ (n : SchemaNode). kind_flags n.distinct_items n.kind) o 0))
     ≤ 2 + deep * option_map_or (λ (n : SchemaNode). name_count n.kind) o 0
 node_slots deep most None some up within = omega arith
-node_slots deep most (Some n) some up within = kind_slots deep most n.config n.kind some up within
+node_slots deep most (Some n) some up within = kind_slots deep most n.distinct_items n.kind some up within
 
 pub few_keys : (s : Schema) (number : ℕ) → ∥ IsFit s ∥₁ → keys_reads s number (slots_of s number) ≤ 2 + (levels s + 4) * names_of s number
 few_keys s number fit = node_slots (levels s + 4) (forest.levels s.nodes) (node_at s number) (omega arith) (omega arith) (paths_at s fit number)

@@ -52,26 +52,26 @@ module _ (times : Times) (row : RowTimes) where
 
   -- ---- flags
 
-  item_told : (number : ℕ) (above : Row) (config : Bool) (o : Option Val)
-      → cond config (option_map_or (λ v. cond (ltb 1 (row.items number v)) (plain_fault V10 [] ∷ []) []) o []) []
-      ≡ marks_told true 0 (cond config (is_shared count (option_map (item_key above number) o) ∷ []) [])
+  item_told : (number : ℕ) (above : Row) (distinct : Bool) (o : Option Val)
+      → cond distinct (option_map_or (λ v. cond (ltb 1 (row.items number v)) (plain_fault V10 [] ∷ []) []) o []) []
+      ≡ marks_told true 0 (cond distinct (is_shared count (option_map (item_key above number) o) ∷ []) [])
   item_told number above true None = refl
   item_told number above true (Some v) = sym (append-nil (cond (ltb 1 (row.items number v)) (plain_fault V10 [] ∷ []) []))
   item_told number above false o = refl
 
   each_item : (number : ℕ) (above : Row) (type : LeafType) (n : SchemaNode) (value : Option Raw) → n.number ≡ number → option_map_or (item_twice row n type) value []
-      ≡ marks_told true 0 (cond n.config (is_shared count (option_map (item_key above number) (option_and_then (taken type.type) value)) ∷ []) [])
-  each_item number above type n None is = nothing n.config ∙ item_told number above n.config None
+      ≡ marks_told true 0 (cond n.distinct_items (is_shared count (option_map (item_key above number) (option_and_then (taken type.type) value)) ∷ []) [])
+  each_item number above type n None is = nothing n.distinct_items ∙ item_told number above n.distinct_items None
     where
       none : List Fault
       none = []
 
-      nothing : (config : Bool) → none ≡ cond config none none
+      nothing : (distinct : Bool) → none ≡ cond distinct none none
       nothing true = refl
       nothing false = refl
   each_item number above type n (Some raw) is =
-      ap (λ k. cond n.config (option_map_or (λ v. cond (ltb 1 (row.items k v)) (plain_fault V10 [] ∷ []) []) (taken type.type raw) []) []) is
-      ∙ item_told number above n.config (taken type.type raw)
+      ap (λ k. cond n.distinct_items (option_map_or (λ v. cond (ltb 1 (row.items k v)) (plain_fault V10 [] ∷ []) []) (taken type.type raw) []) []) is
+      ∙ item_told number above n.distinct_items (taken type.type raw)
 
   value_and_item : (type : LeafType) (n : SchemaNode) (value : Option Raw) → option_map_or (λ raw. value_faults times type raw ++ item_twice row n type raw) value []
       ≡ option_map_or (value_faults times type) value [] ++ option_map_or (item_twice row n type) value []
@@ -101,22 +101,22 @@ module _ (times : Times) (row : RowTimes) where
         (kind_judged (option_map (λ (type : LeafType). type.type) (type_in kind)) s.value)
 
     abbrev flags_as : Bool → Kind → List Bool
-    flags_as config kind = flags_from (λ u. is_shared count (kind_key schema config kind above s below u)) 0 (kind_flags config kind)
+    flags_as distinct kind = flags_from (λ u. is_shared count (kind_key schema distinct kind above s below u)) 0 (kind_flags distinct kind)
 
-    item_flags : (config : Bool) (o : Option Val) → value_of schema s ≡ o
-        → cond config (is_shared count (option_map (item_key above s.schema_number) o) ∷ []) [] ≡ flags_from (λ u. is_shared count (item_key_at schema config above s u)) 0 (cond config 1 0)
+    item_flags : (distinct : Bool) (o : Option Val) → value_of schema s ≡ o
+        → cond distinct (is_shared count (option_map (item_key above s.schema_number) o) ∷ []) [] ≡ flags_from (λ u. is_shared count (item_key_at schema distinct above s u)) 0 (cond distinct 1 0)
     item_flags true o is = ap (λ p. is_shared count (option_map (item_key above s.schema_number) p) ∷ []) (sym is)
     item_flags false o is = refl
 
     -- by its kind
     kind_told : (n : SchemaNode) (kind : Kind) → n.number ≡ s.schema_number → value_of schema s ≡ value_as kind
-        → own_faults times row n kind s.value (kind_tuple schema kind below) ≡ judged_faults (judged_as kind) ++ marks_told (has_value kind) 0 (flags_as n.config kind)
+        → own_faults times row n kind s.value (kind_tuple schema kind below) ≡ judged_faults (judged_as kind) ++ marks_told (has_value kind) 0 (flags_as n.distinct_items kind)
     kind_told n (container presence) number value = refl
     kind_told n (leaf type absence) number value = value_told type s.value ∙ sym (append-nil (judged_faults (judged_as (leaf type absence))))
     kind_told n (leaf_list type defaults amount) number value =
         value_and_item type n s.value
         ∙ ap₂ ◌++◌ (value_told type s.value) (each_item s.schema_number above type n s.value number
-        ∙ ap (marks_told true 0) (item_flags n.config (value_as (leaf_list type defaults amount)) value))
+        ∙ ap (marks_told true 0) (item_flags n.distinct_items (value_as (leaf_list type defaults amount)) value))
     kind_told n (list shape amount) number value =
         let tuples : ℕ → Option Tuple = λ u. tuple_of_paths schema below (paths_of shape u) in
         let is_set : ℕ → Bool = λ u. is_shared count (option_map (tuple_key above s.schema_number u) (tuples u)) in
@@ -133,10 +133,10 @@ module _ (times : Times) (row : RowTimes) where
         (option_and_then (λ (m : SchemaNode). option_and_then (λ t. option_map (value_key t) (option_and_then (λ (m : SchemaNode). value_as m.kind) o)) (required_target m.kind)) o)
         (option_map_or (λ (m : SchemaNode). kind_judged (option_map (λ (type : LeafType). type.type) (type_in m.kind)) s.value) o right)) e
 
-    flags_by_node : (n : SchemaNode) → node_at schema s.schema_number ≡ Some n → flags_at count schema above s below ≡ flags_as n.config n.kind
+    flags_by_node : (n : SchemaNode) → node_at schema s.schema_number ≡ Some n → flags_at count schema above s below ≡ flags_as n.distinct_items n.kind
     flags_by_node n e =
-        ap (λ (o : Option SchemaNode). flags_from (λ u. is_shared count (option_and_then (λ (m : SchemaNode). kind_key schema m.config m.kind above s below u) o)) 0
-        (option_map_or (λ (m : SchemaNode). kind_flags m.config m.kind) o 0)) e
+        ap (λ (o : Option SchemaNode). flags_from (λ u. is_shared count (option_and_then (λ (m : SchemaNode). kind_key schema m.distinct_items m.kind above s below u) o)) 0
+        (option_map_or (λ (m : SchemaNode). kind_flags m.distinct_items m.kind) o 0)) e
 
     tuple_by_node : (n : SchemaNode) → node_at schema s.schema_number ≡ Some n → tuple schema s below ≡ kind_tuple schema n.kind below
     tuple_by_node n e = ap (λ (o : Option SchemaNode). let f : ℕ → Option Tuple = λ u. option_and_then (λ (m : SchemaNode). kind_tuple schema m.kind below u) o in f) e

@@ -55,20 +55,20 @@ held_with id = map (λ key. (key, id))
 
 -- how many flags a node has: whether another has its value, or its tuple of the key (0) or of a `unique` (from 1)
 abbrev pub kind_flags : Bool → Kind → ℕ
-kind_flags config (list tuples amount) = 1 + length tuples.uniques
-kind_flags config (leaf_list type defaults amount) = if config then 1 else 0
-kind_flags config _ = 0
+kind_flags distinct (list tuples amount) = 1 + length tuples.uniques
+kind_flags distinct (leaf_list type defaults amount) = if distinct then 1 else 0
+kind_flags distinct _ = 0
 
 abbrev pub flags_of : Schema → ℕ → ℕ
-flags_of schema number = option_map_or (λ n. kind_flags n.config n.kind) (node_at schema number) 0
+flags_of schema number = option_map_or (λ n. kind_flags n.distinct_items n.kind) (node_at schema number) 0
 
--- whether a node is an item of configuration
+-- whether a node is an item that may stand but once
 abbrev pub is_kind_item : Bool → Kind → Bool
-is_kind_item config (leaf_list type defaults amount) = config
-is_kind_item config _ = false
+is_kind_item distinct (leaf_list type defaults amount) = distinct
+is_kind_item distinct _ = false
 
 abbrev pub is_item : Schema → ℕ → Bool
-is_item schema number = option_map_or (λ n. is_kind_item n.config n.kind) (node_at schema number) false
+is_item schema number = option_map_or (λ n. is_kind_item n.distinct_items n.kind) (node_at schema number) false
 
 -- what a leaf or item refers to, where an instance of it is required
 abbrev pub kind_reference : Schema → Kind → Stored → Option Key
@@ -96,19 +96,19 @@ first_key schema kind above s below = kind_reference schema kind s
 
 -- the value of an item, which has one flag
 abbrev pub item_key_at : Schema → Bool → Row → Stored → ℕ → Option Key
-item_key_at schema config above s zero =
-    if config then option_map (item_key above s.schema_number) (value_of schema s) else None
-item_key_at schema config above s (suc u) = None
+item_key_at schema distinct above s zero =
+    if distinct then option_map (item_key above s.schema_number) (value_of schema s) else None
+item_key_at schema distinct above s (suc u) = None
 
 -- what is flagged at a number: an item's value, or a tuple of an entry
 abbrev pub kind_key : Schema → Bool → Kind → Row → Stored → Tree → ℕ → Option Key
-kind_key schema config (list tuples amount) above s below u =
+kind_key schema distinct (list tuples amount) above s below u =
     option_map (tuple_key above s.schema_number u) (tuple_of_paths schema below (paths_of tuples u))
-kind_key schema config (leaf_list type defaults amount) above s below u = item_key_at schema config above s u
-kind_key schema config _ above s below u = None
+kind_key schema distinct (leaf_list type defaults amount) above s below u = item_key_at schema distinct above s u
+kind_key schema distinct _ above s below u = None
 
 abbrev pub flagged_key : Schema → Row → Stored → Tree → ℕ → Option Key
-flagged_key schema above s below u = option_and_then (λ n. kind_key schema n.config n.kind above s below u) (node_at schema s.schema_number)
+flagged_key schema above s below u = option_and_then (λ n. kind_key schema n.distinct_items n.kind above s below u) (node_at schema s.schema_number)
 
 -- the key that a node of a row holds at a slot: first what it refers to or is found by, then what is flagged
 abbrev pub key_at : Schema → Row → Stored → Tree → ℕ → Option Key

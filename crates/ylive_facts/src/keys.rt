@@ -32,18 +32,18 @@ pub fn flag_count(schema: &Schema, of: SchemaId) -> usize
     ensures bound { result ≤ 2 ^ 63 }
 {
     match schema.kind(of) {
-        Some(node) => kind_flags(node.config, &node.kind),
+        Some(node) => kind_flags(node.distinct_items, &node.kind),
         None => 0,
     }
 }
 
-fn kind_flags(config: bool, kind: &Kind) -> usize
-    ensures count { result ≡ words.kind_flags config (kind_view kind.now) }
+fn kind_flags(distinct: bool, kind: &Kind) -> usize
+    ensures count { result ≡ words.kind_flags distinct (kind_view kind.now) }
     ensures bound { result ≤ 2 ^ 63 }
 {
     match kind {
         Kind::List { tuples, .. } => 1 + tuples.uniques.len(),
-        Kind::LeafList { .. } => { if config { 1 } else { 0 } }
+        Kind::LeafList { .. } => { if distinct { 1 } else { 0 } }
         _ => 0,
     }
 }
@@ -201,7 +201,7 @@ fn flagged_key(
     match &node.kind {
         Kind::List { tuples, .. } => tuple_key(counted, schema, tuples, above, of, id, number),
         Kind::LeafList { .. } => {
-            if number == 0 && node.config {
+            if number == 0 && node.distinct_items {
                 item_key(counted, schema, above, of, id)
             } else {
                 Ok(None)

@@ -185,9 +185,9 @@ pub own_is : (times : Times) (row : RowTimes) (n : SchemaNode) (kind : Kind) (va
     → own_faults times row n kind value tuples ≡ value_told times kind value ++ marks_told (has_value kind) 0 (same_of row n kind value tuples)
 own_is times row n (container presence) value tuples = refl
 own_is times row n (leaf type absence) value tuples = sym (append-nil (option_map_or (value_faults times type) value []))
-own_is times row n (leaf_list type defaults amount) None tuples = no_item n.config
+own_is times row n (leaf_list type defaults amount) None tuples = no_item n.distinct_items
 own_is times row n (leaf_list type defaults amount) (Some raw) tuples =
-    ap (λ fs. value_faults times type raw ++ fs) (item_by n.config (λ v. ltb 1 (row.items n.number v)) (taken type.type raw))
+    ap (λ fs. value_faults times type raw ++ fs) (item_by n.distinct_items (λ v. ltb 1 (row.items n.number v)) (taken type.type raw))
 own_is times row n (list shape amount) value tuples =
     ap₂ ◌++◌ (tuple_told row n.number 0 0 (tuples 0) refl) (tuples_told row n.number tuples 1 1 shape.uniques refl)
 own_is times row n (choice default_case is_mandatory) value tuples = refl
@@ -225,11 +225,11 @@ entry_at row n tuples uniques (suc u) none =
     twice_at row n.number tuples 1 uniques u (λ v past. let more : 1 + v ≡ suc v = omega arith in ap tuples more ∙ none v past)
     ∙ ap (λ v. is_twice row n.number v (tuples v)) next
 
-item_first : (config twice : Bool) → get_or (cond config (twice ∷ []) []) 0 false ≡ (config && twice)
+item_first : (distinct twice : Bool) → get_or (cond distinct (twice ∷ []) []) 0 false ≡ (distinct && twice)
 item_first true twice = refl
 item_first false twice = refl
 
-item_behind : (config twice : Bool) (u : ℕ) → get_or (cond config (twice ∷ []) []) (suc u) false ≡ false
+item_behind : (distinct twice : Bool) (u : ℕ) → get_or (cond distinct (twice ∷ []) []) (suc u) false ≡ false
 item_behind true twice u = refl
 item_behind false twice u = refl
 
@@ -238,9 +238,9 @@ same_at_is : (row : RowTimes) (n : SchemaNode) (kind : Kind) (value : Option Raw
     → get_or (same_of row n kind value tuples) u false ≡ is_same row n kind value tuples u
 same_at_is row n (list shape amount) value tuples u none = entry_at row n tuples shape.uniques u (none shape amount refl)
 same_at_is row n (leaf_list type defaults amount) value tuples zero none =
-    item_first n.config (option_map_or (λ v. ltb 1 (row.items n.number v)) (option_and_then (taken type.type) value) false)
+    item_first n.distinct_items (option_map_or (λ v. ltb 1 (row.items n.number v)) (option_and_then (taken type.type) value) false)
 same_at_is row n (leaf_list type defaults amount) value tuples (suc u) none =
-    item_behind n.config (option_map_or (λ v. ltb 1 (row.items n.number v)) (option_and_then (taken type.type) value) false) u
+    item_behind n.distinct_items (option_map_or (λ v. ltb 1 (row.items n.number v)) (option_and_then (taken type.type) value) false) u
 same_at_is row n (container presence) value tuples u none = refl
 same_at_is row n (leaf type absence) value tuples u none = refl
 same_at_is row n (choice default_case is_mandatory) value tuples u none = refl

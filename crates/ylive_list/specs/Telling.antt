@@ -28,12 +28,12 @@ abbrev pub are_twice : RowTimes → ℕ → (ℕ → Option Tuple) → ℕ → L
 are_twice row number tuples u [] = []
 are_twice row number tuples u (x ∷ xs) = is_twice row number u (tuples u) ∷ are_twice row number tuples (suc u) xs
 
--- of an entry, for the key and each `unique`, whether another has its tuple; of an item of configuration, whether another
+-- of an entry, for the key and each `unique`, whether another has its tuple; of an item that may stand but once, whether another
 -- has its value
 abbrev pub same_of : RowTimes → SchemaNode → Kind → Option Raw → (ℕ → Option Tuple) → List Bool
 same_of row n (list shape amount) value tuples =
     is_twice row n.number 0 (tuples 0) ∷ are_twice row n.number tuples 1 shape.uniques
-same_of row n (leaf_list type defaults amount) value tuples = if n.config
+same_of row n (leaf_list type defaults amount) value tuples = if n.distinct_items
     then option_map_or (λ v. nat_lt 1 (row.items n.number v)) (option_and_then (taken type.type) value) false ∷ [] else []
 same_of row n _ value tuples = []
 
@@ -41,7 +41,7 @@ same_of row n _ value tuples = []
 abbrev pub is_same : RowTimes → SchemaNode → Kind → Option Raw → (ℕ → Option Tuple) → ℕ → Bool
 is_same row n (list shape amount) value tuples u = is_twice row n.number u (tuples u)
 is_same row n (leaf_list type defaults amount) value tuples zero =
-    n.config && option_map_or (λ v. nat_lt 1 (row.items n.number v)) (option_and_then (taken type.type) value) false
+    n.distinct_items && option_map_or (λ v. nat_lt 1 (row.items n.number v)) (option_and_then (taken type.type) value) false
 is_same row n _ value tuples u = false
 
 -- ---- totals

@@ -92,46 +92,46 @@ module _ (schema : Schema) (above : Row) (s : Stored) (below : Tree) where
   first_few (choice default_case is_mandatory) = omega arith
   first_few case = omega arith
 
-  flagged_few : (config : Bool) (k : Kind) (u : ℕ) → length (option_to_list (kind_key schema config k above s below u)) ≤ most_of k (suc u)
-  flagged_few config (list tuples amount) u = tuple_few schema (paths_of tuples u) below (tuple_key above s.schema_number u)
-  flagged_few config (leaf_list type defaults amount) u = one_key (kind_key schema config (leaf_list type defaults amount) above s below u)
-  flagged_few config (leaf type absence) u = omega arith
-  flagged_few config (container presence) u = omega arith
-  flagged_few config (choice default_case is_mandatory) u = omega arith
-  flagged_few config case u = omega arith
+  flagged_few : (distinct : Bool) (k : Kind) (u : ℕ) → length (option_to_list (kind_key schema distinct k above s below u)) ≤ most_of k (suc u)
+  flagged_few distinct (list tuples amount) u = tuple_few schema (paths_of tuples u) below (tuple_key above s.schema_number u)
+  flagged_few distinct (leaf_list type defaults amount) u = one_key (kind_key schema distinct (leaf_list type defaults amount) above s below u)
+  flagged_few distinct (leaf type absence) u = omega arith
+  flagged_few distinct (container presence) u = omega arith
+  flagged_few distinct (choice default_case is_mandatory) u = omega arith
+  flagged_few distinct case u = omega arith
 
   few_at : (o : Option SchemaNode) → node_at schema s.schema_number ≡ o → (slot : ℕ) → length (option_to_list (key_at schema above s below slot)) ≤ most o slot
   few_at None is zero = let e = ap (λ (x : Option SchemaNode). length (option_to_list (option_and_then (λ (n : SchemaNode). first_key schema n.kind above s below) x))) is in omega (arith, e)
-  few_at None is (suc u) = let e = ap (λ (x : Option SchemaNode). length (option_to_list (option_and_then (λ (n : SchemaNode). kind_key schema n.config n.kind above s below u) x))) is in omega (arith, e)
+  few_at None is (suc u) = let e = ap (λ (x : Option SchemaNode). length (option_to_list (option_and_then (λ (n : SchemaNode). kind_key schema n.distinct_items n.kind above s below u) x))) is in omega (arith, e)
   few_at (Some n) is zero =
       let e = ap (λ (x : Option SchemaNode). length (option_to_list (option_and_then (λ (n : SchemaNode). first_key schema n.kind above s below) x))) is in
       let few = first_few n.kind in omega (arith, e, few)
   few_at (Some n) is (suc u) =
-      let e = ap (λ (x : Option SchemaNode). length (option_to_list (option_and_then (λ (n : SchemaNode). kind_key schema n.config n.kind above s below u) x))) is in
-      let few = flagged_few n.config n.kind u in omega (arith, e, few)
+      let e = ap (λ (x : Option SchemaNode). length (option_to_list (option_and_then (λ (n : SchemaNode). kind_key schema n.distinct_items n.kind above s below u) x))) is in
+      let few = flagged_few n.distinct_items n.kind u in omega (arith, e, few)
 
-kind_held : (config : Bool) (k : Kind) → sum_by (most_of k) (range_with_len 0 (1 + kind_flags config k)) ≤ held_count k
-kind_held config (list tuples amount) = names_twice tuples
-kind_held config (leaf type absence) = omega arith
+kind_held : (distinct : Bool) (k : Kind) → sum_by (most_of k) (range_with_len 0 (1 + kind_flags distinct k)) ≤ held_count k
+kind_held distinct (list tuples amount) = names_twice tuples
+kind_held distinct (leaf type absence) = omega arith
 kind_held true (leaf_list type defaults amount) = omega arith
 kind_held false (leaf_list type defaults amount) = omega arith
-kind_held config (container presence) = omega arith
-kind_held config (choice default_case is_mandatory) = omega arith
-kind_held config case = omega arith
+kind_held distinct (container presence) = omega arith
+kind_held distinct (choice default_case is_mandatory) = omega arith
+kind_held distinct case = omega arith
 
 pub few_held : (schema : Schema) (above : Row) (s : Stored) (below : Tree)
     → length (held_by schema above s below) ≤ option_map_or (λ (n : SchemaNode). held_count n.kind) (node_at schema s.schema_number) 0
 few_held schema above s below = by (node_at schema s.schema_number) refl
   where
-    sum : (o : Option SchemaNode) → sum_by (most o) (range_with_len 0 (1 + option_map_or (λ (n : SchemaNode). kind_flags n.config n.kind) o 0)) ≤ option_map_or (λ (n : SchemaNode). held_count n.kind) o 0
+    sum : (o : Option SchemaNode) → sum_by (most o) (range_with_len 0 (1 + option_map_or (λ (n : SchemaNode). kind_flags n.distinct_items n.kind) o 0)) ≤ option_map_or (λ (n : SchemaNode). held_count n.kind) o 0
     sum None = omega arith
-    sum (Some n) = kind_held n.config n.kind
+    sum (Some n) = kind_held n.distinct_items n.kind
 
     by : (o : Option SchemaNode) → node_at schema s.schema_number ≡ o
         → length (held_by schema above s below) ≤ option_map_or (λ (n : SchemaNode). held_count n.kind) (node_at schema s.schema_number) 0
     by o is =
         let few = keys_few (key_at schema above s below) (most o) (few_at schema above s below o is) 0 (slots_of schema s.schema_number) in
-        let slots = ap (λ (x : Option SchemaNode). sum_by (most o) (range_with_len 0 (1 + option_map_or (λ (n : SchemaNode). kind_flags n.config n.kind) x 0))) is in
+        let slots = ap (λ (x : Option SchemaNode). sum_by (most o) (range_with_len 0 (1 + option_map_or (λ (n : SchemaNode). kind_flags n.distinct_items n.kind) x 0))) is in
         let all = sum o in
         let held = ap (λ (x : Option SchemaNode). option_map_or (λ (n : SchemaNode). held_count n.kind) x 0) is in
         omega (arith, few, slots, all, held)

@@ -32,21 +32,21 @@ use Rattle.ylive_retell.proofs.KeyLemmas.{slot_is}
 
 -- ---- how many flags
 
-kinds_same : (config : Bool) (kind : Kind) → shape.kind_flags kind config ≡ kind_flags config kind
-kinds_same config (container presence) = refl
-kinds_same config (leaf type absence) = refl
-kinds_same config (leaf_list type defaults amount) = refl
-kinds_same config (list tuples amount) = omega arith
-kinds_same config (choice default_case is_mandatory) = refl
-kinds_same config case = refl
+kinds_same : (distinct : Bool) (kind : Kind) → shape.kind_flags kind distinct ≡ kind_flags distinct kind
+kinds_same distinct (container presence) = refl
+kinds_same distinct (leaf type absence) = refl
+kinds_same distinct (leaf_list type defaults amount) = refl
+kinds_same distinct (list tuples amount) = omega arith
+kinds_same distinct (choice default_case is_mandatory) = refl
+kinds_same distinct case = refl
 
 -- so many flags has a node
 pub counts_same : (schema : Schema) (number : ℕ) → shape.flag_count schema number ≡ flags_of schema number
 counts_same schema number = by (node_at schema number)
   where
-    by : (n : Option SchemaNode) → option_map_or (λ (n : SchemaNode). shape.kind_flags n.kind n.config) n 0 ≡ option_map_or (λ (n : SchemaNode). kind_flags n.config n.kind) n 0
+    by : (n : Option SchemaNode) → option_map_or (λ (n : SchemaNode). shape.kind_flags n.kind n.distinct_items) n 0 ≡ option_map_or (λ (n : SchemaNode). kind_flags n.distinct_items n.kind) n 0
     by None = refl
-    by (Some n) = kinds_same n.config n.kind
+    by (Some n) = kinds_same n.distinct_items n.kind
 
 -- ---- a node that refers to a value has one that its type takes
 

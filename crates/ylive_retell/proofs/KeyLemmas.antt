@@ -43,22 +43,22 @@ module _ (schema : Schema) (above : Row) (s : Stored) (below : Tree) where
       entry tuples (suc u) more =
           ap (λ (o : Option (List LeafPath)). option_map (tuple_key above s.schema_number (suc u)) (tuple_of_paths schema below (unwrap_or o []))) (no_paths tuples.uniques u (omega (arith, more)))
 
-      item : (config : Bool) (k : ℕ) → cond config 1 0 ≤ k → item_key_at schema config above s k ≡ None
+      item : (distinct : Bool) (k : ℕ) → cond distinct 1 0 ≤ k → item_key_at schema distinct above s k ≡ None
       item true zero more = absurd (omega (arith, more))
       item false zero more = refl
-      item config (suc k) more = refl
+      item distinct (suc k) more = refl
 
-      kinds : (config : Bool) (k : Kind) → kind_flags config k ≤ u → kind_key schema config k above s below u ≡ None
-      kinds config (list tuples amount) more = entry tuples u more
-      kinds config (leaf_list type defaults amount) more = item config u more
-      kinds config (container presence) more = refl
-      kinds config (leaf type absence) more = refl
-      kinds config (choice default_case is_mandatory) more = refl
-      kinds config case more = refl
+      kinds : (distinct : Bool) (k : Kind) → kind_flags distinct k ≤ u → kind_key schema distinct k above s below u ≡ None
+      kinds distinct (list tuples amount) more = entry tuples u more
+      kinds distinct (leaf_list type defaults amount) more = item distinct u more
+      kinds distinct (container presence) more = refl
+      kinds distinct (leaf type absence) more = refl
+      kinds distinct (choice default_case is_mandatory) more = refl
+      kinds distinct case more = refl
 
-      by : (o : Option SchemaNode) → option_map_or (λ n. kind_flags n.config n.kind) o 0 ≤ u → option_and_then (λ n. kind_key schema n.config n.kind above s below u) o ≡ None
+      by : (o : Option SchemaNode) → option_map_or (λ n. kind_flags n.distinct_items n.kind) o 0 ≤ u → option_and_then (λ n. kind_key schema n.distinct_items n.kind above s below u) o ≡ None
       by None more = refl
-      by (Some n) more = kinds n.config n.kind more
+      by (Some n) more = kinds n.distinct_items n.kind more
 
 -- ---- the keys of a node
 

@@ -192,6 +192,13 @@ const OF_MODULES: &[Explanation] = &[
         remedy: "Give fewer modules at once; name each member of a union once.",
         source: "a limit of this program",
     },
+    Explanation {
+        code: "C22",
+        cause: "A condition names no feature, or features lead back to themselves by their conditions.",
+        place: "the if-feature",
+        remedy: "Define the feature at the top of the module that the prefix names, or correct the name; take one of the conditions out.",
+        source: "RFC 7950, 7.20.1 and 7.20.2",
+    },
 ];
 
 const OF_DOCUMENTS: &[Explanation] = &[

@@ -68,6 +68,7 @@ node_view number n = record {
   module_number = n.«module»;
   name = string_bytes n.name;
   config = n.config;
+  distinct_items = n.distinct_items;
   status = status_view n.status;
   kind = kind_view n.kind;
 }

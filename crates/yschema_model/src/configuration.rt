@@ -49,6 +49,7 @@ fn asked_node(alloc: Global, node: SchemaNode) -> SchemaNode
         module: node.module,
         name: node.name,
         config: node.config,
+        distinct_items: false,
         status: node.status,
         kind: unasked(alloc, node.kind),
     }

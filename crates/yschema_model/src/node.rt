@@ -184,6 +184,8 @@ pub struct SchemaNode {
     pub module: usize,
     pub name: String,
     pub config: bool,
+    /// Whether none of its items may stand twice, where it is a leaf-list (RFC 7950, 7.7; RFC 6020, 7.7).
+    pub distinct_items: bool,
     pub status: Status,
     pub kind: Kind,
 }

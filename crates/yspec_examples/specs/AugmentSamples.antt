@@ -3,6 +3,7 @@ use Rattle.std.specs.Prelude.{List, [], ◌∷◌, ◌++◌, map, codes, Option,
 use Rattle.yspec.specs.Forest.{Forest}
 use Rattle.yspec.specs.text.Text.{Text}
 use Rattle.yspec.specs.edit.Examples.{module_text}
+use Rattle.yspec_wide.specs.Language.{core}
 use Rattle.yspec_run.specs.Output.{Printed, as_dump, compile, edit, plainly, validate}
 use Rattle.yspec_examples.specs.Printing.{printed_by}
 use Rattle.yspec.specs.schema.Breaks.{Break}
@@ -60,12 +61,12 @@ three_names = codes "a.yang" ∷ codes "b.yang" ∷ codes "m.yang" ∷ []
 
 -- what `compile` prints of them, and `validate` of a document under them
 abbrev pub counted_of_three : Printed
-counted_of_three = printed_by (compile three_names) three_files
+counted_of_three = printed_by (compile core three_names) three_files
 
 abbrev pub shown_of_three : Text → Printed
-shown_of_three document = printed_by (validate plainly (codes "d.json") three_names) (three_files ++ Some document ∷ [])
+shown_of_three document = printed_by (validate core plainly (codes "d.json") three_names) (three_files ++ Some document ∷ [])
 
 -- what `edit --dump` prints of a document and a script
 abbrev pub dumped_of_three : Text → Text → Printed
 dumped_of_three document script =
-    printed_by (edit as_dump (codes "d.json") (codes "s.txt") three_names) (three_files ++ Some document ∷ Some script ∷ [])
+    printed_by (edit core as_dump (codes "d.json") (codes "s.txt") three_names) (three_files ++ Some document ∷ Some script ∷ [])

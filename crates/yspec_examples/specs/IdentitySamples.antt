@@ -2,6 +2,7 @@
 use Rattle.std.specs.Prelude.{[], ◌∷◌, ◌++◌, codes, Some}
 use Rattle.yspec.specs.text.Text.{Text}
 use Rattle.yspec.specs.edit.Examples.{module_text}
+use Rattle.yspec_wide.specs.Language.{core}
 use Rattle.yspec_run.specs.Output.{Printed, as_dump, edit}
 use Rattle.yspec_examples.specs.Printing.{printed_by}
 use Rattle.yspec_examples.specs.RunExamples.{shown_of_two}
@@ -40,5 +41,5 @@ shown_across document = shown_of_two module_u module_s document
 
 -- what a script makes of a document under them
 abbrev pub dumped_across : Text → Text → Printed
-dumped_across document script = printed_by (edit as_dump (codes "d.json") (codes "s.txt") (codes "m.yang" ∷ codes "n.yang" ∷ []))
+dumped_across document script = printed_by (edit core as_dump (codes "d.json") (codes "s.txt") (codes "m.yang" ∷ codes "n.yang" ∷ []))
     (Some module_u ∷ Some module_s ∷ Some document ∷ Some script ∷ [])

@@ -9,6 +9,7 @@ use Rattle.yspec.specs.document.Reading.{document_of}
 use Rattle.yspec.specs.document.Writing.{written_text}
 use Rattle.yspec.specs.edit.Examples.{module_p, module_text}
 use Rattle.ysay_codes.specs.Codes.{reason_of}
+use Rattle.yspec_wide.specs.Language.{Choosing, Language, core}
 use Rattle.yspec_run.specs.Output.{Options, Printed, a_directory, as_dump, compile, draw, edit, outcome, plainly, printed, printed_with, told_as_json, validate}
 use Rattle.yspec_examples.specs.Printing.{found, printed_by}
 
@@ -20,22 +21,22 @@ nested_module = module_text (codes "q") (codes "  container a {\n    container b
 -- what `validate d.json m.yang` prints of a module's text and a document's
 abbrev pub shown : Text → Text → Printed
 shown module_bytes document =
-    printed_by (validate plainly (codes "d.json") (codes "m.yang" ∷ [])) (Some module_bytes ∷ Some document ∷ [])
+    printed_by (validate core plainly (codes "d.json") (codes "m.yang" ∷ [])) (Some module_bytes ∷ Some document ∷ [])
 
 -- the same of two modules' texts
 abbrev pub shown_of_two : Text → Text → Text → Printed
 shown_of_two first second document =
-    printed_by (validate plainly (codes "d.json") (codes "m.yang" ∷ codes "n.yang" ∷ [])) (Some first ∷ Some second ∷ Some document ∷ [])
+    printed_by (validate core plainly (codes "d.json") (codes "m.yang" ∷ codes "n.yang" ∷ [])) (Some first ∷ Some second ∷ Some document ∷ [])
 
 -- the same of one module, with the reasons of what is told
 abbrev pub shown_with_reasons : Text → Text → Printed
 shown_with_reasons module_bytes document =
-    printed true (outcome (validate plainly (codes "d.json") (codes "m.yang" ∷ [])) (Some module_bytes ∷ Some document ∷ []))
+    printed true (outcome (validate core plainly (codes "d.json") (codes "m.yang" ∷ [])) (Some module_bytes ∷ Some document ∷ []))
 
 -- the same as JSON
 abbrev pub shown_as_json : Text → Text → Printed
 shown_as_json module_bytes document =
-    printed_by (validate told_as_json (codes "d.json") (codes "m.yang" ∷ [])) (Some module_bytes ∷ Some document ∷ [])
+    printed_by (validate core told_as_json (codes "d.json") (codes "m.yang" ∷ [])) (Some module_bytes ∷ Some document ∷ [])
 
 -- the line of a fault, what is said of its place, and why its code is told
 abbrev pub with_reasons : Text → Text → Text → Text
@@ -55,7 +56,7 @@ line_with_reasons told line said code = with_reasons (told ++ (codes "\n  | " ++
 
 -- what an edit of a small document under module p by a script dumps, with the reasons of what is told
 abbrev pub edited_with_reasons : Text → Printed
-edited_with_reasons script = printed true (outcome (edit as_dump (codes "d.json") (codes "s.txt") (codes "m.yang" ∷ []))
+edited_with_reasons script = printed true (outcome (edit core as_dump (codes "d.json") (codes "s.txt") (codes "m.yang" ∷ []))
     (Some module_p ∷ Some (codes "{\"p:c\":{\"id\":1}}") ∷ Some script ∷ []))
 
 -- how a document is taken whose members are to come once
@@ -65,11 +66,11 @@ strictly = record plainly { is_strict = true }
 -- what `validate --strict` prints of a document under module p, with the reasons of what is told
 abbrev pub strictly_shown : Text → Printed
 strictly_shown document =
-    printed true (outcome (validate strictly (codes "d.json") (codes "m.yang" ∷ [])) (Some module_p ∷ Some document ∷ []))
+    printed true (outcome (validate core strictly (codes "d.json") (codes "m.yang" ∷ [])) (Some module_p ∷ Some document ∷ []))
 
 -- what `edit --strict` dumps of a small document under module p after a script
 abbrev pub strictly_edited : Text → Printed
-strictly_edited script = printed_by (edit (record as_dump { is_strict = true }) (codes "d.json") (codes "s.txt") (codes "m.yang" ∷ []))
+strictly_edited script = printed_by (edit core (record as_dump { is_strict = true }) (codes "d.json") (codes "s.txt") (codes "m.yang" ∷ []))
     (Some module_p ∷ Some (codes "{\"p:c\":{\"id\":1}}") ∷ Some script ∷ [])
 
 -- hosts of which state is wanted, besides a choice that has a case of state
@@ -86,7 +87,7 @@ of_configuration = record plainly { of_configuration = true }
 -- what `validate --config` prints of a module's text and a document's
 abbrev pub shown_of_configuration : Text → Text → Printed
 shown_of_configuration module_bytes document =
-    printed_by (validate of_configuration (codes "d.json") (codes "m.yang" ∷ [])) (Some module_bytes ∷ Some document ∷ [])
+    printed_by (validate core of_configuration (codes "d.json") (codes "m.yang" ∷ [])) (Some module_bytes ∷ Some document ∷ [])
 
 -- the same under that module
 abbrev pub configured : Text → Printed
@@ -94,19 +95,19 @@ configured document = shown_of_configuration state_module document
 
 -- what `edit --config` prints of a document under it, or dumps
 abbrev pub edited_configuration : Bool → Text → Text → Printed
-edited_configuration is_dump document script = printed_by (edit (record of_configuration { is_dump = is_dump }) (codes "d.json") (codes "s.txt") (codes "m.yang" ∷ []))
+edited_configuration is_dump document script = printed_by (edit core (record of_configuration { is_dump = is_dump }) (codes "d.json") (codes "s.txt") (codes "m.yang" ∷ []))
     (Some state_module ∷ Some document ∷ Some script ∷ [])
 
 -- what `validate --explain` says on the error side of a document under module p, where its reader stops at the third column of
 -- the second line, and a file can't be read since it is a directory
 abbrev pub refused_beside : Text → Text
 refused_beside document = (printed_with (record { line = 2; column = 3; cause = a_directory }) true
-    (outcome (validate plainly (codes "d.json") (codes "m.yang" ∷ [])) (Some module_p ∷ Some document ∷ []))).errors
+    (outcome (validate core plainly (codes "d.json") (codes "m.yang" ∷ [])) (Some module_p ∷ Some document ∷ []))).errors
 
 -- the same without what the kit and the system say
 abbrev pub refused_alone : Text → Text
 refused_alone document =
-    (printed true (outcome (validate plainly (codes "d.json") (codes "m.yang" ∷ [])) (Some module_p ∷ Some document ∷ []))).errors
+    (printed true (outcome (validate core plainly (codes "d.json") (codes "m.yang" ∷ [])) (Some module_p ∷ Some document ∷ []))).errors
 
 -- what one prints under module p
 abbrev pub shown_by_p : Text → Printed
@@ -131,25 +132,29 @@ rewritten module_bytes document =
 
 -- what `compile m.yang` prints of a module's text
 abbrev pub counted : Text → Printed
-counted module_bytes = printed_by (compile (codes "m.yang" ∷ [])) (Some module_bytes ∷ [])
+counted module_bytes = printed_by (compile core (codes "m.yang" ∷ [])) (Some module_bytes ∷ [])
+
+-- the same in a language
+abbrev pub counted_in : Language → Text → Printed
+counted_in language module_bytes = printed_by (compile language (codes "m.yang" ∷ [])) (Some module_bytes ∷ [])
 
 -- what `tree NAME m.yang` prints of a module's text
 abbrev pub drawn_as : Text → Text → Printed
-drawn_as name module_bytes = printed_by (draw name (codes "m.yang" ∷ [])) (Some module_bytes ∷ [])
+drawn_as name module_bytes = printed_by (draw core name (codes "m.yang" ∷ [])) (Some module_bytes ∷ [])
 
 -- what `edit d.json s.txt m.yang` prints of a module's text, a document's and a script's
 abbrev pub scripted : Text → Text → Text → Printed
-scripted module_bytes document script = printed_by (edit plainly (codes "d.json") (codes "s.txt") (codes "m.yang" ∷ []))
+scripted module_bytes document script = printed_by (edit core plainly (codes "d.json") (codes "s.txt") (codes "m.yang" ∷ []))
     (Some module_bytes ∷ Some document ∷ Some script ∷ [])
 
 -- the same with `--dump`
 abbrev pub dumped : Text → Text → Text → Printed
-dumped module_bytes document script = printed_by (edit as_dump (codes "d.json") (codes "s.txt") (codes "m.yang" ∷ []))
+dumped module_bytes document script = printed_by (edit core as_dump (codes "d.json") (codes "s.txt") (codes "m.yang" ∷ []))
     (Some module_bytes ∷ Some document ∷ Some script ∷ [])
 
 -- what `edit --output o.json` prints of these, with other options as they are, and what it writes to that file
 abbrev pub saved_by : Options → Text → Text → Text → Printed
-saved_by options module_bytes document script = printed_by (edit (record options { saved_as = Some (codes "o.json") }) (codes "d.json") (codes "s.txt") (codes "m.yang" ∷ []))
+saved_by options module_bytes document script = printed_by (edit core (record options { saved_as = Some (codes "o.json") }) (codes "d.json") (codes "s.txt") (codes "m.yang" ∷ []))
     (Some module_bytes ∷ Some document ∷ Some script ∷ [])
 
 -- a text that is written to that file besides what is printed
@@ -165,3 +170,19 @@ abbrev pub keyed_module : Text
 keyed_module = module_text (codes "k") (codes "  list n { key a; leaf a { type uint64; } leaf v { type uint8; mandatory true; } }\n"
     ++ (codes "  list t { key a; leaf a { type string; } leaf v { type uint8; mandatory true; } }\n  leaf-list i { type uint8; }\n"
     ++ (codes "  leaf m { type uint8 { range \"0..9\" { error-message \"Too" ++ (127 ∷ (194 ∷ 155 ∷ codes "great.\"; } } }\n")))))
+
+-- ---- languages
+
+-- a module of YANG 1 with a leaf that rests on a feature
+abbrev pub feature_module : Text
+feature_module = codes "module a {\n  namespace \"urn:a\";\n  prefix a;\n  feature f;\n"
+    ++ codes "  leaf x { if-feature f; type string; mandatory true; }\n  leaf y { type string; }\n}\n"
+
+-- no feature of a module is chosen
+abbrev pub no_features : Text → Choosing
+no_features name = record { module_name = name; features = [] }
+
+-- what `validate d.json m.yang` prints in a language of a module's text and a document's
+abbrev pub validated_in : Language → Text → Text → Printed
+validated_in language module_bytes document =
+    printed_by (validate language plainly (codes "d.json") (codes "m.yang" ∷ [])) (Some module_bytes ∷ Some document ∷ [])

@@ -23,11 +23,11 @@ one_module name prefix nodes =
 
 abbrev pub node_of : ℕ → Text → Kind → SchemaNode
 node_of number name kind =
-    record { number = number; module_number = 0; name = name; config = true; status = current; kind = kind }
+    record { number = number; module_number = 0; name = name; config = true; distinct_items = true; status = current; kind = kind }
 
 abbrev pub state_node : ℕ → Text → Kind → SchemaNode
 state_node number name kind =
-    record { number = number; module_number = 0; name = name; config = false; status = current; kind = kind }
+    record { number = number; module_number = 0; name = name; config = false; distinct_items = false; status = current; kind = kind }
 
 abbrev pub of_base : Text → Base → LeafType
 of_base name base = own_type name (plain base)

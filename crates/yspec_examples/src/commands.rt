@@ -3,18 +3,35 @@
 ghost use Rattle.std.specs.Prelude.{◌≡◌, ◌++◌, [], ◌∷◌, None, Some, codes, false, true};
 ghost use Rattle.yspec_examples.specs.CompilingSamples.{net_module, k_module, t_module, restricted_module};
 ghost use Rattle.yspec_examples.specs.Printing.{failed, found, printed_by};
+ghost use Rattle.yspec_wide.specs.Language.{core, rfc};
 ghost use Rattle.yspec_run.specs.Output.{a_directory, as_dump, compile, draw_all, edit, explain, outcome, plainly, printed, printed_with, told_as_json, validate};
 ghost use Rattle.ysay_codes.specs.Codes.{reason_of};
 ghost use Rattle.yspec_run.specs.Script.{lines_of};
 ghost use Rattle.yspec_examples.specs.SchemaExamples.{hosts, one_host};
 ghost use Rattle.yspec.specs.edit.Examples.{module_p, module_text};
-ghost use Rattle.yspec_examples.specs.RunExamples.{and_saved, configured, counted, drawn_as, dumped, edited_configuration, edited_with_reasons, faulty, keyed_module, line_with_reasons, of_configuration, refused_alone, refused_beside, saved_by, scripted, shown, shown_as_json, shown_of_configuration, shown_of_two, state_module, without_faults, one_with_reasons, refused_with_reasons, shown_with_reasons, strictly_edited, strictly_shown, with_reasons};
+ghost use Rattle.yspec_examples.specs.RunExamples.{and_saved, configured, counted, counted_in, drawn_as, dumped, edited_configuration, edited_with_reasons, faulty, feature_module, keyed_module, line_with_reasons, no_features, of_configuration, refused_alone, refused_beside, saved_by, scripted, shown, shown_as_json, shown_of_configuration, shown_of_two, state_module, without_faults, one_with_reasons, refused_with_reasons, shown_with_reasons, strictly_edited, strictly_shown, validated_in, with_reasons};
 
 /// How many nodes modules define.
 pub fn counts()
     ensures network { counted net_module ≡ found 0 (codes "12 nodes\n") }
     ensures container { counted module_p ≡ found 0 (codes "3 nodes\n") }
     ensures refused { counted (codes "module a { prefix \"x") ≡ failed 2 (codes "m.yang:1: L3") }
+{}
+
+/// The nodes that modules define in each language: the core takes no module of YANG 1, a feature that isn't chosen takes away
+/// what rests on it, and of a module that isn't named all are chosen.
+pub fn languages()
+    ensures counted_in_the_core { counted feature_module ≡ failed 2 (codes "m.yang:1: C4") }
+    ensures counted_with_all { counted_in (rfc []) feature_module ≡ found 0 (codes "2 nodes\n") }
+    ensures counted_without { counted_in (rfc (no_features (codes "a") ∷ [])) feature_module
+        ≡ found 0 (codes "1 nodes\n") }
+    ensures counted_under_another_name { counted_in (rfc (no_features (codes "b") ∷ [])) feature_module
+        ≡ found 0 (codes "2 nodes\n") }
+    ensures validated_with_all { validated_in (rfc []) feature_module (codes "{}")
+        ≡ found 1 (codes "V3 data-missing - /a:x -\n1 faults\n") }
+    ensures validated_without { validated_in (rfc (no_features (codes "a") ∷ [])) feature_module (codes "{}")
+        ≡ found 0 (codes "0 faults\n") }
+    ensures core_modules { counted_in (rfc []) module_p ≡ found 0 (codes "3 nodes\n") }
 {}
 
 /// The diagram of a module by its name, and names that no module has.
@@ -27,11 +44,11 @@ pub fn drawn_modules()
     ensures prefix { drawn_as (codes "ex") net_module ≡ failed 2 (codes "ex: no such module") }
     ensures refused { drawn_as (codes "a") (codes "module a { prefix \"x")
         ≡ failed 2 (codes "m.yang:1: L3") }
-    ensures one { printed_by (draw_all (codes "m.yang" ∷ [])) (Some module_p ∷ [])
+    ensures one { printed_by (draw_all core (codes "m.yang" ∷ [])) (Some module_p ∷ [])
         ≡ drawn_as (codes "p") module_p }
-    ensures all { printed_by (draw_all (codes "m.yang" ∷ codes "n.yang" ∷ [])) (Some module_p ∷ Some (module_text (codes "q") (codes "  leaf a { type string; }\n")) ∷ [])
+    ensures all { printed_by (draw_all core (codes "m.yang" ∷ codes "n.yang" ∷ [])) (Some module_p ∷ Some (module_text (codes "q") (codes "  leaf a { type string; }\n")) ∷ [])
         ≡ found 0 (codes "module: p\n  +--rw c\n     +--rw id      uint8\n     +--rw note?   string\n\nmodule: q\n  +--rw a?   string\n") }
-    ensures one_refused { printed_by (draw_all (codes "m.yang" ∷ codes "n.yang" ∷ [])) (Some module_p ∷ Some (codes "module a {") ∷ [])
+    ensures one_refused { printed_by (draw_all core (codes "m.yang" ∷ codes "n.yang" ∷ [])) (Some module_p ∷ Some (codes "module a {") ∷ [])
         ≡ failed 2 (codes "n.yang:1: L6") }
 {}
 
@@ -157,32 +174,32 @@ pub fn derived_values()
 
 /// What is said of codes: by the command, and where it is asked for below the lines that tell them.
 pub fn reasons()
-    ensures of_a_fault { printed true (outcome (validate plainly (codes "d.json") (codes "m.yang" ∷ []))
+    ensures of_a_fault { printed true (outcome (validate core plainly (codes "d.json") (codes "m.yang" ∷ []))
         (Some module_p ∷ Some (codes "{\"p:c\":{}}") ∷ []))
         ≡ found 1 (codes "V3 data-missing - /p:c/id -\n  /p:c: id is missing.\n  A leaf that must be there is missing. Add it, or take the node out around which it must be there.\n1 fault\n") }
-    ensures unasked { printed false (outcome (validate plainly (codes "d.json") (codes "m.yang" ∷ []))
+    ensures unasked { printed false (outcome (validate core plainly (codes "d.json") (codes "m.yang" ∷ []))
         (Some module_p ∷ Some (codes "{\"p:c\":{}}") ∷ []))
         ≡ found 1 (codes "V3 data-missing - /p:c/id -\n1 faults\n") }
-    ensures of_a_value { printed true (outcome (edit as_dump (codes "d.json") (codes "s.txt") (codes "m.yang" ∷ []))
+    ensures of_a_value { printed true (outcome (edit core as_dump (codes "d.json") (codes "s.txt") (codes "m.yang" ∷ []))
         (Some module_p ∷ Some (codes "{\"p:c\":{\"id\":1}}") ∷ Some (codes "replace /p:c []") ∷ []))
         ≡ faulty (codes "line 1: E10 J5\n  | replace /p:c []\n  an array stands where an object is due.\n  A value is of another kind than its node: no object for a container or an entry, no array for a list or leaf-list. Write a container as an object, a list as an array of objects, a leaf-list as an array of values, an empty leaf as [null].\n")
         (codes "{\"p:c\":{\"id\":1}}\n") }
-    ensures of_a_text { printed true (outcome (compile (codes "m.yang" ∷ []))
+    ensures of_a_text { printed true (outcome (compile core (codes "m.yang" ∷ []))
         (Some (codes "module a;}") ∷ []))
         ≡ failed 2 (codes "m.yang:1: L6\n  | module a;}\n  The text isn't one whole module: it ends within a statement, has a } too many, no statement, or a second one at the top. Balance the braces; one file holds one module.") }
-    ensures of_a_slip { printed true (outcome (compile (codes "m.yang" ∷ []))
+    ensures of_a_slip { printed true (outcome (compile core (codes "m.yang" ∷ []))
         (Some (codes "module a {\n\tprefix \"\\x\";\n}") ∷ []))
         ≡ failed 2 (codes "m.yang:2: L4\n  | prefix \"\\x\";\n  In a string in double quotes a backslash stands before another character than n, t, a double quote or a backslash. Double the backslash, or use single quotes, in which it is itself.") }
-    ensures of_a_word { printed true (outcome (compile (codes "a.yang" ∷ codes "m.yang" ∷ []))
+    ensures of_a_word { printed true (outcome (compile core (codes "a.yang" ∷ codes "m.yang" ∷ []))
         (Some module_p ∷ Some (codes "module m {\n  yang-version 1.1; namespace n; prefix m;\n  contaner c;\n}\n") ∷ []))
         ≡ failed 2 (codes "m.yang:3: C1\n  | contaner c;\n  no statement is called contaner; near it: container.\n  A statement or a built-in type isn't known, may not stand there, or isn't read by this program. Correct its name, or move it; README says what of YANG is read.") }
-    ensures of_a_keyword { printed true (outcome (compile (codes "m.yang" ∷ []))
+    ensures of_a_keyword { printed true (outcome (compile core (codes "m.yang" ∷ []))
         (Some (codes "module m {\n  yang-version 1.1; namespace n; prefix m;\n  leaf c { type string { pattern x; } }\n}\n") ∷ []))
         ≡ failed 2 (codes "m.yang:3: C1\n  | leaf c { type string { pattern x; } }\n  pattern is YANG 1.1, and this program doesn't read it.\n  A statement or a built-in type isn't known, may not stand there, or isn't read by this program. Correct its name, or move it; README says what of YANG is read.") }
-    ensures of_a_place { printed true (outcome (compile (codes "m.yang" ∷ []))
+    ensures of_a_place { printed true (outcome (compile core (codes "m.yang" ∷ []))
         (Some (codes "module m {\n  yang-version 1.1; namespace n; prefix m;\n  key c;\n}\n") ∷ []))
         ≡ failed 2 (codes "m.yang:3: C1\n  | key c;\n  key can't stand here.\n  A statement or a built-in type isn't known, may not stand there, or isn't read by this program. Correct its name, or move it; README says what of YANG is read.") }
-    ensures of_a_rule { printed true (outcome (compile (codes "m.yang" ∷ []))
+    ensures of_a_rule { printed true (outcome (compile core (codes "m.yang" ∷ []))
         (Some (codes "module m {\n  yang-version 1.1; namespace n;\n  key c;\n}\n") ∷ []))
         ≡ failed 2 (codes "m.yang:1: C2\n  | module m {\n  A statement has too many or too few substatements of a kind. Leave one of them, or add the one that must be there: a leaf needs a type, a module its namespace and prefix.") }
     ensures of_a_code { printed false (outcome (explain (codes "V10" ∷ [])) [])
@@ -222,7 +239,7 @@ pub fn explained_faults()
     ensures no_target { shown_with_reasons net_module
         (hosts (codes "{\"name\":\"a\",\"auto\":[null],\"uplink\":\"b\"}"))
         ≡ one_with_reasons (codes "V11 data-missing instance-required /ex-net:net/host[1]/uplink -") (codes "/ex-net:net/host[name='a']/uplink: no instance of /ex-net:net/host/name is \"b\".") (codes "V11") }
-    ensures after_edits { printed true (outcome (edit plainly (codes "d.json") (codes "s.txt") (codes "m.yang" ∷ []))
+    ensures after_edits { printed true (outcome (edit core plainly (codes "d.json") (codes "s.txt") (codes "m.yang" ∷ []))
         (Some module_p ∷ Some (codes "{\"p:c\":{\"id\":1}}")
         ∷ Some (codes "replace /p:c/id 300") ∷ []))
         ≡ one_with_reasons (codes "V1 invalid-value - /p:c/id -") (codes "/p:c/id: 300 isn't a value of uint8: it takes an integer without quotes in 0..255.") (codes "V1") }
@@ -271,10 +288,10 @@ pub fn faults_as_json()
         ++ codes "{\"yanglive:faults\":1}\n") }
     ensures none { shown_as_json module_p (codes "{\"p:c\":{\"id\":1}}")
         ≡ found 0 (codes "{\"yanglive:faults\":0}\n") }
-    ensures with_reasons { printed true (outcome (validate told_as_json (codes "d.json") (codes "m.yang" ∷ []))
+    ensures with_reasons { printed true (outcome (validate core told_as_json (codes "d.json") (codes "m.yang" ∷ []))
         (Some module_p ∷ Some (codes "{\"p:c\":{\"id\":1}}") ∷ []))
         ≡ found 0 (codes "{\"yanglive:faults\":0}\n") }
-    ensures dump { printed false (outcome (edit (record told_as_json { is_dump = true }) (codes "d.json") (codes "s.txt") (codes "m.yang" ∷ []))
+    ensures dump { printed false (outcome (edit core (record told_as_json { is_dump = true }) (codes "d.json") (codes "s.txt") (codes "m.yang" ∷ []))
         (Some module_p ∷ Some (codes "{\"p:c\":{\"id\":1}}") ∷ Some [] ∷ []))
         ≡ found 0 (codes "{\"p:c\":{\"id\":1}}\n") }
 {}
@@ -287,10 +304,10 @@ pub fn said_besides()
     ensures no_object { refused_beside (codes "[]") ≡ refused_alone (codes "[]") ++ [] }
     ensures another_name { refused_beside (codes "{\"c\":{}}") ≡ refused_alone (codes "{\"c\":{}}") ++ [] }
     ensures unread { (printed_with (record { line = 2; column = 3; cause = a_directory }) true
-        (outcome (compile (codes "m.yang" ∷ [])) (None ∷ []))).errors
+        (outcome (compile core (codes "m.yang" ∷ [])) (None ∷ []))).errors
         ≡ codes "cannot read m.yang\n  it is a directory.\n" }
     ensures unasked { (printed_with (record { line = 2; column = 3; cause = a_directory }) false
-        (outcome (compile (codes "m.yang" ∷ [])) (None ∷ []))).errors
+        (outcome (compile core (codes "m.yang" ∷ [])) (None ∷ []))).errors
         ≡ codes "cannot read m.yang\n" }
 {}
 
@@ -361,7 +378,7 @@ pub fn explained_refusals()
         ≡ refused_with_reasons (codes "d.json: J4 /p:c") (codes "here \"p:id\" is written id.") (codes "J4") }
     ensures another_kind { shown_with_reasons module_p (codes "{\"p:c\":[]}")
         ≡ refused_with_reasons (codes "d.json: J5 /p:c") (codes "an array stands where an object is due.") (codes "J5") }
-    ensures before_edits { printed true (outcome (edit as_dump (codes "d.json") (codes "s.txt") (codes "m.yang" ∷ []))
+    ensures before_edits { printed true (outcome (edit core as_dump (codes "d.json") (codes "s.txt") (codes "m.yang" ∷ []))
         (Some module_p ∷ Some (codes "{\"p:c\":{\"id\":{}}}") ∷ Some [] ∷ []))
         ≡ refused_with_reasons (codes "d.json: J5 /p:c/id") (codes "an object stands where a leaf's value is due.") (codes "J5") }
     ensures nothing_more { shown_with_reasons module_p (codes "{\"p:c\":{\"id\":1.5}}")

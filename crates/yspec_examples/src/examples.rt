@@ -1,6 +1,7 @@
 //! Worked examples, from the bytes of a module and a document to the bytes that are printed.
 
 ghost use Rattle.std.specs.Prelude.{◌≡◌, ◌++◌, [], ◌∷◌, codes, Some, None};
+ghost use Rattle.yspec_wide.specs.Language.{core};
 ghost use Rattle.yspec_run.specs.Output.{plainly, validate};
 ghost use Rattle.yspec_examples.specs.Printing.{failed, found, printed_by};
 ghost use Rattle.yspec.specs.edit.Examples.{module_text, module_p, container_module};
@@ -100,9 +101,9 @@ pub fn sets_of_modules()
 
 /// The first file that can't be read is told, and nothing else.
 pub fn unread_files()
-    ensures of_a_document { printed_by (validate plainly (codes "d.json") (codes "m.yang" ∷ [])) (Some module_p
+    ensures of_a_document { printed_by (validate core plainly (codes "d.json") (codes "m.yang" ∷ [])) (Some module_p
         ∷ None ∷ [])
         ≡ failed 4 (codes "cannot read d.json") }
-    ensures of_a_module { printed_by (validate plainly (codes "d.json") (codes "m.yang" ∷ [])) (None ∷ [])
+    ensures of_a_module { printed_by (validate core plainly (codes "d.json") (codes "m.yang" ∷ [])) (None ∷ [])
         ≡ failed 4 (codes "cannot read m.yang") }
 {}

@@ -3,6 +3,7 @@
 
 ghost use Rattle.std.specs.Prelude.{◌≡◌, ◌++◌, ◌∷◌, [], codes, map, Some, None, true};
 ghost use Rattle.yspec.specs.edit.Examples.{module_p, module_text};
+ghost use Rattle.yspec_wide.specs.Language.{core};
 ghost use Rattle.yspec_run.specs.Output.{as_dump, outcome, plainly, printed, told_as_json, validate};
 ghost use Rattle.yspec_run.specs.RefusalData.{document_tag, edit_tag, module_tag};
 ghost use Rattle.yspec_examples.specs.RefusalExamples.{both, edited_told, object_of, strictly_told, told, told_of};
@@ -60,11 +61,11 @@ pub fn unread_files()
     ensures of_a_document { told (Some module_p ∷ None ∷ []) ≡ both 4 (codes "cannot read d.json\n")
         (object_of (codes "The file can't be read.") (codes "operation-failed") (codes ",\"yanglive:file\":\"d.json\"")) }
     ensures escaped { printed true
-        (outcome (validate told_as_json (codes "a\"b") (codes "m.yang" ∷ [])) (Some module_p ∷ None ∷ []))
+        (outcome (validate core told_as_json (codes "a\"b") (codes "m.yang" ∷ [])) (Some module_p ∷ None ∷ []))
         ≡ both 4 (codes "cannot read a\"b\n")
         (object_of (codes "The file can't be read.") (codes "operation-failed") (codes ",\"yanglive:file\":\"a\\\"b\"")) }
     ensures as_text { printed true
-        (outcome (validate plainly (codes "d.json") (codes "m.yang" ∷ [])) (Some module_p ∷ None ∷ []))
+        (outcome (validate core plainly (codes "d.json") (codes "m.yang" ∷ [])) (Some module_p ∷ None ∷ []))
         ≡ both 4 (codes "cannot read d.json\n") [] }
 {}
 

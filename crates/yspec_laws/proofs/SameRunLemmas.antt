@@ -8,6 +8,7 @@ use Rattle.yspec.specs.document.Document.{Tree}
 use Rattle.yspec.specs.document.Reading.{Refusal, document_of}
 use Rattle.yspec.specs.document.StateData.{Inspected}
 use Rattle.ysay_repeated.specs.Repeated.{repeated_in}
+use Rattle.yspec_wide.specs.Language.{Language}
 use Rattle.yspec_run.specs.Part.{Part}
 use Rattle.yspec_run.specs.Script.{after_lines, lines_of, refused_lines}
 use Rattle.yspec_run.specs.Output.{Options, Outcome, Request, edit, edited, first_file, found_of, nothing, other_files, outcome, performed, repeated_document, report, saved_by, text_instead, text_parts, told_too, unless_repeated, validate, with_document, with_files, with_first, with_tree}
@@ -70,45 +71,45 @@ module _ (schema : Schema) where
     told = None;
   }
 
-  module _ (options : Options) (all : HasNoState schema) where
+  module _ (language : Language) (options : Options) (all : HasNoState schema) where
     same_left : (tree : Tree) (lines : List Text) → edited (looking true options) schema tree lines ≡ edited (looking false options) schema tree lines
     same_left tree lines =
         ap (made_of options (after_lines options.is_strict schema tree lines) (refused_lines options.is_strict schema 1 tree lines))
         (same_inspected schema (after_lines options.is_strict schema tree lines) all)
 
     module _ (document : Text) (names : List Text) (contents more : List (List ℕ)) (count : length contents ≡ length names)
-        (give : Give names contents schema) where
+        (give : Give language names contents schema) where
       -- with the files behind the document's taken as lines somehow
       same_performed : (lines : List (List ℕ) → List Text) (files : List (List ℕ))
-          → with_document options.is_strict document names (contents ++ files) (λ s tree files. edited (looking true options) s tree (lines files))
-          ≡ with_document options.is_strict document names (contents ++ files) (λ s tree files. edited (looking false options) s tree (lines files))
+          → with_document language options.is_strict document names (contents ++ files) (λ s tree files. edited (looking true options) s tree (lines files))
+          ≡ with_document language options.is_strict document names (contents ++ files) (λ s tree files. edited (looking false options) s tree (lines files))
       same_performed lines files =
           give files (with_first options.is_strict document (λ s tree files. edited (looking true options) s tree (lines files)))
           ∙ (same_first options.is_strict document (λ s tree files. edited (looking true options) s tree (lines files))
           (λ s tree files. edited (looking false options) s tree (lines files)) (λ tree files. same_left tree (lines files)) files
           ∙ sym (give files (with_first options.is_strict document (λ s tree files. edited (looking false options) s tree (lines files)))))
 
-      validated_same : outcome (validate (looking true options) document names) (map Some (contents ++ more))
-          ≡ outcome (validate (looking false options) document names) (map Some (contents ++ more))
+      validated_same : outcome (validate language (looking true options) document names) (map Some (contents ++ more))
+          ≡ outcome (validate language (looking false options) document names) (map Some (contents ++ more))
       unfolding outcome
-      validated_same = ap (told_too options.as_json) (same_outcome (validate (looking true options) document names)
-          (validate (looking false options) document names) names (document ∷ []) contents more count (same_performed (λ files. [])))
+      validated_same = ap (told_too options.as_json) (same_outcome (validate language (looking true options) document names)
+          (validate language (looking false options) document names) names (document ∷ []) contents more count (same_performed (λ files. [])))
 
-      edited_same : (script : Text) → outcome (edit (looking true options) document script names) (map Some (contents ++ more))
-          ≡ outcome (edit (looking false options) document script names) (map Some (contents ++ more))
+      edited_same : (script : Text) → outcome (edit language (looking true options) document script names) (map Some (contents ++ more))
+          ≡ outcome (edit language (looking false options) document script names) (map Some (contents ++ more))
       unfolding outcome
-      edited_same script = ap (told_too options.as_json) (same_outcome (edit (looking true options) document script names)
-          (edit (looking false options) document script names) names (document ∷ script ∷ []) contents more count
+      edited_same script = ap (told_too options.as_json) (same_outcome (edit language (looking true options) document script names)
+          (edit language (looking false options) document script names) names (document ∷ script ∷ []) contents more count
           (same_performed (λ files. lines_of (first_file files))))
 
 -- ---- modules under which a run reports
 
-given_by : (options : Options) (document : Text) (names : List Text) (contents more : List (List ℕ)) → length contents ≡ length names
-    → IsReport (with_files (document ∷ []) (map Some more) (λ rest. performed (validate options document names) (contents ++ rest))) → IsGiven names contents
-given_by options document names contents [] count shown = absurd (omega (arith, shown))
-given_by options document names contents (bytes ∷ more) count shown =
+given_by : (language : Language) (options : Options) (document : Text) (names : List Text) (contents more : List (List ℕ)) → length contents ≡ length names
+    → IsReport (with_files (document ∷ []) (map Some more) (λ rest. performed (validate language options document names) (contents ++ rest))) → IsGiven language names contents
+given_by language options document names contents [] count shown = absurd (omega (arith, shown))
+given_by language options document names contents (bytes ∷ more) count shown =
     let next : Schema → Tree → List (List ℕ) → Outcome = λ schema tree files. edited options schema tree [] in
-    let code = is_compiled names contents (bytes ∷ []) (with_first options.is_strict document next) count shown in
+    let code = is_compiled language names contents (bytes ∷ []) (with_first options.is_strict document next) count shown in
     (code.schema, (code.top, code.compiles), code.is)
 
 -- what is told besides leaves the status
@@ -116,23 +117,23 @@ report_alone : (as_json : Bool) (o : Outcome) → IsReport (told_too as_json o) 
 report_alone true o shown = shown
 report_alone false o shown = shown
 
-pub given_where_reported : (options : Options) (document : Text) (names : List Text) (contents more : List (List ℕ)) → length contents ≡ length names
-    → IsReport (outcome (validate options document names) (map Some (contents ++ more))) → IsGiven names contents
+pub given_where_reported : (language : Language) (options : Options) (document : Text) (names : List Text) (contents more : List (List ℕ)) → length contents ≡ length names
+    → IsReport (outcome (validate language options document names) (map Some (contents ++ more))) → IsGiven language names contents
 unfolding outcome
-given_where_reported options document names contents more count shown =
-    let request = validate options document names in
-    given_by options document names contents more count
+given_where_reported language options document names contents more count shown =
+    let request = validate language options document names in
+    given_by language options document names contents more count
     (subst IsReport (all_read names (document ∷ []) contents more (performed request) count)
     (report_alone options.as_json (found_of request (map Some (contents ++ more))) shown))
 
-pub same_validated : (options : Options) (document : Text) (names : List Text) (contents more : List (List ℕ)) (schema : Schema)
-    → length contents ≡ length names → Give names contents schema → HasNoState schema
-    → outcome (validate (looking true options) document names) (map Some (contents ++ more))
-    ≡ outcome (validate (looking false options) document names) (map Some (contents ++ more))
-same_validated options document names contents more schema count give all = validated_same schema options all document names contents more count give
+pub same_validated : (language : Language) (options : Options) (document : Text) (names : List Text) (contents more : List (List ℕ)) (schema : Schema)
+    → length contents ≡ length names → Give language names contents schema → HasNoState schema
+    → outcome (validate language (looking true options) document names) (map Some (contents ++ more))
+    ≡ outcome (validate language (looking false options) document names) (map Some (contents ++ more))
+same_validated language options document names contents more schema count give all = validated_same schema language options all document names contents more count give
 
-pub same_edited : (options : Options) (document script : Text) (names : List Text) (contents more : List (List ℕ)) (schema : Schema)
-    → length contents ≡ length names → Give names contents schema → HasNoState schema
-    → outcome (edit (looking true options) document script names) (map Some (contents ++ more))
-    ≡ outcome (edit (looking false options) document script names) (map Some (contents ++ more))
-same_edited options document script names contents more schema count give all = edited_same schema options all document names contents more count give script
+pub same_edited : (language : Language) (options : Options) (document script : Text) (names : List Text) (contents more : List (List ℕ)) (schema : Schema)
+    → length contents ≡ length names → Give language names contents schema → HasNoState schema
+    → outcome (edit language (looking true options) document script names) (map Some (contents ++ more))
+    ≡ outcome (edit language (looking false options) document script names) (map Some (contents ++ more))
+same_edited language options document script names contents more schema count give all = edited_same schema language options all document names contents more count give script

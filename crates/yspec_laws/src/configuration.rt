@@ -5,6 +5,7 @@ ghost use Rattle.yspec.specs.text.Text.{Text};
 ghost use Rattle.yspec.specs.schema.Schema.{Schema};
 ghost use Rattle.yspec.specs.document.Document.{Tree};
 ghost use Rattle.yspec.specs.document.StateData.{configuration_tree, inspected, state_faults};
+ghost use Rattle.yspec_wide.specs.Language.{Language};
 ghost use Rattle.yspec_run.specs.Output.{Options, edit, outcome, validate};
 ghost use Rattle.yspec_laws.specs.Stateless.{Give, HasNoState, IsGiven, looking};
 
@@ -20,26 +21,26 @@ pub fn all_is_configuration()
         → inspected true schema tree ≡ inspected false schema tree }
 {}
 
-/// Where a run reports on a document, its modules give a schema, which is that of a set that compiles.
+/// Where in a language a run reports on a document, its modules give a schema, which is that of a set that compiles.
 pub fn given_schemas()
-    ensures { (options : Options) (document : Text) (names : List Text) (contents more : List (List ℕ))
+    ensures { (language : Language) (options : Options) (document : Text) (names : List Text) (contents more : List (List ℕ))
         → length contents ≡ length names
-        → (outcome (validate options document names) (map Some (contents ++ more))).status ≤ 1
-        → IsGiven names contents }
+        → (outcome (validate language options document names) (map Some (contents ++ more))).status ≤ 1
+        → IsGiven language names contents }
 {}
 
-/// Under modules without state `--config` changes nothing of what a run prints, of its status and of the file that is due.
+/// In any language, under modules without state `--config` changes nothing of what a run prints, of its status and of the file that is due.
 pub fn same_runs()
-    ensures validated { (options : Options) (document : Text) (names : List Text)
+    ensures validated { (language : Language) (options : Options) (document : Text) (names : List Text)
         (contents more : List (List ℕ)) (schema : Schema) → length contents ≡ length names
-        → Give names contents schema → HasNoState schema
-        → outcome (validate (looking true options) document names) (map Some (contents ++ more))
-        ≡ outcome (validate (looking false options) document names) (map Some (contents ++ more)) }
-    ensures edited { (options : Options) (document script : Text) (names : List Text)
+        → Give language names contents schema → HasNoState schema
+        → outcome (validate language (looking true options) document names) (map Some (contents ++ more))
+        ≡ outcome (validate language (looking false options) document names) (map Some (contents ++ more)) }
+    ensures edited { (language : Language) (options : Options) (document script : Text) (names : List Text)
         (contents more : List (List ℕ)) (schema : Schema) → length contents ≡ length names
-        → Give names contents schema → HasNoState schema
-        → outcome (edit (looking true options) document script names)
+        → Give language names contents schema → HasNoState schema
+        → outcome (edit language (looking true options) document script names)
         (map Some (contents ++ more))
-        ≡ outcome (edit (looking false options) document script names)
+        ≡ outcome (edit language (looking false options) document script names)
         (map Some (contents ++ more)) }
 {}

@@ -8,7 +8,7 @@ use Rattle.yspec.specs.document.Document.{Stored, Tree}
 
 abbrev pub node_of : ℕ → Kind → SchemaNode
 node_of number kind =
-    record { number = number; module_number = 0; name = codes "n"; config = true; status = current; kind = kind }
+    record { number = number; module_number = 0; name = codes "n"; config = true; distinct_items = true; status = current; kind = kind }
 
 abbrev pub words : LeafType
 words = own_type (codes "string") (plain string_base)

@@ -6,9 +6,10 @@ use Rattle.yspec.specs.text.Text.{Text}
 use Rattle.yspec.specs.text.Statement.{Statement, Slip, module_of}
 use Rattle.yspec.specs.schema.Breaks.{Break}
 use Rattle.yspec.specs.schema.Schema.{Schema}
-use Rattle.yspec.specs.linking.Compiling.{compiled}
 use Rattle.yspec.specs.document.Document.{Step, Tree}
 use Rattle.yspec.specs.document.Reading.{Refusal, document_of}
+use Rattle.yspec_wide.specs.Language.{Language}
+use Rattle.yspec_wide.specs.Compiling.{compiled_in}
 use Rattle.ysay_repeated.specs.Repeated.{repeated_in}
 use Rattle.yspec_run.specs.Output.{Options, Outcome, edit, edited, first_file, other_files, outcome, repeated_document, told_too, unless_repeated, validate, with_compiled, with_document, with_files, with_first, with_module, with_modules, with_schema, with_tree}
 use Rattle.yspec_run.specs.Script.{lines_of}
@@ -46,12 +47,12 @@ modules_alike (name ∷ names) (bytes ∷ contents) next other alike =
     by (Err slip) inner = same (with_module name bytes (Err slip) (behind next))
     by (Ok top) inner = inner top
 
-schema_alike : (names : List Text) (contents : List (List ℕ)) (next other : Schema → List (List ℕ) → Outcome)
+schema_alike : (language : Language) (names : List Text) (contents : List (List ℕ)) (next other : Schema → List (List ℕ) → Outcome)
     → ((schema : Schema) (files : List (List ℕ)) → AlikeBesides (next schema files) (other schema files))
-    → AlikeBesides (with_schema names contents next) (with_schema names contents other)
-schema_alike names contents next other alike =
-    modules_alike names contents (λ modules files. with_compiled names contents modules (compiled modules) (λ schema. next schema files))
-    (λ modules files. with_compiled names contents modules (compiled modules) (λ schema. other schema files)) (λ modules files. by modules files (compiled modules))
+    → AlikeBesides (with_schema language names contents next) (with_schema language names contents other)
+schema_alike language names contents next other alike =
+    modules_alike names contents (λ modules files. with_compiled names contents modules (compiled_in language modules) (λ schema. next schema files))
+    (λ modules files. with_compiled names contents modules (compiled_in language modules) (λ schema. other schema files)) (λ modules files. by modules files (compiled_in language modules))
   where
     by : (modules : Forest Statement) (files : List (List ℕ)) (o : Result Schema Break)
         → AlikeBesides (with_compiled names contents modules o (λ schema. next schema files)) (with_compiled names contents modules o (λ schema. other schema files))
@@ -69,10 +70,10 @@ unless_alike true schema name bytes next other tree alike = by (repeated_in sche
     by None = alike
     by (Some place) = same (repeated_document schema name place)
 
-document_alike : (is_strict : Bool) (name : Text) (names : List Text) (contents : List (List ℕ)) (next other : Schema → Tree → List (List ℕ) → Outcome)
+document_alike : (language : Language) (is_strict : Bool) (name : Text) (names : List Text) (contents : List (List ℕ)) (next other : Schema → Tree → List (List ℕ) → Outcome)
     → ((schema : Schema) (tree : Tree) (files : List (List ℕ)) → AlikeBesides (next schema tree files) (other schema tree files))
-    → AlikeBesides (with_document is_strict name names contents next) (with_document is_strict name names contents other)
-document_alike is_strict name names contents next other alike = schema_alike names contents (with_first is_strict name next) (with_first is_strict name other)
+    → AlikeBesides (with_document language is_strict name names contents next) (with_document language is_strict name names contents other)
+document_alike language is_strict name names contents next other alike = schema_alike language names contents (with_first is_strict name next) (with_first is_strict name other)
     (λ schema files. by schema files (document_of schema (first_file files)))
   where
     under : (Schema → Tree → List (List ℕ) → Outcome) → Schema → List (List ℕ) → Result Tree Refusal → Outcome
@@ -90,30 +91,30 @@ edited_alike options schema tree lines = record { errors = refl; status = refl; 
 
 -- ---- runs
 
-module _ (options : Options) (document : Text) (names : List Text) (answers : List (Option (List ℕ))) where
+module _ (language : Language) (options : Options) (document : Text) (names : List Text) (answers : List (Option (List ℕ))) where
   -- with the files behind the document's taken as lines somehow
   made_alike : (lines : List (List ℕ) → List Text) (contents : List (List ℕ))
-      → AlikeBesides (with_document options.is_strict document names contents (λ schema tree files. edited (in_format true options) schema tree (lines files)))
-      (with_document options.is_strict document names contents (λ schema tree files. edited (in_format false options) schema tree (lines files)))
-  made_alike lines contents = document_alike options.is_strict document names contents
+      → AlikeBesides (with_document language options.is_strict document names contents (λ schema tree files. edited (in_format true options) schema tree (lines files)))
+      (with_document language options.is_strict document names contents (λ schema tree files. edited (in_format false options) schema tree (lines files)))
+  made_alike lines contents = document_alike language options.is_strict document names contents
       (λ schema tree files. edited (in_format true options) schema tree (lines files))
       (λ schema tree files. edited (in_format false options) schema tree (lines files))
       (λ schema tree files. edited_alike options schema tree (lines files))
 
   -- what is found, told so
   abbrev run : (List (List ℕ) → List Text) → Bool → List (List ℕ) → Outcome
-  run lines as_json contents = with_document options.is_strict document names contents (λ schema tree files. edited (in_format as_json options) schema tree (lines files))
+  run lines as_json contents = with_document language options.is_strict document names contents (λ schema tree files. edited (in_format as_json options) schema tree (lines files))
 
   runs_alike : (files : List Text) (lines : List (List ℕ) → List Text)
       → AlikeBesides (told_too true (with_files files answers (run lines true))) (told_too false (with_files files answers (run lines false)))
   runs_alike files lines = told_alike (with_files files answers (run lines true)) (with_files files answers (run lines false))
       (files_alike files answers (run lines true) (run lines false) (made_alike lines))
 
-  pub validated_alike : AlikeBesides (outcome (validate (in_format true options) document names) answers) (outcome (validate (in_format false options) document names) answers)
+  pub validated_alike : AlikeBesides (outcome (validate language (in_format true options) document names) answers) (outcome (validate language (in_format false options) document names) answers)
   unfolding outcome
   validated_alike = runs_alike (names ++ document ∷ []) (λ files. [])
 
   pub edits_alike : (script : Text)
-      → AlikeBesides (outcome (edit (in_format true options) document script names) answers) (outcome (edit (in_format false options) document script names) answers)
+      → AlikeBesides (outcome (edit language (in_format true options) document script names) answers) (outcome (edit language (in_format false options) document script names) answers)
   unfolding outcome
   edits_alike script = runs_alike (names ++ document ∷ script ∷ []) (λ files. lines_of (first_file files))

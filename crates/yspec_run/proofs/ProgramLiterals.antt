@@ -1,6 +1,6 @@
 -- What an answer unfolds to compute the outcome of a run on literals.
 use Rattle.std.specs.Prelude.{⊤}
-use Rattle.yspec.proofs.LiteralLemmas.{yspec_on_literals}
+use Rattle.yspec_wide.proofs.WideLiterals.{ywide_on_literals}
 use Rattle.ysay_text.specs.Line.{shown_line}
 use Rattle.ysay_text.specs.Near.{is_near, nearest}
 use Rattle.ysay_text.specs.Sentence.{of_line}
@@ -9,5 +9,5 @@ use Rattle.ysay_repeated.specs.Repeated.{has_repeated, repeated_in}
 use Rattle.yspec_run.specs.Output.{outcome}
 
 unfoldable pub yprogram_on_literals : ⊤
-unfolding yspec_on_literals outcome shown_line of_line is_near nearest said_of_refusal repeated_in has_repeated
+unfolding ywide_on_literals outcome shown_line of_line is_near nearest said_of_refusal repeated_in has_repeated
 yprogram_on_literals = tt

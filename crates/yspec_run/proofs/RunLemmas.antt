@@ -5,9 +5,10 @@ use Rattle.yspec.specs.text.Text.{Text}
 use Rattle.yspec.specs.text.Statement.{Statement, Slip, module_of}
 use Rattle.yspec.specs.schema.Breaks.{Break}
 use Rattle.yspec.specs.schema.Schema.{Schema}
-use Rattle.yspec.specs.linking.Compiling.{compiled}
 use Rattle.yspec.specs.document.Document.{Tree}
 use Rattle.yspec.specs.document.Reading.{Refusal}
+use Rattle.yspec_wide.specs.Language.{Language}
+use Rattle.yspec_wide.specs.Compiling.{compiled_in}
 use Rattle.yspec_run.specs.Output.{Outcome, with_files, with_module, with_modules, with_compiled, with_schema, with_tree}
 
 -- a report, be there faults or not
@@ -81,28 +82,28 @@ are_parsed (name ∷ names) (bytes ∷ contents) rest next count shown =
           ∙ behind.is rest (λ below files. next (join top below) files);
     }
 
-pub record IsCompiled (names : List Text) (contents : List (List ℕ)) : Type 0 where
+pub record IsCompiled (language : Language) (names : List Text) (contents : List (List ℕ)) : Type 0 where
   pub top : Forest Statement
   pub schema : Schema
-  pub compiles : compiled top ≡ Ok schema
-  pub is : (rest : List (List ℕ)) (next : Schema → List (List ℕ) → Outcome) → with_schema names (contents ++ rest) next ≡ next schema rest
+  pub compiles : compiled_in language top ≡ Ok schema
+  pub is : (rest : List (List ℕ)) (next : Schema → List (List ℕ) → Outcome) → with_schema language names (contents ++ rest) next ≡ next schema rest
 
-pub is_compiled : (names : List Text) (contents rest : List (List ℕ)) (next : Schema → List (List ℕ) → Outcome)
-    → length contents ≡ length names → IsReport (with_schema names (contents ++ rest) next) → IsCompiled names contents
-is_compiled names contents rest next count shown =
-    by (compiled parsed.top) refl (subst IsReport (parsed.is rest (λ modules files. with_compiled names (contents ++ rest) modules (compiled modules) (λ schema. next schema files))) shown)
+pub is_compiled : (language : Language) (names : List Text) (contents rest : List (List ℕ)) (next : Schema → List (List ℕ) → Outcome)
+    → length contents ≡ length names → IsReport (with_schema language names (contents ++ rest) next) → IsCompiled language names contents
+is_compiled language names contents rest next count shown =
+    by (compiled_in language parsed.top) refl (subst IsReport (parsed.is rest (λ modules files. with_compiled names (contents ++ rest) modules (compiled_in language modules) (λ schema. next schema files))) shown)
   where
     parsed : AreParsed names contents
-    parsed = are_parsed names contents rest (λ modules files. with_compiled names (contents ++ rest) modules (compiled modules) (λ schema. next schema files)) count shown
+    parsed = are_parsed names contents rest (λ modules files. with_compiled names (contents ++ rest) modules (compiled_in language modules) (λ schema. next schema files)) count shown
 
-    by : (o : Result Schema Break) → compiled parsed.top ≡ o → IsReport (with_compiled names (contents ++ rest) parsed.top o (λ schema. next schema rest)) → IsCompiled names contents
+    by : (o : Result Schema Break) → compiled_in language parsed.top ≡ o → IsReport (with_compiled names (contents ++ rest) parsed.top o (λ schema. next schema rest)) → IsCompiled language names contents
     by (Err broken) is shown = absurd (omega (arith, shown))
     by (Ok schema) is shown = record {
       top = parsed.top;
       schema = schema;
       compiles = is;
       is = λ rest next.
-          parsed.is rest (λ modules files. with_compiled names (contents ++ rest) modules (compiled modules) (λ schema. next schema files))
+          parsed.is rest (λ modules files. with_compiled names (contents ++ rest) modules (compiled_in language modules) (λ schema. next schema files))
           ∙ ap (λ (o : Result Schema Break). with_compiled names (contents ++ rest) parsed.top o (λ schema. next schema rest)) is;
     }
 

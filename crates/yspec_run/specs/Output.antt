@@ -9,7 +9,6 @@ use Rattle.yspec.specs.text.Statement.{Statement, Slip, module_of}
 use Rattle.yspec.specs.schema.Breaks.{Break}
 use Rattle.yspec.specs.schema.Schema.{Schema}
 use Rattle.yspec.specs.schema.Diagram.{diagram}
-use Rattle.yspec.specs.linking.Compiling.{compiled}
 use Rattle.yspec.specs.document.Document.{Step, Tree}
 use Rattle.yspec.specs.document.Reading.{Refusal, document_of}
 use Rattle.yspec.specs.document.Fault.{Fault}
@@ -18,6 +17,8 @@ use Rattle.yspec.specs.document.Faults.{line_of}
 use Rattle.yspec.specs.document.StateData.{Inspected, inspected}
 use Rattle.yspec.specs.document.Path.{path_text}
 use Rattle.yspec.specs.document.Writing.{written_text}
+use Rattle.yspec_wide.specs.Language.{Language}
+use Rattle.yspec_wide.specs.Compiling.{compiled_in}
 use Rattle.ysay_fault.specs.Sentences.{explained_fault}
 use Rattle.ysay_json.specs.FaultData.{json_text}
 use Rattle.ysay_json.specs.RefusalData.{Refused}
@@ -49,20 +50,20 @@ as_dump = record plainly { is_dump = true }
 abbrev pub told_as_json : Options
 told_as_json = record plainly { as_json = true }
 
--- what the words of a command line ask for
+-- what the words of a command line ask for; modules are read in a language
 pub data Request : Type 0 where
   -- what is said of codes; of all where none is named
   explain : List Text → Request
   -- how many schema nodes modules define
-  compile : List Text → Request
+  compile : Language → List Text → Request
   -- the tree diagram of the module of a name
-  draw : Text → List Text → Request
+  draw : Language → Text → List Text → Request
   -- those of all modules
-  draw_all : List Text → Request
+  draw_all : Language → List Text → Request
   -- the faults of a document under modules
-  validate : Options → Text → List Text → Request
+  validate : Language → Options → Text → List Text → Request
   -- the same after the edits of a script
-  edit : Options → Text → Text → List Text → Request
+  edit : Language → Options → Text → Text → List Text → Request
 
 -- a file with what it is to contain
 pub record SavedFile : Type 0 where
@@ -163,11 +164,11 @@ told_too true o = record o { output = object_parts o.told ++ o.output }
 -- the words for files in the order in which they are read: modules, the document, the script
 abbrev pub files_of : Request → List Text
 files_of (explain names) = []
-files_of (compile modules) = modules
-files_of (draw name modules) = modules
-files_of (draw_all modules) = modules
-files_of (validate options document modules) = modules ++ document ∷ []
-files_of (edit options document script modules) = modules ++ document ∷ script ∷ []
+files_of (compile language modules) = modules
+files_of (draw language name modules) = modules
+files_of (draw_all language modules) = modules
+files_of (validate language options document modules) = modules ++ document ∷ []
+files_of (edit language options document script modules) = modules ++ document ∷ script ∷ []
 
 abbrev pub unread : Text → Outcome
 unread name = with_object (unread_object name) (record (failed 4 (codes "cannot read " ++ name)) { aside = cause })
@@ -214,10 +215,10 @@ abbrev pub with_compiled : List Text → List (List ℕ) → Forest Statement �
 with_compiled names contents modules (Err b) next = broken names contents modules b
 with_compiled names contents modules (Ok schema) next = next schema
 
--- `next` goes on with the schema of modules whose files have these contents, and with the files that are left
-abbrev pub with_schema : List Text → List (List ℕ) → (Schema → List (List ℕ) → Outcome) → Outcome
-with_schema names contents next = with_modules names contents (λ modules files.
-    with_compiled names contents modules (compiled modules) (λ schema. next schema files))
+-- `next` goes on with the schema in a language of modules whose files have these contents, and with the files that are left
+abbrev pub with_schema : Language → List Text → List (List ℕ) → (Schema → List (List ℕ) → Outcome) → Outcome
+with_schema language names contents next = with_modules names contents (λ modules files.
+    with_compiled names contents modules (compiled_in language modules) (λ schema. next schema files))
 
 -- ---- the document
 
@@ -266,8 +267,8 @@ with_first is_strict document next schema files = let bytes = first_file files i
     with_tree schema document bytes (document_of schema bytes)
     (unless_repeated is_strict schema document bytes (λ tree. next schema tree (other_files files)))
 
-abbrev pub with_document : Bool → Text → List Text → List (List ℕ) → (Schema → Tree → List (List ℕ) → Outcome) → Outcome
-with_document is_strict document names contents next = with_schema names contents (with_first is_strict document next)
+abbrev pub with_document : Language → Bool → Text → List Text → List (List ℕ) → (Schema → Tree → List (List ℕ) → Outcome) → Outcome
+with_document language is_strict document names contents next = with_schema language names contents (with_first is_strict document next)
 
 -- ---- reports
 
@@ -343,23 +344,23 @@ edited options schema tree lines =
 
 -- ---- what is printed where all files could be read, and have these contents
 
-abbrev pub compilation : List Text → List (List ℕ) → Outcome
-compilation names contents = with_schema names contents (λ schema files. counted schema)
+abbrev pub compilation : Language → List Text → List (List ℕ) → Outcome
+compilation language names contents = with_schema language names contents (λ schema files. counted schema)
 
-abbrev pub drawing : Text → List Text → List (List ℕ) → Outcome
-drawing name names contents = with_schema names contents (λ schema files.
+abbrev pub drawing : Language → Text → List Text → List (List ℕ) → Outcome
+drawing language name names contents = with_schema language names contents (λ schema files.
     drawn schema name (position (λ m. is_text m.name name) schema.modules))
 
-abbrev pub drawing_all : List Text → List (List ℕ) → Outcome
-drawing_all names contents = with_schema names contents (λ schema files. found 0 (all_diagrams schema))
+abbrev pub drawing_all : Language → List Text → List (List ℕ) → Outcome
+drawing_all language names contents = with_schema language names contents (λ schema files. found 0 (all_diagrams schema))
 
 -- as an edit by a script without lines
-abbrev pub validation : Options → Text → List Text → List (List ℕ) → Outcome
-validation options document names contents =
-    with_document options.is_strict document names contents (λ schema tree files. edited options schema tree [])
+abbrev pub validation : Language → Options → Text → List Text → List (List ℕ) → Outcome
+validation language options document names contents =
+    with_document language options.is_strict document names contents (λ schema tree files. edited options schema tree [])
 
-abbrev pub edition : Options → Text → List Text → List (List ℕ) → Outcome
-edition options document names contents = with_document options.is_strict document names contents (λ schema tree files.
+abbrev pub edition : Language → Options → Text → List Text → List (List ℕ) → Outcome
+edition language options document names contents = with_document language options.is_strict document names contents (λ schema tree files.
     edited options schema tree (lines_of (first_file files)))
 
 -- what is said of codes, or the first word that is none
@@ -373,20 +374,20 @@ explanation names = explanation_found names (unknown_among names)
 
 abbrev pub performed : Request → List (List ℕ) → Outcome
 performed (explain names) contents = explanation names
-performed (compile names) contents = compilation names contents
-performed (draw name names) contents = drawing name names contents
-performed (draw_all names) contents = drawing_all names contents
-performed (validate options document names) contents = validation options document names contents
-performed (edit options document script names) contents = edition options document names contents
+performed (compile language names) contents = compilation language names contents
+performed (draw language name names) contents = drawing language name names contents
+performed (draw_all language names) contents = drawing_all language names contents
+performed (validate language options document names) contents = validation language options document names contents
+performed (edit language options document script names) contents = edition language options document names contents
 
 -- whether what is told is to be told as JSON
 abbrev pub as_json_of : Request → Bool
 as_json_of (explain names) = false
-as_json_of (compile modules) = false
-as_json_of (draw name modules) = false
-as_json_of (draw_all modules) = false
-as_json_of (validate options document modules) = options.as_json
-as_json_of (edit options document script modules) = options.as_json
+as_json_of (compile language modules) = false
+as_json_of (draw language name modules) = false
+as_json_of (draw_all language modules) = false
+as_json_of (validate language options document modules) = options.as_json
+as_json_of (edit language options document script modules) = options.as_json
 
 -- what is found of a request, where the files answered so, in order and up to the first failure
 abbrev pub found_of : Request → List (Option (List ℕ)) → Outcome

@@ -2,22 +2,23 @@
 
 ghost use Rattle.std.specs.Prelude.{◌≡◌, ◌≤◌, ◌++◌, ◌∷◌, [], ℕ, List, Option, Some, false, true, length, take};
 ghost use Rattle.yspec.specs.text.Text.{Text};
+ghost use Rattle.yspec_wide.specs.Language.{Language};
 ghost use Rattle.yspec_run.specs.Output.{as_dump, edit, outcome, plainly, printed, validate};
 
-/// Where `edit` reports on a document (status 0 or 1), `validate` reports the same, under the same modules, on a file with
-/// the bytes that `edit --dump` writes, and refuses nothing of it.
+/// In any language, where `edit` reports on a document (status 0 or 1), `validate` reports the same, under the same modules, on
+/// a file with the bytes that `edit --dump` writes, and refuses nothing of it.
 pub fn dumped_documents_are_validated()
-    ensures alike { (document script name : Text) (modules : List Text)
+    ensures alike { (language : Language) (document script name : Text) (modules : List Text)
         (answers : List (Option (List ℕ)))
-        → let shown = outcome (edit plainly document script modules) answers in
-        let bytes = (printed false (outcome (edit as_dump document script modules) answers)).output in
-        let again = outcome (validate plainly name modules) (take (length modules) answers ++ Some bytes
+        → let shown = outcome (edit language plainly document script modules) answers in
+        let bytes = (printed false (outcome (edit language as_dump document script modules) answers)).output in
+        let again = outcome (validate language plainly name modules) (take (length modules) answers ++ Some bytes
         ∷ []) in
         shown.status ≤ 1 → again.output ≡ shown.output }
-    ensures unrefused { (document script name : Text) (modules : List Text)
+    ensures unrefused { (language : Language) (document script name : Text) (modules : List Text)
         (answers : List (Option (List ℕ)))
-        → let bytes = (printed false (outcome (edit as_dump document script modules) answers)).output in
-        let again = outcome (validate plainly name modules) (take (length modules) answers ++ Some bytes
+        → let bytes = (printed false (outcome (edit language as_dump document script modules) answers)).output in
+        let again = outcome (validate language plainly name modules) (take (length modules) answers ++ Some bytes
         ∷ []) in
-        (outcome (edit plainly document script modules) answers).status ≤ 1 → again.errors ≡ [] }
+        (outcome (edit language plainly document script modules) answers).status ≤ 1 → again.errors ≡ [] }
 {}

@@ -2,17 +2,18 @@
 
 ghost use Rattle.std.specs.Prelude.{ℕ, List, Option, false, true};
 ghost use Rattle.yspec.specs.text.Text.{Text};
+ghost use Rattle.yspec_wide.specs.Language.{Language};
 ghost use Rattle.yspec_run.specs.Output.{Options, edit, outcome, validate};
 ghost use Rattle.yspec_run.specs.Format.{AlikeBesides, in_format};
 
-/// A run prints the same on the error side with `--format json` and without, and ends with the same status and file.
+/// In any language a run prints the same on the error side with `--format json` and without, and ends with the same status and file.
 pub fn formats_differ_on_the_output()
-    ensures validated { (options : Options) (document : Text) (modules : List Text)
+    ensures validated { (language : Language) (options : Options) (document : Text) (modules : List Text)
         (answers : List (Option (List ℕ)))
-        → AlikeBesides (outcome (validate (in_format true options) document modules) answers)
-        (outcome (validate (in_format false options) document modules) answers) }
-    ensures edited { (options : Options) (document script : Text) (modules : List Text)
+        → AlikeBesides (outcome (validate language (in_format true options) document modules) answers)
+        (outcome (validate language (in_format false options) document modules) answers) }
+    ensures edited { (language : Language) (options : Options) (document script : Text) (modules : List Text)
         (answers : List (Option (List ℕ)))
-        → AlikeBesides (outcome (edit (in_format true options) document script modules) answers)
-        (outcome (edit (in_format false options) document script modules) answers) }
+        → AlikeBesides (outcome (edit language (in_format true options) document script modules) answers)
+        (outcome (edit language (in_format false options) document script modules) answers) }
 {}

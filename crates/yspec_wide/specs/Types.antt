@@ -24,7 +24,7 @@ use Rattle.yspec.specs.schema.Schema.{SchemaNode, Kind, leaf, leaf_list, LeafTyp
 use Rattle.yspec_wide.specs.Language.{Language}
 use Rattle.yspec_wide.specs.Sources.{bears_condition}
 use Rattle.yspec_wide.specs.Features.{stands}
-use Rattle.yspec_wide.specs.VersionBreaks.{is_of_yang_1}
+use Rattle.yspec_wide.specs.VersionBreaks.{is_of_yang_1, has_distinct_items}
 
 -- ---- types of the names that are kept, by what stands below their statements
 
@@ -184,7 +184,7 @@ kind_in language plan p = if is_a word.leaf_word p then leaf (leaf_type_in langu
 
 abbrev pub schema_node_in : Language → Plan → Planned → SchemaNode
 schema_node_in language plan p =
-    record (schema_nodes.schema_node plan p) { kind = kind_in language plan p }
+    record (schema_nodes.schema_node plan p) { distinct_items = has_distinct_items language plan p; kind = kind_in language plan p }
 
 abbrev pub schema_nodes_in : Language → Plan → Forest SchemaNode
 schema_nodes_in language plan = relabelled (schema_node_in language plan) plan.nodes

@@ -90,4 +90,4 @@ module _ (language : Language) where
   -- ---- items of a leaf-list of YANG 1 differ, those of state too
 
   abbrev pub has_distinct_items : Plan → Planned → Bool
-  has_distinct_items plan p = p.config || is_of_yang_1 plan.modules p.part.source
+  has_distinct_items plan p = is_of_yang_1 plan.modules p.part.source || p.config

@@ -25,14 +25,14 @@ pub record Grows (before after : Nodes) : Type 0 where
 
 -- ---- what is told of new nodes
 
--- how many flags a node has: an entry one for its key and one for each `unique`, an item of configuration one
+-- how many flags a node has: an entry one for its key and one for each `unique`, an item that may stand but once one
 abbrev pub kind_flags : Kind → Bool → ℕ
-kind_flags (list tuples amount) config = length tuples.uniques + 1
-kind_flags (leaf_list type defaults amount) config = if config then 1 else 0
-kind_flags _ config = 0
+kind_flags (list tuples amount) distinct = length tuples.uniques + 1
+kind_flags (leaf_list type defaults amount) distinct = if distinct then 1 else 0
+kind_flags _ distinct = 0
 
 abbrev pub flag_count : Schema → ℕ → ℕ
-flag_count schema number = option_map_or (λ n. kind_flags n.kind n.config) (node_at schema number) 0
+flag_count schema number = option_map_or (λ n. kind_flags n.kind n.distinct_items) (node_at schema number) 0
 
 -- nothing is told, and so many flags say so
 abbrev pub nothing_told : ℕ → Told

@@ -91,22 +91,22 @@ pub fn insert_part(
     Ok(id)
 }
 
-/// How many flags a node has: an entry one for its key and one for each `unique`, an item of configuration one.
+/// How many flags a node has: an entry one for its key and one for each `unique`, an item that may stand but once one.
 pub fn flag_count(schema: &Schema, id: SchemaId) -> usize
     ensures { result ≡ growing.flag_count (schema_view.view schema.now) id.0 }
 {
     match schema.kind(id) {
-        Some(node) => kind_flags(&node.kind, node.config),
+        Some(node) => kind_flags(&node.kind, node.distinct_items),
         None => 0,
     }
 }
 
-fn kind_flags(kind: &Kind, config: bool) -> usize
-    ensures { result ≡ growing.kind_flags (schema_view.kind_view kind.now) config }
+fn kind_flags(kind: &Kind, distinct: bool) -> usize
+    ensures { result ≡ growing.kind_flags (schema_view.kind_view kind.now) distinct }
 {
     match kind {
         Kind::List { tuples, .. } => tuples.uniques.len() + 1,
-        Kind::LeafList { .. } if config => 1,
+        Kind::LeafList { .. } if distinct => 1,
         _ => 0,
     }
 }

@@ -41,7 +41,7 @@ value_faults times type raw =
 
 -- V10
 abbrev pub item_twice : RowTimes → SchemaNode → LeafType → Raw → List Fault
-item_twice row n type raw = if n.config
+item_twice row n type raw = if n.distinct_items
     then option_map_or (λ v. if nat_lt 1 (row.items n.number v) then plain_fault V10 [] ∷ [] else []) (taken type.type raw) [] else []
 
 abbrev pub tuple_info : ℕ → Info

@@ -144,6 +144,7 @@ schema_node plan p = record {
   module_number = p.part.owner;
   name = argument_in p.part.source;
   config = p.config;
+  distinct_items = p.config;
   status = status_in p;
   kind = kind_by plan p p.part.source.keyword;
 }

@@ -1,5 +1,5 @@
 -- What a schema asks of configuration alone (RFC 7950, 4.2.3 and 7.21.1).
-use Rattle.std.specs.Prelude.{[], None, Bool, false, if◌then◌else◌}
+use Rattle.std.specs.Prelude.{[], None, Bool, false, ◌&&◌, if◌then◌else◌}
 use Rattle.yspec.specs.Forest.{relabelled}
 use Rattle.yspec.specs.schema.Schema.{Schema, SchemaNode, Kind, container, leaf, leaf_list, list, choice, case, allowed, Amount}
 
@@ -17,7 +17,7 @@ unasked case = case
 
 -- nothing is asked of state
 abbrev pub asked_node : SchemaNode → SchemaNode
-asked_node n = record n { kind = if n.config then n.kind else unasked n.kind }
+asked_node n = record n { distinct_items = n.config && n.distinct_items; kind = if n.config then n.kind else unasked n.kind }
 
 -- what a schema asks of configuration
 abbrev pub configuration_schema : Schema → Schema

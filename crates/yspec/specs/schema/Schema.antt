@@ -64,6 +64,8 @@ pub record SchemaNode : Type 0 where
   pub module_number : ℕ
   pub name : Text
   pub config : Bool
+  -- whether none of its items may stand twice, where it is a leaf-list (RFC 7950, 7.7; RFC 6020, 7.7)
+  pub distinct_items : Bool
   pub status : Status
   pub kind : Kind
 

@@ -1,6 +1,7 @@
 use Rattle.std.proofs.Common.{List, Bor, map, subst, ap, sym, ◌∙◌}
 use Rattle.yspec.specs.text.Text.{Text}
 use Rattle.yspec_run.specs.Output.{Outcome, edition, performed}
+use Rattle.ylink_grammar.specs.LanguageView.{language_view}
 use Rattle.yapp_words.specs.Command.{options_view, view}
 use Rattle.yapp_words.specs.declared.command.Request.{Request}
 use Rattle.yapp_report.specs.Failing.{LeadsTo, reported}
@@ -23,6 +24,6 @@ pub returns-in-Edit-clause-leads : goal.returns-in-Edit-clause-leads
 returns-in-Edit-clause-leads c =
     let contents = map (λ t. t.items) c.args.contents.now in
     subst (λ (o : Outcome). LeadsTo o reported c.edit.result)
-    (ap (λ (names : List (Bor Text)). edition (options_view c.in-Edit.options) c.in-Edit.document.now (map (λ n. n.now) names) contents) c.deref-in-Edit.ensures.value
+    (ap (λ (names : List (Bor Text)). edition (language_view c.in-Edit.language) (options_view c.in-Edit.options) c.in-Edit.document.now (map (λ n. n.now) names) contents) c.deref-in-Edit.ensures.value
     ∙ ap (λ (r : Request). performed (view r) contents) (sym c.in-Edit.is))
     c.edit.ensures.leads

@@ -120,7 +120,7 @@ check_found-loop-index-preserved t c = λ sorted.
     let left = left_at row i s (omega arith) c.index-found-index.is in
     let said = instance_told told schema n n.kind inside (row_view row) in
     let table = ap (λ vs. map (λ marks. marks.items) vs) c.deref.ensures.value ∙ (c.in_ok-repeated.ensures
-    ∙ ap₂ (λ k g. table_of schema k g row) kind (ap (λ x. x.config) c.node-node.ensures)) in
+    ∙ ap₂ (λ k g. table_of schema k g row) kind (ap (λ x. x.distinct_items) c.node-node.ensures)) in
     let step : Step = record { schema_number = n.number; position = position_at (is_many n.kind) (i + 1) } in
     let at = ap₂ (λ k p. record { schema_number = k; position = p }) c.id.ensures (c.position_of-position.ensures ∙ ap (λ k. position_at (is_many k) (i + 1)) kind) in
     leaves_after _ _ _ (map (under step) (said (view s).0 (view s).1)) _ _ _
@@ -132,7 +132,7 @@ check_found-loop-index-preserved t c = λ sorted.
     (adds_same _ _ _ _ (ap₂ (value_told told) kind c.value.ensures) c.in_ok-check_value.ensures)
     (adds_both _ _ _ _ _
     (adds_same _ _ _ _ (ap₂ (λ k ls. marks_told (has_value k) 0 (marks_at i ls)) kind table
-    ∙ ap (marks_told (has_value n.kind) 0) (marks_are schema row i s (omega arith) c.index-found-index.is n.kind n.config)) c.in_ok-tell_repeated.ensures)
+    ∙ ap (marks_told (has_value n.kind) 0) (marks_are schema row i s (omega arith) c.index-found-index.is n.kind n.distinct_items)) c.in_ok-tell_repeated.ensures)
     (adds_same _ _ _ _ (ap₂ (λ f u. walked told schema variant.NoCase f u) c.children.ensures c.below-below.ensures.below)
     (c.in_ok-check_row.ensures (subst IsSorted (sym c.below-below.ensures.below) (sorted_at row i (view s).0 (view s).1 (row_view (drop (i + 1) row)) left sorted))))))
     c.leave.ensures.place c.leave.ensures.found))

@@ -3,6 +3,6 @@ use Rattle.yspec_run.proofs.formats.formats_differ_on_the_output.Goals as goal
 
 pub returns : goal.returns
 returns c = record {
-  validated = λ options document modules answers. validated_alike options document modules answers;
-  edited = λ options document script modules answers. edits_alike options document modules answers script;
+  validated = λ language options document modules answers. validated_alike language options document modules answers;
+  edited = λ language options document script modules answers. edits_alike language options document modules answers script;
 }

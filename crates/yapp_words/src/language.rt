@@ -1,0 +1,159 @@
+//! The language that the words of a command line name.
+
+ghost use Rattle.std.specs.Prelude.{◌≡◌, ◌++◌, IfOk, map, option_map, string_bytes};
+ghost use Rattle.clap.specs.Words.{found_of, rows_of};
+ghost use Rattle.ylink_grammar.specs.LanguageView.{choosing_view, language_view};
+ghost use Rattle.yapp_words.specs.Languages as spec;
+ghost use Rattle.yapp_words.specs.Languages.{choosing_of, choosings_of, features_named, language_of, names_module, profile_of, unfit_choosing};
+
+use clap::ArgMatches;
+use std::alloc::{AllocError, Global};
+use ylink_grammar::{Choosing, Language};
+
+/// The name of the profile.
+pub(crate) fn profile_in<'a>(found: &ArgMatches<'a>) -> &'a str
+    ensures { result.now ≡ profile_of (rows_of (found_of found.now)) }
+{
+    found.get_str("profile").unwrap_or("core")
+}
+
+/// Whether a profile has this name.
+pub(crate) fn is_profile(name: &str) -> bool
+    ensures { result ≡ spec.is_profile name.now }
+{
+    name == "core" || name == "rfc"
+}
+
+/// The words of all `--features`.
+fn choosings_in<'a>(alloc: Global, found: &ArgMatches<'a>) -> Result<Vec<&'a str>, AllocError>
+    ensures { IfOk result (λ words. map (λ word. word.now) words.items
+        ≡ choosings_of (rows_of (found_of found.now))) }
+{
+    Vec::from_slice(alloc, found.get_strs("features").unwrap_or(&[]))
+}
+
+/// The feature that a text names behind others, if it names one.
+fn push_named(alloc: Global, names: &mut Vec<String>, text: &str) -> Result<(), AllocError>
+    ensures { IfOk result (λ done. map string_bytes names.new.items
+        ≡ map string_bytes names.old.items ++ spec.named_by text.now) }
+{
+    if text.is_empty() {
+        return Ok(());
+    }
+    names.push(String::from_str(alloc, text)?)?;
+    Ok(())
+}
+
+/// The features that texts name.
+fn named_among(alloc: Global, texts: &[&str]) -> Result<Vec<String>, AllocError>
+    ensures { IfOk result (λ names. map string_bytes names.items
+        ≡ spec.named_among (map (λ text. text.now) texts.now)) }
+{
+    let mut names = Vec::new(alloc);
+    for text in texts {
+        push_named(alloc, &mut names, *text)?;
+    }
+    Ok(names)
+}
+
+/// The texts between the commas of one.
+fn between_commas<'t>(alloc: Global, text: &'t str) -> Result<Vec<&'t str>, AllocError>
+    ensures { IfOk result (λ texts. map (λ t. t.now) texts.items ≡ spec.between_commas text.entry.now) }
+{
+    text.split(',').collect(alloc)
+}
+
+/// The features that stand between the commas of a text.
+fn features_in(alloc: Global, text: &str) -> Result<Vec<String>, AllocError>
+    ensures { IfOk result (λ names. map string_bytes names.items ≡ features_named text.now) }
+{
+    let texts = between_commas(alloc, text)?;
+    named_among(alloc, &texts)
+}
+
+/// The features of a module that a word chooses.
+fn choosing_in(alloc: Global, word: &str) -> Result<Choosing, AllocError>
+    ensures { IfOk result (λ c. choosing_view c ≡ choosing_of word.now) }
+{
+    match word.split_once(':') {
+        Some((module_name, features)) => Ok(Choosing {
+            module_name: String::from_str(alloc, module_name)?,
+            features: features_in(alloc, features)?,
+        }),
+        None => Ok(Choosing {
+            module_name: String::from_str(alloc, word)?,
+            features: Vec::new(alloc),
+        }),
+    }
+}
+
+/// What words choose, in their order.
+fn all_chosen(alloc: Global, words: &[&str]) -> Result<Vec<Choosing>, AllocError>
+    ensures { IfOk result (λ cs. map choosing_view cs.items
+        ≡ map choosing_of (map (λ word. word.now) words.now)) }
+{
+    let mut choosings = Vec::new(alloc);
+    for word in words {
+        choosings.push(choosing_in(alloc, *word)?)?;
+    }
+    Ok(choosings)
+}
+
+/// The language in which modules are to be read.
+pub(crate) fn language_in(alloc: Global, found: &ArgMatches<'_>) -> Result<Language, AllocError>
+    ensures { IfOk result (λ l. language_view l ≡ language_of (rows_of (found_of found.now))) }
+{
+    if profile_in(found) == "rfc" {
+        let words = choosings_in(alloc, found)?;
+        Ok(Language::Rfc(all_chosen(alloc, &words)?))
+    } else {
+        Ok(Language::Core)
+    }
+}
+
+/// Whether a word has a colon behind a module's name.
+fn names_a_module(word: &str) -> bool
+    ensures { result ≡ names_module word.now }
+{
+    word.as_bytes().contains(&b':')
+}
+
+/// The first of some words that names no module.
+pub(crate) fn first_unfit<'a>(words: &[&'a str]) -> Option<&'a str>
+    ensures { option_map (λ word. word.now) result ≡ unfit_choosing (map (λ word. word.now) words.now) }
+{
+    for word in words {
+        if !names_a_module(*word) {
+            return Some(*word);
+        }
+    }
+    None
+}
+
+/// A word of `--features` that names no module.
+pub(crate) fn unfit_choosing_in<'a>(found: &ArgMatches<'a>) -> Option<&'a str>
+    ensures { option_map (λ word. word.now) result ≡ unfit_choosing (choosings_of (rows_of (found_of found.now))) }
+{
+    first_unfit(found.get_strs("features").unwrap_or(&[]))
+}
+
+/// Whether there is a word.
+fn has_words(words: &[&str]) -> bool
+    ensures { result ≡ spec.is_some_word (map (λ word. word.now) words.now) }
+{
+    !words.is_empty()
+}
+
+/// Whether features of a module are chosen.
+fn chooses_features(found: &ArgMatches<'_>) -> bool
+    ensures { result ≡ spec.is_some_word (choosings_of (rows_of (found_of found.now))) }
+{
+    has_words(found.get_strs("features").unwrap_or(&[]))
+}
+
+/// Whether features are chosen under a profile without any.
+pub(crate) fn chooses_in_core(found: &ArgMatches<'_>) -> bool
+    ensures { result ≡ spec.chooses_in_core (rows_of (found_of found.now)) }
+{
+    profile_in(found) != "rfc" && chooses_features(found)
+}
