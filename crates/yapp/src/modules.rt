@@ -1,6 +1,6 @@
 //! From the contents of modules' files to their schema.
 
-ghost use Rattle.std.specs.Prelude.{◌∷◌, [], ℕ, List, map};
+ghost use Rattle.std.specs.Prelude.{◌≡◌, ◌∷◌, [], ◌++◌, ℕ, List, map, IfOk, string_bytes};
 ghost use Rattle.yspec.specs.Forest.{Forest};
 ghost use Rattle.yspec_wide.specs.Compiling.{compiled_in};
 ghost use Rattle.ylink_grammar.specs.LanguageView.{language_view};
@@ -11,14 +11,16 @@ ghost use Rattle.yspec.specs.text.Statement.{Statement, module_of};
 ghost use Rattle.ytext.specs.View.{modules_view};
 ghost use Rattle.yschema_model.specs.View as schema_view;
 ghost use Rattle.ytext.specs.Told.{number_of};
-ghost use Rattle.ylink_grammar.specs.BreakView.{break_view};
+ghost use Rattle.ylink_grammar.specs.BreakView.{break_view, code_number};
+ghost use Rattle.yspec_run.specs.Hint as hints;
+ghost use Rattle.yspec_run.specs.Hint.{language_hint};
 ghost use Rattle.yapp_report.specs.Failing.{FailsWith, LeadsTo};
 
 use crate::contents::Taken;
-use std::alloc::Global;
+use std::alloc::{AllocError, Global};
 use yapp_report::Failure;
 use yapp_script::{break_hint, slip_hint};
-use ylink_grammar::{BrokenRule, Language};
+use ylink_grammar::{BrokenRule, CompileCode, Language};
 use yschema::{CompileFault, compile_in};
 use yschema_model::Schema;
 use ytext::{Module, TextCode, TextFault, parse};
@@ -101,7 +103,7 @@ fn compile_modules<'a>(
     modules: &[Module],
 ) -> Result<Schema, Failure<'a>>
     ensures { (next : schema_spec.Schema → Outcome)
-        → LeadsTo (with_compiled (map (λ n. n.now) names.now) (map (λ c. c.items) contents.now)
+        → LeadsTo (with_compiled (language_view language.now) (map (λ n. n.now) names.now) (map (λ c. c.items) contents.now)
         (modules_view modules.now) (compiled_in (language_view language.now) (modules_view modules.now)) next)
         (λ schema. next (schema_view.view schema)) result }
 {
@@ -109,7 +111,7 @@ fn compile_modules<'a>(
         Ok(schema) => Ok(schema),
         Err(CompileFault::Refused { code, module, line }) => {
             let rule = BrokenRule { module, line, code };
-            Err(compile_failure(alloc, names, contents, modules, rule))
+            Err(compile_failure(alloc, language, names, contents, modules, rule))
         }
         Err(CompileFault::Memory) => Err(Failure::Memory),
     }
@@ -118,15 +120,16 @@ fn compile_modules<'a>(
 /// The failure of a set of modules of which one breaks a rule.
 fn compile_failure<'a>(
     alloc: Global,
+    language: &Language,
     names: &[&'a str],
     contents: &[Vec<u8>],
     modules: &[Module],
     rule: BrokenRule,
 ) -> Failure<'a>
-    ensures { FailsWith result (spec.broken (map (λ n. n.now) names.now)
+    ensures { FailsWith result (spec.broken (language_view language.now) (map (λ n. n.now) names.now)
         (map (λ c. c.items) contents.now) (modules_view modules.now) (break_view rule)) }
 {
-    match break_hint(alloc, contents, modules, rule) {
+    match rule_hint(alloc, language, contents, modules, rule) {
         Ok(hint) => Failure::Compile {
             name: names.get(rule.module).copied().unwrap_or(""),
             code: rule.code,
@@ -134,6 +137,57 @@ fn compile_failure<'a>(
             hint,
         },
         Err(_) => Failure::Memory,
+    }
+}
+
+/// What is said below a broken rule: its line, and whether another language reads the modules past it.
+fn rule_hint(
+    alloc: Global,
+    language: &Language,
+    contents: &[Vec<u8>],
+    modules: &[Module],
+    rule: BrokenRule,
+) -> Result<String, AllocError>
+    ensures { IfOk result (λ hint. string_bytes hint
+        ≡ hints.break_hint (map (λ c. c.items) contents.now) (modules_view modules.now) (break_view rule)
+        ++ language_hint (hints.is_read_in_rfc (language_view language.now) (modules_view modules.now) (break_view rule))) }
+{
+    let mut hint = break_hint(alloc, contents, modules, rule)?;
+    if is_read_in_rfc(alloc, language, modules, rule)? {
+        hint.push_str("  with --profile rfc this is read.\n")?;
+    }
+    Ok(hint)
+}
+
+/// Whether a rule is one that the language decides.
+fn is_of_language(code: CompileCode) -> bool
+    ensures { result ≡ hints.is_of_language (code_number code) }
+{
+    matches!(
+        code,
+        CompileCode::C1 | CompileCode::C3 | CompileCode::C4 | CompileCode::C10
+    )
+}
+
+/// Whether the wide language, all features on, doesn't tell what the core tells of modules.
+fn is_read_in_rfc(
+    alloc: Global,
+    language: &Language,
+    modules: &[Module],
+    rule: BrokenRule,
+) -> Result<bool, AllocError>
+    ensures { IfOk result (λ is_read. is_read
+        ≡ hints.is_read_in_rfc (language_view language.now) (modules_view modules.now) (break_view rule)) }
+{
+    if !matches!(language, Language::Core) || !is_of_language(rule.code) {
+        return Ok(false);
+    }
+    match compile_in(alloc, modules, &Language::Rfc(Vec::new(alloc))) {
+        Ok(_) => Ok(true),
+        Err(CompileFault::Refused { code, module, line }) => {
+            Ok(!(rule.code == code && rule.module == module && rule.line == line))
+        }
+        Err(CompileFault::Memory) => Err(AllocError),
     }
 }
 

@@ -51,12 +51,12 @@ schema_alike : (language : Language) (names : List Text) (contents : List (List 
     → ((schema : Schema) (files : List (List ℕ)) → AlikeBesides (next schema files) (other schema files))
     → AlikeBesides (with_schema language names contents next) (with_schema language names contents other)
 schema_alike language names contents next other alike =
-    modules_alike names contents (λ modules files. with_compiled names contents modules (compiled_in language modules) (λ schema. next schema files))
-    (λ modules files. with_compiled names contents modules (compiled_in language modules) (λ schema. other schema files)) (λ modules files. by modules files (compiled_in language modules))
+    modules_alike names contents (λ modules files. with_compiled language names contents modules (compiled_in language modules) (λ schema. next schema files))
+    (λ modules files. with_compiled language names contents modules (compiled_in language modules) (λ schema. other schema files)) (λ modules files. by modules files (compiled_in language modules))
   where
     by : (modules : Forest Statement) (files : List (List ℕ)) (o : Result Schema Break)
-        → AlikeBesides (with_compiled names contents modules o (λ schema. next schema files)) (with_compiled names contents modules o (λ schema. other schema files))
-    by modules files (Err broken) = same (with_compiled names contents modules (Err broken) (λ schema. next schema files))
+        → AlikeBesides (with_compiled language names contents modules o (λ schema. next schema files)) (with_compiled language names contents modules o (λ schema. other schema files))
+    by modules files (Err broken) = same (with_compiled language names contents modules (Err broken) (λ schema. next schema files))
     by modules files (Ok schema) = alike schema files
 
 -- ---- the document

@@ -91,20 +91,20 @@ pub record IsCompiled (language : Language) (names : List Text) (contents : List
 pub is_compiled : (language : Language) (names : List Text) (contents rest : List (List ℕ)) (next : Schema → List (List ℕ) → Outcome)
     → length contents ≡ length names → IsReport (with_schema language names (contents ++ rest) next) → IsCompiled language names contents
 is_compiled language names contents rest next count shown =
-    by (compiled_in language parsed.top) refl (subst IsReport (parsed.is rest (λ modules files. with_compiled names (contents ++ rest) modules (compiled_in language modules) (λ schema. next schema files))) shown)
+    by (compiled_in language parsed.top) refl (subst IsReport (parsed.is rest (λ modules files. with_compiled language names (contents ++ rest) modules (compiled_in language modules) (λ schema. next schema files))) shown)
   where
     parsed : AreParsed names contents
-    parsed = are_parsed names contents rest (λ modules files. with_compiled names (contents ++ rest) modules (compiled_in language modules) (λ schema. next schema files)) count shown
+    parsed = are_parsed names contents rest (λ modules files. with_compiled language names (contents ++ rest) modules (compiled_in language modules) (λ schema. next schema files)) count shown
 
-    by : (o : Result Schema Break) → compiled_in language parsed.top ≡ o → IsReport (with_compiled names (contents ++ rest) parsed.top o (λ schema. next schema rest)) → IsCompiled language names contents
+    by : (o : Result Schema Break) → compiled_in language parsed.top ≡ o → IsReport (with_compiled language names (contents ++ rest) parsed.top o (λ schema. next schema rest)) → IsCompiled language names contents
     by (Err broken) is shown = absurd (omega (arith, shown))
     by (Ok schema) is shown = record {
       top = parsed.top;
       schema = schema;
       compiles = is;
       is = λ rest next.
-          parsed.is rest (λ modules files. with_compiled names (contents ++ rest) modules (compiled_in language modules) (λ schema. next schema files))
-          ∙ ap (λ (o : Result Schema Break). with_compiled names (contents ++ rest) parsed.top o (λ schema. next schema rest)) is;
+          parsed.is rest (λ modules files. with_compiled language names (contents ++ rest) modules (compiled_in language modules) (λ schema. next schema files))
+          ∙ ap (λ (o : Result Schema Break). with_compiled language names (contents ++ rest) parsed.top o (λ schema. next schema rest)) is;
     }
 
 -- ---- the document

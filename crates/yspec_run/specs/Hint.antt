@@ -1,6 +1,6 @@
 -- What is said below a line that tells a code, above the reason of the code: what stands there, and what may have been
 -- meant.
-use Rattle.std.specs.Prelude.{ℕ, zero, suc, ◌==◌, ◌++◌, Bool, false, List, [], ◌∷◌, Option, codes, if◌then◌else◌, nat_le, slice_get, unwrap_or}
+use Rattle.std.specs.Prelude.{ℕ, zero, suc, ◌==◌, ◌++◌, ◌&&◌, ◌||◌, Bool, false, not, List, [], ◌∷◌, Option, Result, Ok, Err, codes, if◌then◌else◌, nat_le, slice_get, unwrap_or}
 use Rattle.std.specs.Option.{option_map_or}
 use Rattle.yspec.specs.Forest.{Forest, end, node}
 use Rattle.yspec.specs.text.Text.{Text, open_brace, space}
@@ -9,6 +9,8 @@ use Rattle.yspec.specs.schema.Breaks.{Break}
 use Rattle.yspec.specs.schema.Schema.{Schema}
 use Rattle.yspec.specs.document.Document.{Step}
 use Rattle.yspec.specs.document.Reading.{Refusal}
+use Rattle.yspec_wide.specs.Language.{Language, core, rfc}
+use Rattle.yspec_wide.specs.Compiling.{compiled_in}
 use Rattle.ysay_text.specs.Line.{shown, shown_line}
 use Rattle.ysay_text.specs.Sentence.{of_line}
 use Rattle.yspec.specs.edit.EditText.{Edit}
@@ -56,6 +58,28 @@ module_at (suc number) (node s below after) = module_at number after
 abbrev pub break_hint : List (List ℕ) → Forest Statement → Break → Text
 break_hint contents modules b = line_hint b.line (unwrap_or (slice_get contents b.module_number) [])
     ++ statement_hint b.code b.line (module_at b.module_number modules)
+
+-- ---- what another language makes of modules
+
+-- rules that rest on the language: which statements there are, where they stand and how often, and what types say
+abbrev pub is_of_language : ℕ → Bool
+is_of_language code = code == 1 || (code == 3 || (code == 4 || code == 10))
+
+-- the same rule, in the same line of the same module
+abbrev pub same_break : Break → Break → Bool
+same_break a b = a.code == b.code && (a.module_number == b.module_number && a.line == b.line)
+
+abbrev pub is_told : Break → Result Schema Break → Bool
+is_told b (Err other) = same_break b other
+is_told b (Ok schema) = false
+
+-- whether the wide language, all features on, doesn't tell what the core tells of modules
+abbrev pub is_read_in_rfc : Language → Forest Statement → Break → Bool
+is_read_in_rfc core modules b = is_of_language b.code && not (is_told b (compiled_in (rfc []) modules))
+is_read_in_rfc (rfc choosings) modules b = false
+
+abbrev pub language_hint : Bool → Text
+language_hint is_read = if is_read then codes "  with --profile rfc this is read.\n" else []
 
 -- of a document that is refused, by its bytes
 abbrev pub refusal_hint : Schema → List ℕ → Refusal → Text

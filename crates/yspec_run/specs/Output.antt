@@ -23,7 +23,7 @@ use Rattle.ysay_fault.specs.Sentences.{explained_fault}
 use Rattle.ysay_json.specs.FaultData.{json_text}
 use Rattle.ysay_json.specs.RefusalData.{Refused}
 use Rattle.ysay_repeated.specs.Repeated.{repeated_in}
-use Rattle.yspec_run.specs.Hint.{break_hint, hinted, refusal_hint, repeated_hint, slip_hint}
+use Rattle.yspec_run.specs.Hint.{break_hint, hinted, is_read_in_rfc, language_hint, refusal_hint, repeated_hint, slip_hint}
 use Rattle.yspec_run.specs.Part.{Part, count_part, line_about, objects, plain, spelled}
 use Rattle.yspec_run.specs.RefusalData.{document_object, module_object, module_tag, object_line, text_tag, unread_object}
 use Rattle.yspec_run.specs.Script.{after_lines, lines_of, refused_lines}
@@ -195,10 +195,10 @@ abbrev pub slipped : Text → List ℕ → Slip → Outcome
 slipped name bytes s = with_object (module_object text_tag name s.line (codes "L" ++ decimal s.code))
     (failed_with 2 (hinted (slip_hint s.line bytes) (refusal_part name s.line (codes "L") s.code)))
 
-abbrev pub broken : List Text → List (List ℕ) → Forest Statement → Break → Outcome
-broken names contents modules b = let name = unwrap_or (slice_get names b.module_number) [] in
+abbrev pub broken : Language → List Text → List (List ℕ) → Forest Statement → Break → Outcome
+broken language names contents modules b = let name = unwrap_or (slice_get names b.module_number) [] in
     with_object (module_object (module_tag b.code) name b.line (codes "C" ++ decimal b.code))
-    (failed_with 2 (hinted (break_hint contents modules b) (refusal_part name b.line (codes "C") b.code)))
+    (failed_with 2 (hinted (break_hint contents modules b ++ language_hint (is_read_in_rfc language modules b)) (refusal_part name b.line (codes "C") b.code)))
 
 abbrev pub with_module : Text → List ℕ → Result (Forest Statement) Slip → (Forest Statement → Outcome) → Outcome
 with_module name bytes (Err s) next = slipped name bytes s
@@ -211,14 +211,14 @@ with_modules (name ∷ names) [] next = next end []
 with_modules (name ∷ names) (bytes ∷ files) next =
     with_module name bytes (module_of bytes) (λ top. with_modules names files (λ rest. next (join top rest)))
 
-abbrev pub with_compiled : List Text → List (List ℕ) → Forest Statement → Result Schema Break → (Schema → Outcome) → Outcome
-with_compiled names contents modules (Err b) next = broken names contents modules b
-with_compiled names contents modules (Ok schema) next = next schema
+abbrev pub with_compiled : Language → List Text → List (List ℕ) → Forest Statement → Result Schema Break → (Schema → Outcome) → Outcome
+with_compiled language names contents modules (Err b) next = broken language names contents modules b
+with_compiled language names contents modules (Ok schema) next = next schema
 
 -- `next` goes on with the schema in a language of modules whose files have these contents, and with the files that are left
 abbrev pub with_schema : Language → List Text → List (List ℕ) → (Schema → List (List ℕ) → Outcome) → Outcome
 with_schema language names contents next = with_modules names contents (λ modules files.
-    with_compiled names contents modules (compiled_in language modules) (λ schema. next schema files))
+    with_compiled language names contents modules (compiled_in language modules) (λ schema. next schema files))
 
 -- ---- the document
 
