@@ -61,6 +61,9 @@ m:f => V8 operation-failed - /m:l[1] -|V3 data-missing - /m:l[1]/u -|V8 operatio
 all => none => {"m:a":[1,1]} => m:1.1 leaf-list a { config false; type uint8; }
 all => none => {"m:a":[]} => m: leaf-list a { type t; } typedef t { type uint8; default 3; }
 all => none => {"m:a":[1,1]} => m: import n { prefix n; } uses n:g; ~ n:1.1 grouping g { leaf-list a { config false; type uint8; } }
+all => V10 operation-failed - /m:a[1] -|V10 operation-failed - /m:a[2] -| => {"m:a":[1,1]} => m:1.1 import n { prefix n; } uses n:g; ~ n: grouping g { leaf-list a { config false; type uint8; } }
+all => V10 operation-failed - /m:c/b[1] -|V10 operation-failed - /m:c/b[3] -| => {"m:c":{"b":["x","y","x"]}} => m: container c { config false; leaf-list b { type string; } }
+all => V1 invalid-value - /m:a[2] -|V1 invalid-value - /m:a[3] -|V10 operation-failed - /m:d[1] -|V10 operation-failed - /m:d[2] -| => {"m:d":[1,1],"m:a":[1,"x","x"]} => m: leaf-list a { config false; type uint8; } leaf-list d { type uint8; }
 all => V11 data-missing instance-required /m:a -| => {"m:a":"zz"} => m: leaf a { type leafref { path /m:b; } } leaf b { type string; }
 m: => V1 invalid-value - /m:a -| => {"m:a":300} => m:1.1 feature f; leaf a { if-feature 'not f'; type uint8; }
 m:g => J3 => {"m:c":{"a":1}} => m:1.1 feature f; feature g; grouping h { leaf a { type uint8; } leaf b { type uint8; mandatory true; } } container c { uses h { refine a { if-feature f; } refine b { if-feature g; } } }"#;

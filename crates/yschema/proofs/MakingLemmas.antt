@@ -116,9 +116,16 @@ other_kind language plan p words.Identity a b c d e = refl
 other_kind language plan p words.Base a b c d e = refl
 
 -- a schema node, from what is known of it
-abbrev pub node_by : ℕ → ℕ → Bool → Text → Status → Kind → SchemaNode
-node_by number module_number config name status kind =
-    record { number = number; module_number = module_number; name = name; config = config; status = status; kind = kind }
+abbrev pub node_by : ℕ → ℕ → Bool → Bool → Text → Status → Kind → SchemaNode
+node_by number module_number config distinct name status kind = record {
+  number = number;
+  module_number = module_number;
+  name = name;
+  config = config;
+  distinct_items = distinct;
+  status = status;
+  kind = kind;
+}
 
 -- ---- rows
 

@@ -175,6 +175,7 @@ fn node_of<'a, 't>(
         module: planned.owner(),
         name: String::from_str(alloc, planned.name())?,
         config: planned.config,
+        distinct_items: resolved.has_distinct_items(planned),
         status: planned.status(),
         kind: kind_of(alloc, language, plan, resolved, node)?,
     })

@@ -9,7 +9,7 @@ use std::alloc::{AllocError, Global};
 use ylink::{Language, Linked};
 use ylink_features::Versions;
 use ylink_standing::FeaturesOn;
-use yschema_plan::Plan;
+use yschema_plan::{Plan, Planned};
 use ytype::YType;
 
 /// The types of a plan's nodes in a language, to what leafrefs refer, which leafs are keys, what modules are called and which
@@ -24,14 +24,16 @@ pub struct Resolved<'l, 't> {
 }
 
 impl<'l, 't> Resolved<'l, 't> {
-    ghost use Rattle.std.specs.Prelude.{◌≡◌, Some, IfOk, slice_get, option_map};
+    ghost use Rattle.std.specs.Prelude.{ℕ, ◌≡◌, Some, IfOk, slice_get, option_map};
     ghost use Rattle.yspec.specs.linking.Planned as spec;
     ghost use Rattle.yspec.specs.linking.SchemaNodes as nodes;
     ghost use Rattle.yspec_wide.specs.Language as languages;
     ghost use Rattle.yspec_wide.specs.Types.{standing_type};
+    ghost use Rattle.yspec_wide.specs.VersionBreaks.{has_distinct_items};
     ghost use Rattle.ylink_grammar.specs.LanguageView.{language_view};
     ghost use Rattle.ylink_standing.specs.StandingView.{IsOf as AreOn};
     ghost use Rattle.ylink.specs.LinkedView as linked_as;
+    ghost use Rattle.yschema_plan.specs.PlannedView.{planned_view};
     ghost use Rattle.yschema_plan.specs.PlanView.{view};
     ghost use Rattle.yschema_resolve.specs.ResolvedView.{IsOf};
 
@@ -96,5 +98,15 @@ impl<'l, 't> Resolved<'l, 't> {
             Some(is_key) => *is_key,
             None => false,
         }
+    }
+
+    /// Whether none of a node's items may stand twice, where it is a leaf-list: in configuration, and in YANG 1 in state too
+    /// (RFC 7950, 7.7; RFC 6020, 7.7).
+    pub fn has_distinct_items(&self, planned: &Planned<'_, '_>) -> bool
+        ensures { (language : languages.Language) (plan : spec.Plan) (number : ℕ)
+            → IsOf self.now language plan
+            → result ≡ has_distinct_items language plan (planned_view number planned.now) }
+    {
+        self.versions.is_yang_1(planned.home()) || planned.config
     }
 }
