@@ -169,6 +169,33 @@ fn is_of_language(code: CompileCode) -> bool
     )
 }
 
+/// Whether two rules are the same, in the same line of the same module.
+fn is_same(rule: BrokenRule, other: BrokenRule) -> bool
+    ensures { result ≡ hints.same_break (break_view rule) (break_view other) }
+{
+    rule.code.number() == other.code.number()
+        && (rule.module == other.module && rule.line == other.line)
+}
+
+/// Whether a language tells this rule of modules.
+fn is_told_in(
+    alloc: Global,
+    language: &Language,
+    modules: &[Module],
+    rule: BrokenRule,
+) -> Result<bool, AllocError>
+    ensures { IfOk result (λ told. told ≡ hints.is_told (break_view rule)
+        (compiled_in (language_view language.now) (modules_view modules.now))) }
+{
+    match compile_in(alloc, modules, language) {
+        Ok(_) => Ok(false),
+        Err(CompileFault::Refused { code, module, line }) => {
+            Ok(is_same(rule, BrokenRule { module, line, code }))
+        }
+        Err(CompileFault::Memory) => Err(AllocError),
+    }
+}
+
 /// Whether the wide language, all features on, doesn't tell what the core tells of modules.
 fn is_read_in_rfc(
     alloc: Global,
@@ -182,13 +209,8 @@ fn is_read_in_rfc(
     if !matches!(language, Language::Core) || !is_of_language(rule.code) {
         return Ok(false);
     }
-    match compile_in(alloc, modules, &Language::Rfc(Vec::new(alloc))) {
-        Ok(_) => Ok(true),
-        Err(CompileFault::Refused { code, module, line }) => {
-            Ok(!(rule.code == code && rule.module == module && rule.line == line))
-        }
-        Err(CompileFault::Memory) => Err(AllocError),
-    }
+    let wide = Language::Rfc(Vec::new(alloc));
+    Ok(!is_told_in(alloc, &wide, modules, rule)?)
 }
 
 /// The schema in a language of the modules of some names, by the contents of their files. Their statements go as soon as it stands.
