@@ -155,9 +155,10 @@ open.yang:1: L3
   A quoted string or a comment isn't closed. Close it: a string with the quote that opens it, a comment with */.
 ==
 yanglive compile --explain p.yang bare.yang
-2 3
+2 4
 bare.yang:1: C4
   | module q { namespace \"urn:q\"; prefix q; }
+  with --profile rfc this is read.
   The module has no yang-version, or another than 1.1. Write yang-version 1.1; at its beginning.
 ==
 yanglive compile --explain escape.yang
