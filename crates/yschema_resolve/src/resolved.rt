@@ -1,6 +1,11 @@
 //! What the nodes of a plan refer to, all in one.
 
+ghost use Rattle.std.specs.Prelude.{◌≡◌};
 ghost use Rattle.yspec.specs.linking.Planned as spec;
+ghost use Rattle.yspec_wide.specs.Language as languages;
+ghost use Rattle.yspec_wide.specs.VersionBreaks.{has_distinct_items};
+ghost use Rattle.ylink_features.specs.VersionView.{AreVersionsOf};
+ghost use Rattle.yschema_plan.specs.PlannedView.{planned_view};
 
 use crate::modules::ModuleTable;
 use crate::tuples::keys;
@@ -21,6 +26,15 @@ pub struct Resolved<'l, 't> {
     pub(crate) modules: ModuleTable<'t>,
     pub(crate) versions: Versions,
     pub(crate) linked: &'l Linked<'t>,
+}
+
+/// Whether none of a node's items may stand twice, by the versions of modules.
+fn do_items_differ(versions: &Versions, planned: &Planned<'_, '_>) -> bool
+    ensures { (language : languages.Language) (plan : spec.Plan) (number : _)
+        → AreVersionsOf versions.now language plan.modules
+        → result ≡ has_distinct_items language plan (planned_view number planned.now) }
+{
+    versions.is_yang_1(planned.home()) || planned.config
 }
 
 impl<'l, 't> Resolved<'l, 't> {
@@ -107,6 +121,6 @@ impl<'l, 't> Resolved<'l, 't> {
             → IsOf self.now language plan
             → result ≡ has_distinct_items language plan (planned_view number planned.now) }
     {
-        self.versions.is_yang_1(planned.home()) || planned.config
+        do_items_differ(&self.versions, planned)
     }
 }
