@@ -1,6 +1,6 @@
 -- Under a schema without state nothing is left out of a document, and nothing is told of state.
 use Rattle.std.proofs.Common.{◌≡◌, ℕ, ◌≤◌, ◌+◌, Bool, true, false, cond, not, List, [], ◌∷◌, ◌++◌, Option, Some, None, refl, sym, ap, ap₂, ◌∙◌, arith}
-use Rattle.std.specs.Prelude.{◌↔◌, ◌==◌}
+use Rattle.std.specs.Prelude.{◌↔◌, ◌==◌, ◌&&◌}
 use Rattle.std.specs.List.{list_all}
 use Rattle.std.specs.Option.{option_map_or}
 use Rattle.std.proofs.lemmas.Bool.{and_parts, false≢true}
@@ -38,7 +38,7 @@ all_asked : (f : Forest SchemaNode) → AreConfig f → relabelled asked_node f 
 all_asked end all = refl
 all_asked (node n below after) all =
     let p = parts n below after all in
-    ap (λ b. node (record n { kind = cond b n.kind (unasked n.kind) }) (relabelled asked_node below) (relabelled asked_node after)) p.own
+    ap (λ b. node (record n { distinct_items = b && n.distinct_items; kind = cond b n.kind (unasked n.kind) }) (relabelled asked_node below) (relabelled asked_node after)) p.own
     ∙ ap₂ (λ x y. node n x y) (all_asked below p.inner) (all_asked after p.rest)
 
 none_found : (test : SchemaNode → Bool) (f : Forest SchemaNode) → AreConfig f
