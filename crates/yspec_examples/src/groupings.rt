@@ -23,6 +23,7 @@ pub fn groupings_of_another_module()
       module_number = 1;
       name = codes "v";
       config = true;
+      distinct_items = true;
       status = current;
       kind = leaf (own_type (codes "t")
           (unrestricted (limited_to (integer_base uint8) (within 0 9 ∷ []) None))) allowed;
