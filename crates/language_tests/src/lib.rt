@@ -1,4 +1,4 @@
-//! Tests of modules that are read in a language: versions of YANG, and features.
+//! Tests of modules that are read in a language: versions of YANG, features, and patterns.
 #![tactic(auto)]
 
 #[cfg(test)]
@@ -13,6 +13,8 @@ mod documents;
 mod features;
 #[cfg(test)]
 mod memory;
+#[cfg(test)]
+mod patterns;
 #[cfg(test)]
 mod telling;
 #[cfg(test)]

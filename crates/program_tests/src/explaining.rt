@@ -179,10 +179,11 @@ yanglive compile typed.yang p.yang
 typed.yang:3: C1
 ==
 yanglive tree --explain u unread.yang
-2 4
+2 5
 unread.yang:4: C1
   | pattern x;
   pattern is YANG 1.1, and this program doesn't read it.
+  with --profile rfc this is read.
   A statement or a built-in type isn't known, may not stand there, or isn't read by this program. Correct its name, or move it; README says what of YANG is read.
 ==
 yanglive validate --explain empty.json p.yang binary.yang

@@ -17,3 +17,5 @@ mod sinks;
 mod spelled;
 #[cfg(test)]
 mod statements;
+#[cfg(test)]
+mod versions;

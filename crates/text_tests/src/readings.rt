@@ -2,7 +2,7 @@
 
 use crate::spelled::{is_fault, unmarked};
 use std::alloc::{AllocError, Global};
-use ytext::{Stmt, TextFault, is_identifier, is_name, parse};
+use ytext::{Module, Stmt, TextFault, is_identifier, is_name, parse};
 
 // Whether a statement has this argument: `'a` for `a`, `-` for none.
 fn has_argument(statement: &Stmt, wanted: &str) -> bool {
@@ -12,16 +12,24 @@ fn has_argument(statement: &Stmt, wanted: &str) -> bool {
     }
 }
 
-// Whether a text is read so: the argument of the first substatement, where there is one, and else of the top
-// statement, or the fault, as `L5 1`. None where memory ran out.
-fn is_read(alloc: Global, text: &[u8], wanted: &str) -> Option<bool> {
-    match parse(alloc, text) {
+/// Whether this is read of a text: the argument of the first substatement, where there is one, and else of the top
+/// statement, or the fault, as `L5 1`. None where memory ran out.
+pub(crate) fn is_given(
+    alloc: Global,
+    given: Result<Module, TextFault>,
+    wanted: &str,
+) -> Option<bool> {
+    match given {
         Ok(module) => match module.top.subs.first() {
             Some(statement) => Some(has_argument(statement, wanted)),
             None => Some(has_argument(&module.top, wanted)),
         },
         Err(fault) => is_fault(alloc, fault, wanted),
     }
+}
+
+fn is_read(alloc: Global, text: &[u8], wanted: &str) -> Option<bool> {
+    is_given(alloc, parse(alloc, text), wanted)
 }
 
 // Whether a row holds: a text, and what it is read as.

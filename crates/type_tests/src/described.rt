@@ -6,7 +6,8 @@ use std::alloc::Global;
 use std::collections::BTreeSet;
 use std::rc::Rc;
 use ytype::{
-    Bound, ErrorText, FractionDigits, Identities, Naming, NarrowFault, Restriction, Span, YType,
+    Bound, ErrorText, Expression, FractionDigits, Identities, Naming, NarrowFault, Restriction,
+    Span, YType,
 };
 use ytype_numbers::enum_names;
 
@@ -160,8 +161,31 @@ fn built_in(alloc: Global, kind: &str, rest: &str) -> Option<Narrowed> {
     }
 }
 
+// An expression behind an app-tag and a message, as `tag~message:[a-z]+`, or `:[a-z]+` without.
+fn pattern(alloc: Global, rest: &str, inverted: bool) -> Option<Restriction> {
+    let (error, expression) = rest.split_once(':')?;
+    let (app_tag, message) = cut_at(error, '~');
+    let app_tag = if app_tag.is_empty() {
+        None
+    } else {
+        Some(app_tag)
+    };
+    let error = ErrorText {
+        message: owned(alloc, message)?,
+        app_tag: owned(alloc, app_tag)?,
+    };
+    let expression = Expression::read(alloc, expression).ok()?;
+    Some(Restriction::Pattern {
+        expression: Rc::new(alloc, expression).ok()?,
+        inverted,
+        error,
+    })
+}
+
 fn restriction(alloc: Global, kind: &str, rest: &str) -> Option<Restriction> {
     match kind {
+        "pattern" => pattern(alloc, rest, false),
+        "unless" => pattern(alloc, rest, true),
         "range" => {
             let (spans, error) = limit(alloc, rest)?;
             Some(Restriction::Range { spans, error })
@@ -202,7 +226,7 @@ fn union_of(alloc: Global, types: &mut Vec<YType>) -> Option<Narrowed> {
 fn next(alloc: Global, types: &mut Vec<YType>, step: &str) -> Option<Narrowed> {
     let (kind, rest) = step.split_once(':').unwrap_or((step, ""));
     match kind {
-        "range" | "length" | "instance" => {
+        "range" | "length" | "pattern" | "unless" | "instance" => {
             restricted(alloc, types, &restriction(alloc, kind, rest)?)
         }
         "module" => of_module(alloc, types, rest),

@@ -4,6 +4,8 @@
 #[cfg(test)]
 mod described;
 #[cfg(test)]
+mod patterns;
+#[cfg(test)]
 mod refusals;
 #[cfg(test)]
 mod rows;

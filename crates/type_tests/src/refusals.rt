@@ -28,6 +28,14 @@ string > range:1..5:t/refused
 uint8 > leafref > instance:true > range:1..5:t/refused
 string > length:0..18446744073709551615/made
 string > length:0..18446744073709551616/refused
+string > pattern::a/made
+string > unless::a/made
+string > length:0..4 > pattern::a > length:1..4/made
+string > length:0..4 > pattern::a > length:0..5/refused
+uint8 > pattern::1/refused
+enumeration:a > pattern::a/refused
+string > leafref > pattern::a/refused
+uint8 > string > union > pattern::a/refused
 decimal64:0/refused
 decimal64:19/refused
 enumeration:a=2147483647,b=0/made

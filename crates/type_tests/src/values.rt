@@ -110,9 +110,49 @@ uint8 > range:2..5~narrow/3/-
 uint8 > range:2..5~narrow/300/-
 string > length:2..5~too short/'a/too short
 string > length:2..5~too short > uint8 > union/'a/-
+string > length:2..5~too short > pattern:t~no name:[a-z]+/'55/no name
 identityref:a|a:x=3,a:y=4|3/'y/-";
     for row in rows.lines() {
         assert!(rt; gives_message(rt.alloc(), row) == Some(true));
+    }
+}
+
+#[test]
+fn patterns(rt: HostRuntime) {
+    let rows = "string > length:0..4 > pattern::[0-9a-fA-F]*/'9A00/9A00
+string > length:0..4 > pattern::[0-9a-fA-F]*/'00ABAB/!
+string > length:0..4 > pattern::[0-9a-fA-F]*/'xx00/!
+string > length:0..4 > pattern::[0-9a-fA-F]*/'00xx/!
+string > length:0..4 > pattern::[0-9a-fA-F]*/'/
+string > length:0..4 > pattern::[0-9a-fA-F]*/5/!
+string > length:1..max:short > pattern:name:[a-z_]+ > unless:xml:xml.*/'enabled/enabled
+string > length:1..max:short > pattern:name:[a-z_]+ > unless:xml:xml.*/'10/!name
+string > length:1..max:short > pattern:name:[a-z_]+ > unless:xml:xml.*/'xml_a/!xml
+string > length:1..max:short > pattern:name:[a-z_]+ > unless:xml:xml.*/'/!short
+string > pattern:a:a.* > length:0..2:long > pattern:b:.*b/'xyz/!a
+string > pattern:a:a.* > length:0..2:long > pattern:b:.*b/'axyz/!long
+string > pattern:a:a.* > length:0..2:long > pattern:b:.*b/'ax/!b
+string > pattern:a:a.* > length:0..2:long > pattern:b:.*b/'ab/ab
+string > pattern:a:a.* > leafref/'b/!a
+uint8 > string > pattern:a:a > union/'b/!
+uint8 > string > pattern:a:a > union/'a/a";
+    for row in rows.lines() {
+        for way in [Way::Document, Way::Copy] {
+            assert!(rt; holds(rt.alloc(), way, row) == Some(true), "{row:?}");
+        }
+    }
+}
+
+#[test]
+fn defaults_of_patterns(rt: HostRuntime) {
+    let rows = "string > pattern:t:[a-z]+/abc/abc
+string > pattern:t:[a-z]+/ab1/!
+string > unless:t:[a-z]+/abc/!";
+    for row in rows.lines() {
+        assert!(rt;
+            holds(rt.alloc(), Way::Default, row) == Some(true),
+            "{row:?}"
+        );
     }
 }
 

@@ -5,8 +5,10 @@ use Rattle.std.specs.Borrow.{Bor}
 use Rattle.std.specs.Prelude.{Result, Ok, Err, IsErrAnd}
 use Rattle.std.proofs.lemmas.List.{append-nil, length-append, length-map, map-append}
 use Rattle.yspec.specs.Forest.{Forest, end, node, join}
-use Rattle.yspec.specs.text.Statement.{Statement, Slip, module_of}
+use Rattle.yspec.specs.text.Statement.{Statement, Slip}
 use Rattle.yspec.specs.text.Text.{Text}
+use Rattle.yspec_wide.specs.Language.{Language}
+use Rattle.yspec_wide.specs.Texts.{module_in}
 use Rattle.yspec_run.specs.Output.{Outcome, Request, files_of, found_of, performed, with_files, with_module, with_modules}
 use Rattle.yspec.proofs.ForestLemmas.{join_end, join_assoc}
 use Rattle.ytext.specs.View.{view, modules_view}
@@ -100,60 +102,60 @@ with_module_same : (name : Text) (text : List ℕ) (read : Result (Forest Statem
 with_module_same name text (Ok top) f g same = same top
 with_module_same name text (Err slip) f g same = refl
 
-with_modules_same : (names : List Text) (texts : List (List ℕ)) (f g : Forest Statement → List (List ℕ) → Outcome)
-    → ((rest : Forest Statement) (files : List (List ℕ)) → f rest files ≡ g rest files) → with_modules names texts f ≡ with_modules names texts g
-with_modules_same [] texts f g same = same end texts
-with_modules_same (name ∷ names) [] f g same = same end []
-with_modules_same (name ∷ names) (text ∷ texts) f g same = with_module_same name text (module_of text)
-    (λ top. with_modules names texts (λ rest. f (join top rest))) (λ top. with_modules names texts (λ rest. g (join top rest)))
-    (λ top. with_modules_same names texts (λ rest. f (join top rest)) (λ rest. g (join top rest)) (λ rest files. same (join top rest) files))
+with_modules_same : (language : Language) (names : List Text) (texts : List (List ℕ)) (f g : Forest Statement → List (List ℕ) → Outcome)
+    → ((rest : Forest Statement) (files : List (List ℕ)) → f rest files ≡ g rest files) → with_modules language names texts f ≡ with_modules language names texts g
+with_modules_same language [] texts f g same = same end texts
+with_modules_same language (name ∷ names) [] f g same = same end []
+with_modules_same language (name ∷ names) (text ∷ texts) f g same = with_module_same name text (module_in language text)
+    (λ top. with_modules language names texts (λ rest. f (join top rest))) (λ top. with_modules language names texts (λ rest. g (join top rest)))
+    (λ top. with_modules_same language names texts (λ rest. f (join top rest)) (λ rest. g (join top rest)) (λ rest files. same (join top rest) files))
 
 modules_behind : (ms : List Module) (m : Module) → modules_view (ms ++ m ∷ []) ≡ join (modules_view ms) (modules_view (m ∷ []))
 modules_behind [] m = refl
 modules_behind (x ∷ ms) m = ap (node (view x.top).0 (view x.top).1) (modules_behind ms m)
 
 -- so many modules are read, and these names and texts are left
-abbrev pub ParsedSoFar : List Text → List (List ℕ) → List Text → List (List ℕ) → Forest Statement → Type 0
-ParsedSoFar names texts left_names left_texts modules = (next : Forest Statement → List (List ℕ) → Outcome)
-    → with_modules names texts next ≡ with_modules left_names left_texts (λ rest files. next (join modules rest) files)
+abbrev pub ParsedSoFar : Language → List Text → List (List ℕ) → List Text → List (List ℕ) → Forest Statement → Type 0
+ParsedSoFar language names texts left_names left_texts modules = (next : Forest Statement → List (List ℕ) → Outcome)
+    → with_modules language names texts next ≡ with_modules language left_names left_texts (λ rest files. next (join modules rest) files)
 
-pub parsed_same : (names left_names : List Text) (texts left_texts : List (List ℕ)) (modules : Forest Statement) (names' : List Text) (texts' : List (List ℕ))
-    → left_names ≡ names' → left_texts ≡ texts' → ParsedSoFar names texts left_names left_texts modules → ParsedSoFar names texts names' texts' modules
-parsed_same names left_names texts left_texts modules names' texts' same_names same_texts so_far =
-    subst (λ ns. ParsedSoFar names texts ns texts' modules) same_names (subst (λ ts. ParsedSoFar names texts left_names ts modules) same_texts so_far)
+pub parsed_same : (language : Language) (names left_names : List Text) (texts left_texts : List (List ℕ)) (modules : Forest Statement) (names' : List Text) (texts' : List (List ℕ))
+    → left_names ≡ names' → left_texts ≡ texts' → ParsedSoFar language names texts left_names left_texts modules → ParsedSoFar language names texts names' texts' modules
+parsed_same language names left_names texts left_texts modules names' texts' same_names same_texts so_far =
+    subst (λ ns. ParsedSoFar language names texts ns texts' modules) same_names (subst (λ ts. ParsedSoFar language names texts left_names ts modules) same_texts so_far)
 
-pub none_parsed : (names : List Text) (texts : List (List ℕ)) → ParsedSoFar names texts names texts end
-none_parsed names texts next = refl
+pub none_parsed : (language : Language) (names : List Text) (texts : List (List ℕ)) → ParsedSoFar language names texts names texts end
+none_parsed language names texts next = refl
 
-pub one_parsed : (names left_names : List Text) (texts left_texts : List (List ℕ)) (name : Text) (text : List ℕ) (ms : List Module) (m : Module)
-    → ParsedSoFar names texts (name ∷ left_names) (text ∷ left_texts) (modules_view ms)
-    → ((next : Forest Statement → Outcome) → with_module name text (module_of text) next ≡ next (modules_view (m ∷ [])))
-    → ParsedSoFar names texts left_names left_texts (modules_view (ms ++ m ∷ []))
-one_parsed names left_names texts left_texts name text ms m so_far read next = so_far next
-    ∙ read (λ top. with_modules left_names left_texts (λ rest files. next (join (modules_view ms) (join top rest)) files))
-    ∙ with_modules_same left_names left_texts (λ rest files. next (join (modules_view ms) (join (modules_view (m ∷ [])) rest)) files)
+pub one_parsed : (language : Language) (names left_names : List Text) (texts left_texts : List (List ℕ)) (name : Text) (text : List ℕ) (ms : List Module) (m : Module)
+    → ParsedSoFar language names texts (name ∷ left_names) (text ∷ left_texts) (modules_view ms)
+    → ((next : Forest Statement → Outcome) → with_module name text (module_in language text) next ≡ next (modules_view (m ∷ [])))
+    → ParsedSoFar language names texts left_names left_texts (modules_view (ms ++ m ∷ []))
+one_parsed language names left_names texts left_texts name text ms m so_far read next = so_far next
+    ∙ read (λ top. with_modules language left_names left_texts (λ rest files. next (join (modules_view ms) (join top rest)) files))
+    ∙ with_modules_same language left_names left_texts (λ rest files. next (join (modules_view ms) (join (modules_view (m ∷ [])) rest)) files)
     (λ rest files. next (join (modules_view (ms ++ m ∷ [])) rest) files)
     (λ rest files. ap (λ (f : Forest Statement). next f files)
     (sym (join_assoc (modules_view ms) (modules_view (m ∷ [])) rest)
     ∙ ap (λ (f : Forest Statement). join f rest) (sym (modules_behind ms m))))
 
-pub all_parsed : (names : List Text) (texts left_texts : List (List ℕ)) (ms : List Module) → ParsedSoFar names texts [] left_texts (modules_view ms)
-    → (next : Forest Statement → List (List ℕ) → Outcome) → with_modules names texts next ≡ next (modules_view ms) left_texts
-all_parsed names texts left_texts ms so_far next = so_far next ∙ ap (λ (f : Forest Statement). next f left_texts) (join_end (modules_view ms))
+pub all_parsed : (language : Language) (names : List Text) (texts left_texts : List (List ℕ)) (ms : List Module) → ParsedSoFar language names texts [] left_texts (modules_view ms)
+    → (next : Forest Statement → List (List ℕ) → Outcome) → with_modules language names texts next ≡ next (modules_view ms) left_texts
+all_parsed language names texts left_texts ms so_far next = so_far next ∙ ap (λ (f : Forest Statement). next f left_texts) (join_end (modules_view ms))
 
-pub texts_parsed : (names left_names : List Text) (texts left_texts : List (List ℕ)) (name : Text) (ms : List Module) → length left_texts ≡ 0
-    → ParsedSoFar names texts (name ∷ left_names) left_texts (modules_view ms)
-    → (next : Forest Statement → List (List ℕ) → Outcome) → with_modules names texts next ≡ next (modules_view ms) left_texts
-texts_parsed names left_names texts [] name ms none so_far next = so_far next ∙ ap (λ (f : Forest Statement). next f []) (join_end (modules_view ms))
-texts_parsed names left_names texts (text ∷ left_texts) name ms none so_far next = cc
+pub texts_parsed : (language : Language) (names left_names : List Text) (texts left_texts : List (List ℕ)) (name : Text) (ms : List Module) → length left_texts ≡ 0
+    → ParsedSoFar language names texts (name ∷ left_names) left_texts (modules_view ms)
+    → (next : Forest Statement → List (List ℕ) → Outcome) → with_modules language names texts next ≡ next (modules_view ms) left_texts
+texts_parsed language names left_names texts [] name ms none so_far next = so_far next ∙ ap (λ (f : Forest Statement). next f []) (join_end (modules_view ms))
+texts_parsed language names left_names texts (text ∷ left_texts) name ms none so_far next = cc
 
 -- the module of which the text is refused
-pub parsing_fails : (names left_names : List Text) (texts left_texts : List (List ℕ)) (name : Text) (text : List ℕ) (ms : List Module) (f : Failure)
-    → ParsedSoFar names texts (name ∷ left_names) (text ∷ left_texts) (modules_view ms)
-    → ((next : Forest Statement → Outcome) → FailsWith f (with_module name text (module_of text) next))
-    → (next : Forest Statement → List (List ℕ) → Outcome) → FailsWith f (with_modules names texts next)
-parsing_fails names left_names texts left_texts name text ms f so_far refused next = subst (FailsWith f) (sym (so_far next))
-    (refused (λ top. with_modules left_names left_texts (λ rest files. next (join (modules_view ms) (join top rest)) files)))
+pub parsing_fails : (language : Language) (names left_names : List Text) (texts left_texts : List (List ℕ)) (name : Text) (text : List ℕ) (ms : List Module) (f : Failure)
+    → ParsedSoFar language names texts (name ∷ left_names) (text ∷ left_texts) (modules_view ms)
+    → ((next : Forest Statement → Outcome) → FailsWith f (with_module name text (module_in language text) next))
+    → (next : Forest Statement → List (List ℕ) → Outcome) → FailsWith f (with_modules language names texts next)
+parsing_fails language names left_names texts left_texts name text ms f so_far refused next = subst (FailsWith f) (sym (so_far next))
+    (refused (λ top. with_modules language left_names left_texts (λ rest files. next (join (modules_view ms) (join top rest)) files)))
 
 -- ---- what a call answers
 

@@ -7,10 +7,12 @@ ghost use Rattle.ylink_grammar.specs.LanguageView.{language_view};
 ghost use Rattle.yspec_run.specs.Output as spec;
 ghost use Rattle.yspec_run.specs.Output.{Outcome, with_compiled, with_modules, with_schema};
 ghost use Rattle.yspec.specs.schema.Schema as schema_spec;
-ghost use Rattle.yspec.specs.text.Statement.{Statement, module_of};
+ghost use Rattle.yspec.specs.text.Statement.{Statement};
+ghost use Rattle.yspec_wide.specs.Texts.{module_in};
 ghost use Rattle.ytext.specs.View.{modules_view};
 ghost use Rattle.yschema_model.specs.View as schema_view;
-ghost use Rattle.ytext.specs.Told.{number_of};
+ghost use Rattle.ytext.specs.Told.{number_of, told_by};
+ghost use Rattle.yspec.specs.Results.{Gives};
 ghost use Rattle.ylink_grammar.specs.BreakView.{break_view, code_number};
 ghost use Rattle.yspec_run.specs.Hint as hints;
 ghost use Rattle.yspec_run.specs.Hint.{language_hint};
@@ -23,16 +25,17 @@ use yapp_script::{break_hint, slip_hint};
 use ylink_grammar::{BrokenRule, CompileCode, Language};
 use yschema::{CompileFault, compile_in};
 use yschema_model::Schema;
-use ytext::{Module, TextCode, TextFault, parse};
+use ytext::{Module, TextCode, TextFault, parse_in};
 
 /// The statements of the modules of some names, in order, up to the first whose text is refused.
 fn parse_modules<'a, 'b>(
     alloc: Global,
+    language: &Language,
     names: &[&'a str],
     contents: &'b [Vec<u8>],
 ) -> Result<Taken<'b, Vec<Module>>, Failure<'a>>
     ensures { (next : Forest Statement → List (List ℕ) → Outcome)
-        → LeadsTo (with_modules (map (λ n. n.now) names.now)
+        → LeadsTo (with_modules (language_view language.now) (map (λ n. n.now) names.now)
         (map (λ c. c.items) contents.entry.now) next)
         (λ parsed. next (modules_view parsed.value.items) (map (λ c. c.items) parsed.rest.now))
         result }
@@ -42,7 +45,7 @@ fn parse_modules<'a, 'b>(
     for name in names {
         match rest.split_first() {
             Some((text, others)) => {
-                match parse_module(alloc, *name, text) {
+                match parse_module(alloc, language, *name, text) {
                     Ok(module) => modules.push(module)?,
                     Err(failure) => return Err(failure),
                 }
@@ -60,12 +63,25 @@ fn parse_modules<'a, 'b>(
     })
 }
 
-fn parse_module<'a>(alloc: Global, name: &'a str, text: &[u8]) -> Result<Module, Failure<'a>>
+/// The statements of a text, read by the version that it states where the language has several.
+fn parse_text(alloc: Global, language: &Language, text: &[u8]) -> Result<Module, TextFault>
+    ensures { Gives (λ read. modules_view (read ∷ [])) told_by result
+        (module_in (language_view language.now) text.now) }
+{
+    parse_in(alloc, text, language.reads_versions())
+}
+
+fn parse_module<'a>(
+    alloc: Global,
+    language: &Language,
+    name: &'a str,
+    text: &[u8],
+) -> Result<Module, Failure<'a>>
     ensures { (next : Forest Statement → Outcome)
-        → LeadsTo (spec.with_module name.entry.now text.now (module_of text.now) next)
+        → LeadsTo (spec.with_module name.entry.now text.now (module_in (language_view language.now) text.now) next)
         (λ parsed. next (modules_view (parsed ∷ []))) result }
 {
-    match parse(alloc, text) {
+    match parse_text(alloc, language, text) {
         Ok(module) => Ok(module),
         Err(TextFault::Refused { code, line }) => Err(text_failure(alloc, name, code, line, text)),
         Err(TextFault::Memory) => Err(Failure::Memory),
@@ -226,7 +242,7 @@ pub fn compile_contents<'a, 'b>(
         (λ compiled. next (schema_view.view compiled.value) (map (λ c. c.items) compiled.rest.now))
         result }
 {
-    match parse_modules(alloc, names, contents) {
+    match parse_modules(alloc, language, names, contents) {
         Ok(parsed) => match compile_modules(alloc, language, names, contents, &parsed.value) {
             Ok(schema) => Ok(Taken {
                 value: schema,

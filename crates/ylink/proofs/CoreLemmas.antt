@@ -1,4 +1,4 @@
--- Under the core nothing is told of features and conditions, and where all modules are of YANG 1.1 nothing of what YANG 1 lacks.
+-- Under the core nothing is told of features, conditions and patterns, and where all modules are of YANG 1.1 nothing of what YANG 1 lacks.
 use Rattle.std.proofs.Common.{◌≡◌, ℕ, ◌&&◌, List, [], ◌∷◌, ◌++◌, refl, sym, ap, ap₂, ◌∙◌}
 use Rattle.std.specs.List.{flat_map}
 use Rattle.yspec.specs.Forest.{Forest, end, node}
@@ -8,6 +8,7 @@ use Rattle.yspec.specs.linking.Source.{Source, is_source_of}
 use Rattle.yspec.specs.schema.Breaks.{Break, broken, when}
 use Rattle.yspec_wide.specs.Features.{features_in, doubled_features, condition_prefix_break, condition_prefix_breaks, taken_feature_breaks, feature_edges, condition_break, condition_breaks}
 use Rattle.yspec_wide.specs.Language.{Language, core, is_yang_1, version_of, yang_1_1}
+use Rattle.yspec_wide.specs.Patterns.{pattern_break, pattern_breaks}
 use Rattle.yspec_wide.specs.VersionBreaks.{is_wrong_in_1, version_type_break, version_type_breaks}
 use Rattle.yspec_wide.proofs.CoreLinkingLemmas.{when_never}
 
@@ -32,6 +33,9 @@ pub no_conditions : (modules : Forest Source) → condition_breaks core modules 
 no_conditions modules = none_told (condition_break core modules (feature_edges core modules)) (λ p. refl) (statements_of modules)
 
 -- ---- types
+
+pub no_patterns : (modules : Forest Source) → pattern_breaks core modules ≡ []
+no_patterns modules = none_told (pattern_break core) (λ p. refl) (statements_of modules)
 
 pub no_wrong_types : (language : Language) (modules : Forest Source) → ((home : ℕ) → yang_1_1 ≡ version_of language modules home)
     → version_type_breaks language modules ≡ []

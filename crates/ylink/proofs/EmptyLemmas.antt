@@ -83,26 +83,53 @@ bare_limits s spans error (Some b) t none e = by (ranges.restricted (restriction
     never is = let no : Some b ≡ None = none is in cc
 
     by : (o : Option (List ranges.Part))
-        → option_map (λ (x : types.SimpleType). record { shape = types.single x; requires_instance = None }) (option_map (restriction.with_limit s error) o) ≡ Some t → IsBare t
+        → option_map (λ (x : types.SimpleType). record { shape = types.single x; requires_instance = None }) (option_map (λ parts. restriction.with_limit s error (ranges.within parts)) o) ≡ Some t → IsBare t
     by None e = absurd cc
     by (Some parts) e =
-        let same : record { shape = types.single (restriction.with_limit s error parts); requires_instance = None } ≡ t = cc in
+        let same : record { shape = types.single (restriction.with_limit s error (ranges.within parts)); requires_instance = None } ≡ t = cc in
         subst (λ (x : types.YangType). IsBare x) same (λ is. absurd (never is))
+
+bare_matching : (s : types.SimpleType) (test : ranges.Test) (error : ranges.ErrorText) (may : Bool) (t : types.YangType)
+    → (s.base ≡ types.empty_base → may ≡ false)
+    → option_map (λ (x : types.SimpleType). record { shape = types.single x; requires_instance = None }) (cond may (Some (restriction.with_limit s error test)) None) ≡ Some t → IsBare t
+bare_matching s test error false t none e = absurd cc
+bare_matching s test error true t none e =
+    let same : record { shape = types.single (restriction.with_limit s error test); requires_instance = None } ≡ t = cc in
+    subst (λ (x : types.YangType). IsBare x) same (λ is. absurd (never is))
+  where
+    never : s.base ≡ types.empty_base → ⊥
+    never is = let no : true ≡ false = none is in cc
 
 bare_narrowed : (shape : types.Shape) (requires : Option Bool) (r : restriction.Restriction) (t : types.YangType) → IsBareShape shape
     → restriction.narrowed (record { shape = shape; requires_instance = requires }) r ≡ Some t → IsBare t
 bare_narrowed (types.single s) None (restriction.range spans error) t bare e = bare_limits s spans error (restriction.range_base s.base) t (λ is. ap restriction.range_base is) e
 bare_narrowed (types.single s) None (restriction.length spans error) t bare e = bare_limits s spans error (restriction.length_base s.base) t (λ is. ap restriction.length_base is) e
+bare_narrowed (types.single s) None (restriction.pattern expression inverted error) t bare e =
+    bare_matching s (ranges.matching expression inverted) error (restriction.may_match s.base) t (λ is. ap restriction.may_match is) e
 bare_narrowed (types.single s) None (restriction.require_instance b) t bare e = absurd cc
 bare_narrowed (types.union members) None r t bare e = absurd cc
 bare_narrowed shape (Some required) (restriction.range spans error) t bare e = absurd cc
 bare_narrowed shape (Some required) (restriction.length spans error) t bare e = absurd cc
+bare_narrowed shape (Some required) (restriction.pattern expression inverted error) t bare e = absurd cc
 bare_narrowed shape (Some required) (restriction.require_instance b) t bare e =
     let same : record { shape = shape; requires_instance = Some b } ≡ t = cc in subst (λ (x : types.YangType). IsBare x) same bare
 
 bare_limited : (r : Option restriction.Restriction) (type t : types.YangType) → IsBare type → spec.limited r type ≡ Some t → IsBare t
 bare_limited None type t bare e = let same : type ≡ t = cc in subst (λ (x : types.YangType). IsBare x) same bare
 bare_limited (Some r) type t bare e = bare_narrowed type.shape type.requires_instance r t bare e
+
+bare_matched : (f : Forest Source) (type t : types.YangType) → IsBare type → spec.matched_in f type ≡ Some t → IsBare t
+unfolding spec.matched_in
+bare_matched end type t bare e = let same : type ≡ t = cc in subst (λ (x : types.YangType). IsBare x) same bare
+bare_matched (node s below after) type t bare e =
+    by (spec.is_pattern_statement s) (restriction.narrowed type (spec.pattern_stated s below)) refl e (λ u b is. bare_matched after u t b is)
+  where
+    by : (b : Bool) (o : Option types.YangType) → restriction.narrowed type (spec.pattern_stated s below) ≡ o
+        → cond b (option_and_then (spec.matched_in after) o) (spec.matched_in after type) ≡ Some t
+        → ((u : types.YangType) → IsBare u → spec.matched_in after u ≡ Some t → IsBare t) → IsBare t
+    by true None is e later = absurd cc
+    by true (Some u) is e later = later u (bare_narrowed type.shape type.requires_instance (spec.pattern_stated s below) u bare is) e
+    by false o is e later = later type bare e
 
 -- ---- built-in types
 
@@ -125,7 +152,12 @@ bare_single spec.decimal64 below t e = by (option_and_then fraction_digits_of (a
     by : (o : Option ℕ) → option_and_then (λ digits. spec.limited_range below (types.plain (types.decimal_base digits))) o ≡ Some t → IsBare t
     by None e = absurd cc
     by (Some digits) e = bare_limited (spec.stated word.range_word restriction.range below) (types.plain (types.decimal_base digits)) t (λ is. refl) e
-bare_single spec.string below t e = bare_limited (spec.stated word.length_word restriction.length below) types.string_type t (λ is. refl) e
+bare_single spec.string below t e = by (spec.limited (spec.stated word.length_word restriction.length below) types.string_type) refl e
+  where
+    by : (o : Option types.YangType) → spec.limited (spec.stated word.length_word restriction.length below) types.string_type ≡ o
+        → option_and_then (spec.matched_in below) o ≡ Some t → IsBare t
+    by None is e = absurd cc
+    by (Some u) is e = bare_matched below u t (bare_limited (spec.stated word.length_word restriction.length below) types.string_type u (λ is. refl) is) e
 bare_single spec.boolean below t e = bare_plain types.boolean_base t e
 bare_single spec.empty below t e = bare_plain types.empty_base t e
 bare_single spec.enumeration below t e = bare_names types.enumeration_base enum_names (spec.namings word.enum_word spec.value_stated below) t e
@@ -184,17 +216,18 @@ bare_in_place modules is_member s spec.bits below members = bare_or (spec.single
 -- ---- by way of a typedef
 
 bare_restricted : (s : Source) (below : Forest Source) (m n : spec.Meant) → IsBareMeant m → spec.restricted_by s below m ≡ Some n → IsBareMeant n
-bare_restricted s below (spec.own type) n bare e = by (is_source_of word.range_word s) (is_source_of word.length_word s) e
+bare_restricted s below (spec.own type) n bare e = by (spec.is_pattern_statement s) (is_source_of word.range_word s) (is_source_of word.length_word s) e
   where
     from : (r : restriction.Restriction) (o : Option types.YangType) → restriction.narrowed type r ≡ o → option_map spec.own o ≡ Some n → IsBareMeant n
     from r None is e = absurd cc
     from r (Some t) is e = let same : spec.own t ≡ n = cc in subst IsBareMeant same (bare_narrowed type.shape type.requires_instance r t bare is)
 
-    by : (a b : Bool) → option_map spec.own (cond a (restriction.narrowed type (spec.stated_by restriction.range (s, below)))
-        (cond b (restriction.narrowed type (spec.stated_by restriction.length (s, below))) None)) ≡ Some n → IsBareMeant n
-    by true b e = from (spec.stated_by restriction.range (s, below)) (restriction.narrowed type (spec.stated_by restriction.range (s, below))) refl e
-    by false true e = from (spec.stated_by restriction.length (s, below)) (restriction.narrowed type (spec.stated_by restriction.length (s, below))) refl e
-    by false false e = absurd cc
+    by : (p a b : Bool) → option_map spec.own (cond p (Some type) (cond a (restriction.narrowed type (spec.stated_by restriction.range (s, below)))
+        (cond b (restriction.narrowed type (spec.stated_by restriction.length (s, below))) None))) ≡ Some n → IsBareMeant n
+    by true a b e = let same : spec.own type ≡ n = cc in subst IsBareMeant same bare
+    by false true b e = from (spec.stated_by restriction.range (s, below)) (restriction.narrowed type (spec.stated_by restriction.range (s, below))) refl e
+    by false false true e = from (spec.stated_by restriction.length (s, below)) (restriction.narrowed type (spec.stated_by restriction.length (s, below))) refl e
+    by false false false e = absurd cc
 bare_restricted s below (spec.of_target home steps required) n bare e =
     by (is_source_of word.require_instance_word s) (is_text (argument_in s) (codes "true")) e
   where
@@ -212,16 +245,31 @@ bare_all_restricted (node s below after) m n bare e = by (spec.restricted_by s b
     by None is e later = absurd cc
     by (Some r) is e later = later r (bare_restricted s below m r bare is) e
 
+bare_all_matched : (f : Forest Source) (m n : spec.Meant) → IsBareMeant m → spec.matched_meant f m ≡ Some n → IsBareMeant n
+bare_all_matched f (spec.own type) n bare e = by (spec.matched_in f type) refl e
+  where
+    by : (o : Option types.YangType) → spec.matched_in f type ≡ o → option_map spec.own o ≡ Some n → IsBareMeant n
+    by None is e = absurd cc
+    by (Some t) is e = let same : spec.own t ≡ n = cc in subst IsBareMeant same (bare_matched f type t bare is)
+bare_all_matched f (spec.of_target home steps required) n bare e =
+    let same : spec.of_target home steps required ≡ n = cc in subst IsBareMeant same tt
+
 bare_derived : (is_member : Bool) (below : Forest Source) (v : spec.Verdict) → IsBareVerdict v → IsBareVerdict (spec.derived is_member below v)
 bare_derived is_member below spec.wrong bare n e = absurd cc
 bare_derived is_member below spec.too_large bare n e = absurd cc
 bare_derived is_member below spec.unjudged bare n e = absurd cc
 bare_derived is_member below (spec.means m) bare n e = by (is_member && spec.is_reference m) (spec.restricted_in below m) refl e
   where
-    by : (b : Bool) (o : Option spec.Meant) → spec.restricted_in below m ≡ o → spec.meaning_of (cond b spec.wrong (option_map_or spec.means o spec.wrong)) ≡ Some n → IsBareMeant n
+    matched : (r : spec.Meant) (o : Option spec.Meant) → IsBareMeant r → spec.matched_meant below r ≡ o
+        → spec.meaning_of (option_map_or spec.means o spec.wrong) ≡ Some n → IsBareMeant n
+    matched r None bare is e = absurd cc
+    matched r (Some q) bare is e = bare_means q (bare_all_matched below r q bare is) n e
+
+    by : (b : Bool) (o : Option spec.Meant) → spec.restricted_in below m ≡ o
+        → spec.meaning_of (cond b spec.wrong (option_map_or spec.means (option_and_then (spec.matched_meant below) o) spec.wrong)) ≡ Some n → IsBareMeant n
     by true o is e = absurd cc
     by false None is e = absurd cc
-    by false (Some r) is e = bare_means r (bare_all_restricted below m r (bare m refl) is) n e
+    by false (Some r) is e = matched r (spec.matched_meant below r) (bare_all_restricted below m r (bare m refl) is) refl e
 
 bare_verdict : (modules : Forest Source) (named_so : ℕ → spec.Verdict) (is_member : Bool) (s : Source) (below : Forest Source) (members : List spec.Verdict)
     → ((k : ℕ) → IsBareVerdict (named_so k)) → IsBareVerdict (spec.verdict modules named_so is_member s below members)

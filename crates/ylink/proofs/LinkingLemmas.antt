@@ -17,6 +17,7 @@ use Rattle.yspec.specs.linking.Compiling.{names_phase, meanings_phase, linking_p
 use Rattle.yspec_wide.specs.Compiling.{names_phase_in, meanings_phase_in, linking_phases_in, linked_in}
 use Rattle.yspec_wide.specs.Features.{condition_prefix_breaks, taken_feature_breaks, condition_breaks}
 use Rattle.yspec_wide.specs.Language.{Language}
+use Rattle.yspec_wide.specs.Patterns.{pattern_breaks}
 use Rattle.yspec_wide.specs.Sources.{sources_in}
 use Rattle.yspec_wide.specs.StatementBreaks.{statement_phase_in}
 use Rattle.yspec_wide.specs.VersionBreaks.{version_import_breaks, version_type_breaks}
@@ -74,10 +75,14 @@ module _ (language : Language) (s : Forest Source) where
       ∙ ap (λ l. least_from None (import_breaks s ++ (version_import_breaks language s ++ l)))
       (append_assoc lost (circles ++ definitions) conditions ∙ ap (λ l. lost ++ l) (append_assoc circles definitions conditions))
 
-  pub types_told : (own told : Option Break) → own ≡ least_from None (type_breaks s) → told ≡ least_from own (version_type_breaks language s)
-      → told ≡ least_from None (type_breaks s ++ version_type_breaks language s)
-  types_told own told own_is told_is =
-      told_is ∙ (ap (λ t. least_from t (version_type_breaks language s)) own_is ∙ sym (least_of_both None (type_breaks s) (version_type_breaks language s)))
+  pub types_told : (own versioned told : Option Break) → own ≡ least_from None (type_breaks s) → versioned ≡ least_from own (version_type_breaks language s)
+      → told ≡ least_from versioned (pattern_breaks language s)
+      → told ≡ least_from None (type_breaks s ++ (version_type_breaks language s ++ pattern_breaks language s))
+  types_told own versioned told own_is versioned_is told_is =
+      let versions = version_type_breaks language s in
+      let patterns = pattern_breaks language s in
+      told_is ∙ (ap (λ t. least_from t patterns) versioned_is ∙ (sym (least_of_both own versions patterns)
+      ∙ (ap (λ t. least_from t (versions ++ patterns)) own_is ∙ sym (least_of_both None (type_breaks s) (versions ++ patterns)))))
 
 pub none_broken : (phase : List Break) → None ≡ least_from None phase → phase ≡ []
 none_broken [] none = refl
@@ -128,7 +133,7 @@ module _ (language : Language) where
 
   module _ (f : Forest Statement) (s : Forest Source) (s_is : s ≡ sources_in language f) (first : None ≡ least_from None (statement_phase_in language f)) where
     abbrev types : Forest Source → List Break
-    types x = type_breaks x ++ version_type_breaks language x
+    types x = type_breaks x ++ (version_type_breaks language x ++ pattern_breaks language x)
 
     -- what the phases behind the first tell is told
     behind : (t : Option Break) → t ≡ first_broken (names_phase_in language f s ∷ meanings_phase_in language s ∷ types s ∷ []) → t ≡ first_broken (linking_phases_in language f)

@@ -1,6 +1,7 @@
 pub use Rattle.ylink_types.specs.TypeView
 pub mod VerdictView
 pub mod EmptyView
+pub mod PatternView
 pub mod KeptMeaningsView
 pub mod ModuleView
 pub mod LinkedView

@@ -9,6 +9,7 @@ mod linked;
 mod linking;
 mod modules;
 mod ordering;
+mod patterns;
 mod repeated;
 mod statements;
 mod verdicts;

@@ -27,6 +27,7 @@ use crate::features::{broken_condition, broken_feature_name};
 use crate::judging::broken_type_rule;
 use crate::linked::Linked;
 use crate::ordering::order_of;
+use crate::patterns::broken_pattern_rule;
 use crate::repeated::repeated_module;
 use crate::verdicts::verdicts_of;
 use crate::versions::broken_version_type_rule;
@@ -49,8 +50,8 @@ pub fn link<'t>(alloc: Global, modules: &'t [Module]) -> Result<Linked<'t>, Comp
 }
 
 /// The statements of a set of modules in a language, with what their names and types mean, or the least broken rule, by
-/// module, line and number, of the first phase that has one (C1 to C10, C22). Phases: the table of statements; prefixes, and
-/// names of modules, definitions and features; imports, what names mean, and conditions; types.
+/// module, line and number, of the first phase that has one (C1 to C10, C20, C22). Phases: the table of statements; prefixes, and
+/// names of modules, definitions and features; imports, what names mean, and conditions; types and patterns.
 pub fn link_in<'t>(
     alloc: Global,
     modules: &'t [Module],
@@ -144,7 +145,8 @@ fn link_types<'t>(
 {
     let verdicts = verdicts_of(alloc, &sources, &typedefs, Kept::All)?;
     let own = broken_type_rule(&sources, &verdicts);
-    if let Some(found) = broken_version_type_rule(alloc, &sources, versions, &verdicts, own)? {
+    let versioned = broken_version_type_rule(alloc, &sources, versions, &verdicts, own)?;
+    if let Some(found) = broken_pattern_rule(alloc, language, &sources, versioned)? {
         return Err(CompileFault::from(found));
     }
     Ok(Linked::new(sources, prefixes, order, typedefs, verdicts))

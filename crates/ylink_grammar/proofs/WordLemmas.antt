@@ -1,7 +1,11 @@
 -- Keywords of a language beside those of the core, and the rows of its table beside the core's.
-use Rattle.std.proofs.Common.{◌≡◌, ℕ, Bool, true, false, cond, not, List, [], ◌∷◌, ◌++◌, map, Option, Some, None, refl, sym, ap, ap₂, ◌∙◌}
+use Rattle.std.proofs.Common.{◌≡◌, ℕ, zero, suc, ◌+◌, Bool, true, false, cond, not, List, [], ◌∷◌, ◌++◌, map, Option, Some, None, arith, refl, sym, ap, ap₂, ◌∙◌}
 use Rattle.std.proofs.Math.Path.{fun_ext}
-use Rattle.std.specs.Prelude.{◌||◌, ◌&&◌, codes, count_by, option_map}
+use Rattle.std.specs.Prelude.{◌||◌, ◌&&◌, ◌==◌, codes, count_by, nat_lt, option_map}
+use Rattle.std.proofs.Math.Bool.{and-false, and-true, or-false}
+use Rattle.std.proofs.lemmas.Bool.{eqb-true, lt-ltb}
+use Rattle.std.proofs.lemmas.List.Folds.{list_any-append}
+use Rattle.std.proofs.lemmas.List.Sums.{sum_by-cons}
 use Rattle.std.specs.List.{list_any}
 use Rattle.std.specs.Option.{option_map_or}
 use Rattle.std.proofs.lemmas.Slice.Eq.{bytes_eq-Decides}
@@ -15,16 +19,17 @@ use Rattle.yspec.specs.linking.StatementBreaks as narrow
 use Rattle.yspec.specs.linking.StatementBreaks.{has_keyword, is_prefixed}
 use Rattle.yspec.proofs.LinkingProofs.KeywordLemmas.{of_each, prefixed_is_none}
 use Rattle.yspec_wide.specs.Language.{Language, core, rfc}
-use Rattle.yspec_wide.specs.Words.{Word, known, feature_word, if_feature_word, same_word, or_added, word_named}
+use Rattle.yspec_wide.specs.Words.{Word, known, feature_word, if_feature_word, pattern_word, modifier_word, same_word, or_added, word_named}
 use Rattle.yspec_wide.specs.Table.{Allowed, allowed_before, row_before, many}
 use Rattle.yspec_wide.specs.StatementBreaks.{has_word, occurrences, is_miscounted, is_allowed, type_breaks, version_breaks}
-use Rattle.ylink_grammar.specs.Counts.{is_type_outside, is_wrongly_versioned}
+use Rattle.ylink_grammar.specs.Counts.{is_type_outside, is_wrongly_versioned, is_repeated, repeats}
+use Rattle.ylink_grammar.specs.TableView.{once}
 
 is_false : (b : Bool) → not b ≡ true → b ≡ false
 is_false true e = absurd cc
 is_false false e = refl
 
--- ---- keywords that features bring
+-- ---- keywords beside those of the core
 
 pub no_feature : (k : Keyword) → same_word (known k) feature_word ≡ false
 no_feature k = is_false _ (of_each (λ k. not (same_word (known k) feature_word)) refl k)
@@ -32,17 +37,29 @@ no_feature k = is_false _ (of_each (λ k. not (same_word (known k) feature_word)
 pub no_if_feature : (k : Keyword) → same_word (known k) if_feature_word ≡ false
 no_if_feature k = is_false _ (of_each (λ k. not (same_word (known k) if_feature_word)) refl k)
 
-no_added : (k : Keyword) (a b : Bool) → option_map_or (same_word (known k)) (cond a (Some feature_word) (cond b (Some if_feature_word) None)) false ≡ false
-no_added k true b = no_feature k
-no_added k false true = no_if_feature k
-no_added k false false = refl
+no_pattern : (k : Keyword) → same_word (known k) pattern_word ≡ false
+no_pattern k = is_false _ (of_each (λ k. not (same_word (known k) pattern_word)) refl k)
+
+no_modifier : (k : Keyword) → same_word (known k) modifier_word ≡ false
+no_modifier k = is_false _ (of_each (λ k. not (same_word (known k) modifier_word)) refl k)
+
+-- which of the four a text is
+abbrev one_added : Bool → Bool → Bool → Bool → Option Word
+one_added a b c d = cond a (Some feature_word) (cond b (Some if_feature_word) (cond c (Some pattern_word) (cond d (Some modifier_word) None)))
+
+no_added : (k : Keyword) (a b c d : Bool) → option_map_or (same_word (known k)) (one_added a b c d) false ≡ false
+no_added k true b c d = no_feature k
+no_added k false true c d = no_if_feature k
+no_added k false false true d = no_pattern k
+no_added k false false false true = no_modifier k
+no_added k false false false false = refl
 
 core_has : (k : Keyword) (o : Option Keyword) → option_map_or (same_word (known k)) (option_map known o) false ≡ option_map_or (same_keyword k) o false
 core_has k None = refl
 core_has k (Some j) = refl
 
 wide_has : (k : Keyword) (t : Text) (o : Option Keyword) → option_map_or (same_word (known k)) (or_added o t) false ≡ option_map_or (same_keyword k) o false
-wide_has k t None = no_added k (is_text t (codes "feature")) (is_text t (codes "if-feature"))
+wide_has k t None = no_added k (is_text t (codes "feature")) (is_text t (codes "if-feature")) (is_text t (codes "pattern")) (is_text t (codes "modifier"))
 wide_has k t (Some j) = refl
 
 pub has_alike : (l : Language) (k : Keyword) (s : Statement) → has_word l (known k) s ≡ has_keyword k s
@@ -59,14 +76,16 @@ plain t word prefixed e = by (is_text t word) refl
         let clash : true ≡ false = sym prefixed ∙ (ap is_prefixed same ∙ e) in absurd cc
     by false is = refl
 
-none_by : (a b : Bool) → a ≡ false → b ≡ false → cond a (Some feature_word) (cond b (Some if_feature_word) None) ≡ None
-none_by a b first second = rw (first, second) refl
+none_by : (a b c d : Bool) → a ≡ false → b ≡ false → c ≡ false → d ≡ false → one_added a b c d ≡ None
+none_by a b c d first second third last = rw (first, second, third, last) refl
 
 pub prefixed_is_no_word : (l : Language) (t : Text) → is_prefixed t ≡ true → word_named l t ≡ None
 prefixed_is_no_word core t prefixed = ap (option_map known) (prefixed_is_none t prefixed)
 prefixed_is_no_word (rfc choosings) t prefixed =
     ap (λ o. or_added o t) (prefixed_is_none t prefixed)
-    ∙ none_by (is_text t (codes "feature")) (is_text t (codes "if-feature")) (plain t (codes "feature") prefixed refl) (plain t (codes "if-feature") prefixed refl)
+    ∙ none_by (is_text t (codes "feature")) (is_text t (codes "if-feature")) (is_text t (codes "pattern")) (is_text t (codes "modifier"))
+    (plain t (codes "feature") prefixed refl) (plain t (codes "if-feature") prefixed refl)
+    (plain t (codes "pattern") prefixed refl) (plain t (codes "modifier") prefixed refl)
 
 -- ---- how many there are
 
@@ -85,38 +104,74 @@ behind_alike : (l : Language) (f : Forest Statement) (rows : List narrow_table.A
 behind_alike l f [] behind = none_miscounted l f behind
 behind_alike l f (a ∷ rows) behind = ap₂ (λ b c. b || c) (miscounted_alike l f a) (behind_alike l f rows behind)
 
-pub rows_alike : (l : Language) (f : Forest Statement) (ahead : List Word) (rows : List narrow_table.Allowed) (behind : List Word)
-    → list_any (is_miscounted l f) (map many ahead ++ (row_before rows ++ map many behind)) ≡ list_any (narrow.is_miscounted f) rows
-rows_alike l f [] rows behind = behind_alike l f rows behind
-rows_alike l f (w ∷ ahead) rows behind = rows_alike l f ahead rows behind
+-- one more that passes the test or doesn't
+one_repeats : (b now : Bool) (m n : ℕ) (first second : Bool) → m ≡ cond now 1 0 + n → first ≡ nat_lt 1 (1 + n) → second ≡ nat_lt 1 (cond b 1 0 + n)
+    → cond now (b || first) second ≡ nat_lt 1 (cond b 1 0 + m)
+one_repeats true true m n first second more first_is second_is = sym (lt-ltb 1 (1 + m) (omega (arith, more)))
+one_repeats false true m n first second more first_is second_is = first_is ∙ ap (λ k. nat_lt 1 k) (omega (arith, more))
+one_repeats b false m n first second more first_is second_is = second_is ∙ ap (λ k. nat_lt 1 (cond b 1 0 + k)) (omega (arith, more))
+
+repeats_counted : (test : Statement → Bool) (b : Bool) (ss : List Statement) → repeats test b ss ≡ nat_lt 1 (cond b 1 0 + count_by test ss)
+repeats_counted test true [] = refl
+repeats_counted test false [] = refl
+repeats_counted test b (s ∷ ss) =
+    one_repeats b (test s) _ (count_by test ss) _ _ (sum_by-cons (λ x. cond (test x) 1 0) s ss) (repeats_counted test true ss) (repeats_counted test b ss)
+
+not_zero : (n : ℕ) → (suc n == 0) ≡ false
+not_zero n = by (suc n == 0) refl
+  where
+    by : (b : Bool) → (suc n == 0) ≡ b → b ≡ false
+    by true e = let same : suc n ≡ 0 = eqb-true (suc n) 0 e in absurd (omega (arith, same))
+    by false e = refl
+
+not_missing : (n : ℕ) (x : Bool) → (nat_lt 1 n && not (x && n == 0)) ≡ nat_lt 1 n
+not_missing zero x = refl
+not_missing (suc n) x = ap (λ b. nat_lt 1 (suc n) && not (x && b)) (not_zero n) ∙ (ap (λ b. nat_lt 1 (suc n) && not b) (and-false x) ∙ and-true (nat_lt 1 (suc n)))
+
+once_alike : (l : Language) (f : Forest Statement) (w : Word) → is_miscounted l f (once w) ≡ is_repeated l f w
+once_alike l f w =
+    let n = occurrences l w f in
+    let none_yet : 0 + n ≡ n = omega arith in
+    not_missing n _ ∙ sym (repeats_counted (has_word l w) false (row f) ∙ ap (λ k. nat_lt 1 k) none_yet)
+
+all_once : (l : Language) (f : Forest Statement) (words : List Word) → list_any (is_miscounted l f) (map once words) ≡ list_any (is_repeated l f) words
+all_once l f [] = refl
+all_once l f (w ∷ words) = ap₂ (λ b c. b || c) (once_alike l f w) (all_once l f words)
+
+pub rows_alike : (l : Language) (f : Forest Statement) (single ahead : List Word) (rows : List narrow_table.Allowed) (behind : List Word)
+    → list_any (is_miscounted l f) ((map once single ++ map many ahead) ++ (row_before rows ++ map many behind))
+    ≡ (list_any (is_repeated l f) single || list_any (narrow.is_miscounted f) rows)
+rows_alike l f single ahead rows behind =
+    list_any-append (is_miscounted l f) (map once single ++ map many ahead) (row_before rows ++ map many behind)
+    ∙ ap₂ (λ b c. b || c)
+    (list_any-append (is_miscounted l f) (map once single) (map many ahead) ∙ (ap₂ (λ b c. b || c) (all_once l f single) (none_miscounted l f ahead) ∙ or-false _))
+    (behind_alike l f rows behind)
 
 -- ---- which may stand there
+
+single_alike : (w : Word) (words : List Word) → list_any (λ x. same_word x w) words ≡ is_allowed w (map once words)
+single_alike w [] = refl
+single_alike w (x ∷ words) = ap (λ b. same_word x w || b) (single_alike w words)
 
 words_alike : (w : Word) (words : List Word) → list_any (λ x. same_word x w) words ≡ is_allowed w (map many words)
 words_alike w [] = refl
 words_alike w (x ∷ words) = ap (λ b. same_word x w || b) (words_alike w words)
 
-or_assoc : (a b c : Bool) → ((a || b) || c) ≡ (a || (b || c))
-or_assoc true b c = refl
-or_assoc false b c = refl
-
 in_both : (w : Word) (first second : List Allowed) → (is_allowed w first || is_allowed w second) ≡ is_allowed w (first ++ second)
-in_both w [] second = refl
-in_both w (a ∷ first) second =
-    or_assoc (same_word a.word w) (is_allowed w first) (is_allowed w second) ∙ ap (λ b. same_word a.word w || b) (in_both w first second)
+in_both w first second = sym (list_any-append (λ a. same_word a.word w) first second)
 
-pub allowed_in_row : (w : Word) (ahead : List Word) (rows : List Allowed) (behind : List Word)
-    → (list_any (λ x. same_word x w) ahead || (is_allowed w rows || list_any (λ x. same_word x w) behind))
-    ≡ is_allowed w (map many ahead ++ (rows ++ map many behind))
-allowed_in_row w ahead rows behind =
-    ap₂ (λ a b. a || (is_allowed w rows || b)) (words_alike w ahead) (words_alike w behind)
-    ∙ (ap (λ b. is_allowed w (map many ahead) || b) (in_both w rows (map many behind)) ∙ in_both w (map many ahead) (rows ++ map many behind))
+pub allowed_ahead : (w : Word) (single ahead : List Word) (first second : Bool)
+    → first ≡ list_any (λ x. same_word x w) single → second ≡ list_any (λ x. same_word x w) ahead
+    → (first || second) ≡ is_allowed w (map once single ++ map many ahead)
+allowed_ahead w single ahead first second first_is second_is =
+    ap₂ (λ a b. a || b) (first_is ∙ single_alike w single) (second_is ∙ words_alike w ahead) ∙ in_both w (map once single) (map many ahead)
 
-pub allowed_by : (w : Word) (ahead : List Word) (rows : List Allowed) (behind : List Word) (first second third : Bool)
-    → first ≡ list_any (λ x. same_word x w) ahead → second ≡ is_allowed w rows → third ≡ list_any (λ x. same_word x w) behind
-    → (first || (second || third)) ≡ is_allowed w (map many ahead ++ (rows ++ map many behind))
+pub allowed_by : (w : Word) (ahead rows : List Allowed) (behind : List Word) (first second third : Bool)
+    → first ≡ is_allowed w ahead → second ≡ is_allowed w rows → third ≡ list_any (λ x. same_word x w) behind
+    → (first || (second || third)) ≡ is_allowed w (ahead ++ (rows ++ map many behind))
 allowed_by w ahead rows behind first second third first_is second_is third_is =
-    ap₂ (λ a b. a || b) first_is (ap₂ (λ a b. a || b) second_is third_is) ∙ allowed_in_row w ahead rows behind
+    ap₂ (λ a b. a || b) first_is (ap₂ (λ a b. a || b) second_is (third_is ∙ words_alike w behind) ∙ in_both w rows (map many behind))
+    ∙ in_both w ahead (rows ++ map many behind)
 
 pub or_first : (a b : Bool) → a ≡ true → a ≡ (a || b)
 or_first true b e = refl
@@ -131,10 +186,14 @@ pub type_alike : (m : ℕ) (w : Word) (s : Statement) → when (is_type_outside 
 type_alike m (known k) s = refl
 type_alike m feature_word s = refl
 type_alike m if_feature_word s = refl
+type_alike m pattern_word s = refl
+type_alike m modifier_word s = refl
 
 pub version_alike : (l : Language) (m : ℕ) (w : Word) (s : Statement) (below : Forest Statement)
     → when (is_wrongly_versioned l w s below) (broken 4 m s.line) ≡ version_breaks l m w s below
 version_alike core m (known k) s below = refl
 version_alike core m feature_word s below = refl
 version_alike core m if_feature_word s below = refl
+version_alike core m pattern_word s below = refl
+version_alike core m modifier_word s below = refl
 version_alike (rfc choosings) m w s below = refl

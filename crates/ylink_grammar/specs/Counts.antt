@@ -1,5 +1,5 @@
 -- How many statements of each keyword there are in a row, and which may stand there.
-use Rattle.std.specs.Prelude.{◌≡◌, ℕ, ◌&&◌, not, Bool, true, false, List, [], ◌∷◌, map, filter, Option, Some, None, if◌then◌else◌, slice_get, unwrap_or}
+use Rattle.std.specs.Prelude.{◌≡◌, ℕ, ◌&&◌, ◌||◌, not, Bool, true, false, List, [], ◌∷◌, map, filter, Option, Some, None, if◌then◌else◌, slice_get, unwrap_or}
 use Rattle.std.specs.List.{list_any}
 use Rattle.std.specs.Option.{option_map_or}
 use Rattle.yspec.specs.Forest.{Forest, end, row}
@@ -14,6 +14,7 @@ use Rattle.yspec.specs.linking.StatementBreaks as narrow
 use Rattle.yspec_wide.specs.Language.{Language, core, rfc}
 use Rattle.yspec_wide.specs.Words.{Word, known, same_word}
 use Rattle.yspec_wide.specs.Table as wide
+use Rattle.yspec_wide.specs.StatementBreaks as wide_breaks
 use Rattle.yspec_wide.specs.StatementBreaks.{is_allowed, is_wrong_version}
 
 -- the count of a keyword among counts by number
@@ -36,6 +37,15 @@ has_word word = list_any (λ s. is_text word s.keyword)
 abbrev pub are_apart : List Statement → Bool
 are_apart [] = true
 are_apart (s ∷ ss) = not (has_word s.keyword ss) && are_apart ss
+
+-- whether a second one passes a test, or a first where one was found
+abbrev pub repeats : (Statement → Bool) → Bool → List Statement → Bool
+repeats test found [] = false
+repeats test found (s ∷ ss) = if test s then found || repeats test true ss else repeats test found ss
+
+-- whether a keyword comes twice
+abbrev pub is_repeated : Language → Forest Statement → Word → Bool
+is_repeated language statements w = repeats (wide_breaks.has_word language w) false (row statements)
 
 abbrev pub lacks : Forest Statement → Keyword → Bool
 lacks statements k = not (list_any (has_keyword k) (row statements))

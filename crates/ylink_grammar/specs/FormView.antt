@@ -31,6 +31,7 @@ abbrev pub wide_form_view : WideForm → wide.WideForm
 wide_form_view (wide_forms.AsBefore form) = wide.as_before (form_view form)
 wide_form_view wide_forms.Prefix = wide.prefix_form
 wide_form_view wide_forms.IfFeature = wide.if_feature_form
+wide_form_view wide_forms.Modifier = wide.modifier_form
 
 -- whether no text that begins with `xml` is of a form
 abbrev pub bars_xml : YangVersion → spec.Form → Bool

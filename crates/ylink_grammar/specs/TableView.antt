@@ -3,6 +3,7 @@ use Rattle.std.specs.Prelude.{List, ◌++◌, map}
 use Rattle.yspec.specs.linking.Table as spec
 use Rattle.yspec.specs.linking.Table.{exactly_one, at_most_one, any_number}
 use Rattle.ybase_words.specs.KeywordView.{keyword_view}
+use Rattle.yspec_wide.specs.Words.{Word}
 use Rattle.yspec_wide.specs.Table as wide
 use Rattle.ylink_grammar.specs.FormView.{form_view, wide_form_view}
 use Rattle.ylink_grammar.specs.WordView.{word_view}
@@ -26,9 +27,15 @@ allowed_views = map allowed_view
 abbrev pub rule_view : Rule → spec.Rule
 rule_view r = record { form = form_view r.form; substatements = allowed_views r.substatements.now }
 
--- all substatements that there may be
+abbrev pub once : Word → wide.Allowed
+once w = record { word = w; count = at_most_one }
+
+-- the substatements that there may be ahead of the core's, and all
+abbrev pub ahead_view : WideRule → List wide.Allowed
+ahead_view r = map once (map word_view r.once.now) ++ map wide.many (map word_view r.ahead.now)
+
 abbrev pub rows_view : WideRule → List wide.Allowed
-rows_view r = map wide.many (map word_view r.ahead.now)
+rows_view r = ahead_view r
     ++ (wide.row_before (allowed_views r.substatements.now) ++ map wide.many (map word_view r.behind.now))
 
 abbrev pub wide_rule_view : WideRule → wide.Rule

@@ -8,3 +8,5 @@ abbrev pub word_view : Word → spec.Word
 word_view (words.Known k) = spec.known (keyword_view k)
 word_view words.Feature = spec.feature_word
 word_view words.IfFeature = spec.if_feature_word
+word_view words.Pattern = spec.pattern_word
+word_view words.Modifier = spec.modifier_word

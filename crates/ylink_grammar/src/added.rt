@@ -1,7 +1,8 @@
-//! The statements that a language has besides the core's (RFC 7950, 7.20.1 and 7.20.2).
+//! The statements that a language has besides the core's (RFC 7950, 7.20.1, 7.20.2 and 9.4.5).
 
 ghost use Rattle.std.specs.Prelude.{◌≡◌, ℕ};
 ghost use Rattle.yspec_wide.specs.Sources as spec;
+ghost use Rattle.yspec_wide.specs.Words.{pattern_word};
 ghost use Rattle.ylink_grammar.specs.LanguageView.{language_view};
 ghost use Rattle.ylink_grammar.specs.SourceView.{source_view};
 
@@ -27,5 +28,16 @@ pub fn is_condition(language: &Language, statement: &Source<'_>) -> bool
     match language {
         Language::Core => false,
         Language::Rfc(_) => statement.statement.keyword() == "if-feature",
+    }
+}
+
+/// Whether a statement is a `pattern` of a language (RFC 7950, 9.4.5).
+pub fn is_pattern(language: &Language, statement: &Source<'_>) -> bool
+    ensures { (number : ℕ) → result ≡ spec.is_added (language_view language.now) pattern_word
+        (source_view number statement.now) }
+{
+    match language {
+        Language::Core => false,
+        Language::Rfc(_) => statement.statement.keyword() == "pattern",
     }
 }

@@ -33,7 +33,9 @@ fn keyword_kept(word: Word) -> Option<Keyword>
                 Some(keyword)
             }
         }
-        Word::Feature | Word::IfFeature => Some(Keyword::Extension),
+        Word::Feature | Word::IfFeature | Word::Pattern | Word::Modifier => {
+            Some(Keyword::Extension)
+        }
     }
 }
 

@@ -45,6 +45,8 @@ pub enum CompileCode {
     C17 = 17,
     /// A limit is passed.
     C18 = 18,
+    /// A pattern that spells no regular expression.
+    C20 = 20,
     /// A condition names no feature, or leads from a feature back to it.
     C22 = 22,
 }

@@ -43,6 +43,7 @@ pub(crate) enum WideForm {
     AsBefore(Form),
     Prefix,
     IfFeature,
+    Modifier,
 }
 
 /// Whether a text is an argument of a form of YANG 1.1.
@@ -124,5 +125,6 @@ pub(crate) fn fits_in(
         WideForm::AsBefore(form) => fits_before(alloc, version, form, text),
         WideForm::Prefix => Ok(is_identifier(text)),
         WideForm::IfFeature => Ok(expression_of(alloc, version, text)?.is_some()),
+        WideForm::Modifier => Ok(text == "invert-match"),
     }
 }

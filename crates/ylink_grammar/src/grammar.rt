@@ -16,8 +16,8 @@ ghost use Rattle.ylink_conditions.specs.View.{version_view};
 ghost use Rattle.ylink_grammar.specs.FormView.{wide_form_view};
 ghost use Rattle.ylink_grammar.specs.LanguageView.{language_view};
 ghost use Rattle.ylink_grammar.specs.WordView.{word_view};
-ghost use Rattle.ylink_grammar.specs.TableView.{allowed_view, allowed_views, rows_view};
-ghost use Rattle.ylink_grammar.specs.Counts.{AreOf, allowed_word, are_apart, count_at, has_word, is_miscounted_by, is_type_outside, is_wrongly_versioned, lacks, needs, needs_of_word};
+ghost use Rattle.ylink_grammar.specs.TableView.{ahead_view, allowed_view, allowed_views, rows_view};
+ghost use Rattle.ylink_grammar.specs.Counts.{AreOf, allowed_word, are_apart, count_at, has_word, is_miscounted_by, is_repeated, is_type_outside, is_wrongly_versioned, lacks, needs, needs_of_word};
 ghost use Rattle.ylink_grammar.specs.BreakView.{break_view, seen};
 
 use crate::fault::{BrokenRule, CompileCode, least, least_when};
@@ -176,8 +176,39 @@ fn lacks_any(keywords: &[Keyword], statements: &[Stmt]) -> bool
     false
 }
 
+/// Whether two of some statements have a keyword of a language.
+fn is_repeated(language: &Language, word: Word, statements: &[Stmt]) -> bool
+    ensures { result
+        ≡ is_repeated (language_view language.now) (row_view statements.now) (word_view word) }
+{
+    let mut found = false;
+    for statement in statements {
+        if !has_keyword_in(language, statement, word) {
+            continue;
+        }
+        if found {
+            return true;
+        }
+        found = true;
+    }
+    false
+}
+
+/// Whether two of some statements have the same of some keywords.
+fn repeats_any(language: &Language, words: &[Word], statements: &[Stmt]) -> bool
+    ensures { result ≡ list_any (is_repeated (language_view language.now) (row_view statements.now))
+        (map word_view words.now) }
+{
+    for word in words {
+        if is_repeated(language, *word, statements) {
+            return true;
+        }
+    }
+    false
+}
+
 /// Whether there are too many or too few of a substatement of the core.
-fn is_miscounted(rule: &WideRule, word: Word, statement: &Stmt) -> bool
+fn is_miscounted_before(rule: &WideRule, word: Word, statement: &Stmt) -> bool
     requires { needs (allowed_views rule.now.substatements.now) ≡ needs_of_word (word_view word) }
     ensures { result ≡ list_any (narrow.is_miscounted (view statement.now).1)
         (allowed_views rule.now.substatements.now) }
@@ -188,6 +219,16 @@ fn is_miscounted(rule: &WideRule, word: Word, statement: &Stmt) -> bool
     }
     let counts = counts_of(statements);
     has_wrong_counts(rule.substatements, &counts)
+}
+
+/// Whether there are too many or too few of a substatement.
+fn is_miscounted(language: &Language, rule: &WideRule, word: Word, statement: &Stmt) -> bool
+    requires { needs (allowed_views rule.now.substatements.now) ≡ needs_of_word (word_view word) }
+    ensures { result ≡ list_any
+        (spec.is_miscounted (language_view language.now) (view statement.now).1) (rows_view rule.now) }
+{
+    repeats_any(language, rule.once, statement.substatements())
+        || is_miscounted_before(rule, word, statement)
 }
 
 fn is_among(word: Word, allowed: &[Allowed]) -> bool
@@ -212,12 +253,19 @@ fn is_one_of(word: Word, words: &[Word]) -> bool
     false
 }
 
+/// Whether a keyword is one of those that a row allows ahead of the core's.
+fn is_ahead(word: Word, rule: &WideRule) -> bool
+    ensures { result ≡ spec.is_allowed (word_view word) (ahead_view rule.now) }
+{
+    is_one_of(word, rule.once) || is_one_of(word, rule.ahead)
+}
+
 /// Whether a keyword is one of those that a row allows.
 #[tactic(auto, using(crate::proofs::WordLemmas::allowed_by))]
 fn is_allowed(word: Word, rule: &WideRule) -> bool
     ensures { result ≡ spec.is_allowed (word_view word) (rows_view rule.now) }
 {
-    let ahead = is_one_of(word, rule.ahead);
+    let ahead = is_ahead(word, rule);
     let among = is_among(word, rule.substatements);
     let behind = is_one_of(word, rule.behind);
     ahead || (among || behind)
@@ -356,7 +404,7 @@ fn judge_alone(
     let unfitting = !has_fitting_argument(alloc, reading.version, rule.form, statement)?;
     let outside = is_type_outside(word, statement);
     let misversioned = is_wrongly_versioned(reading.language, word, statement);
-    let miscounted = is_miscounted(&rule, word, statement);
+    let miscounted = is_miscounted(reading.language, &rule, word, statement);
     let module = reading.module;
     if !(unfitting || outside || misversioned || miscounted) {
         return Ok(());

@@ -16,7 +16,7 @@ mod sources;
 mod table;
 mod word;
 
-pub use added::{is_condition, is_feature};
+pub use added::{is_condition, is_feature, is_pattern};
 pub use fault::{BrokenRule, CompileCode, least, least_when};
 pub use grammar::{broken, broken_statement_rule_in};
 pub use language::{Choosing, Language};

@@ -1,9 +1,9 @@
-//! The table of statements by language and version (RFC 7950, 1.1 and 7.20; RFC 6020, 7 and 12).
+//! The table of statements by language and version (RFC 7950, 1.1, 7.20 and 9.4.5; RFC 6020, 7 and 12).
 
-ghost use Rattle.std.specs.Prelude.{◌≡◌, IfNone, IfSome, map};
+ghost use Rattle.std.specs.Prelude.{◌≡◌, [], IfNone, IfSome, map};
 ghost use Rattle.yspec.specs.linking.Table as spec;
 ghost use Rattle.yspec_wide.specs.Language.{yang_1, yang_1_1};
-ghost use Rattle.yspec_wide.specs.Words.{known};
+ghost use Rattle.yspec_wide.specs.Words.{known, pattern_word};
 ghost use Rattle.yspec_wide.specs.Table as wide;
 ghost use Rattle.yspec_wide.specs.Table.{rule_before};
 ghost use Rattle.ybase_words.specs.KeywordView.{keyword_view};
@@ -18,17 +18,18 @@ use crate::form::{Form, WideForm};
 use crate::language::Language;
 use crate::table::{
     Allowed, Count, IN_AUGMENT, IN_BIT, IN_CASE, IN_CHOICE, IN_CONTAINER, IN_ENUM, IN_IDENTITY,
-    IN_LEAF, IN_LEAF_LIST, IN_LIST, IN_REFINE, IN_USES, Rule, needs_of, rule_of,
+    IN_LEAF, IN_LEAF_LIST, IN_LIST, IN_RANGE, IN_REFINE, IN_TYPE, IN_USES, Rule, needs_of, rule_of,
 };
 use crate::word::Word;
 use ybase_words::Keyword;
 use ylink_conditions::YangVersion;
 
-/// What a statement may have in a language: an argument of a form, and substatements, of those ahead of the core's and behind
-/// them any number.
+/// What a statement may have in a language: an argument of a form, and substatements; ahead of the core's some that stand once at
+/// most, and some any number of times, as those behind them.
 #[derive(Clone, Copy)]
 pub(crate) struct WideRule {
     pub form: WideForm,
+    pub once: &'static [Word],
     pub ahead: &'static [Word],
     pub substatements: &'static [Allowed],
     pub behind: &'static [Word],
@@ -61,6 +62,10 @@ const IN_MODULE_OF_ANY_VERSION: &[Allowed] = &[
 const FEATURES: &[Word] = &[Word::Feature];
 
 const CONDITIONS: &[Word] = &[Word::IfFeature];
+
+const PATTERNS: &[Word] = &[Word::Pattern];
+
+const MODIFIERS: &[Word] = &[Word::Modifier];
 
 const IN_FEATURE: &[Allowed] = &[
     Allowed(Keyword::Status, Count::AtMostOne),
@@ -137,6 +142,7 @@ fn rule_as_before(rule: Rule) -> WideRule
 {
     WideRule {
         form: AsBefore(rule.form),
+        once: &[],
         ahead: &[],
         substatements: rule.substatements,
         behind: &[],
@@ -169,6 +175,7 @@ fn row_of_yang_1_1(keyword: Keyword) -> Option<WideRule>
             Keyword::Uses => (AsBefore(Form::Name), IN_USES, CONDITIONS),
             Keyword::Refine => (AsBefore(Form::RelativePath), IN_REFINE, CONDITIONS),
             Keyword::Augment => (AsBefore(Form::AbsolutePath), IN_AUGMENT, CONDITIONS),
+            Keyword::Type => (AsBefore(Form::Name), IN_TYPE, PATTERNS),
             Keyword::Identity => (AsBefore(Form::Identifier), IN_IDENTITY, CONDITIONS),
             Keyword::Enum => (AsBefore(Form::Any), IN_ENUM, CONDITIONS),
             Keyword::Bit => (AsBefore(Form::Identifier), IN_BIT, CONDITIONS),
@@ -176,6 +183,7 @@ fn row_of_yang_1_1(keyword: Keyword) -> Option<WideRule>
         };
     Some(WideRule {
         form,
+        once: &[],
         ahead: &[],
         substatements,
         behind,
@@ -207,7 +215,7 @@ fn row_of_yang_1(keyword: Keyword) -> Option<WideRule>
         Keyword::LeafList => (Form::Identifier, IN_LEAF_LIST_OF_YANG_1, CONDITIONS),
         Keyword::Choice => (Form::Identifier, IN_CHOICE_OF_YANG_1, CONDITIONS),
         Keyword::Refine => (Form::RelativePath, IN_REFINE_OF_YANG_1, &[]),
-        Keyword::Type => (Form::Name, IN_TYPE_OF_YANG_1, &[]),
+        Keyword::Type => (Form::Name, IN_TYPE_OF_YANG_1, PATTERNS),
         Keyword::Identity => (Form::Identifier, IN_IDENTITY_OF_YANG_1, &[]),
         Keyword::Enum => (Form::Any, IN_ENUM, &[]),
         Keyword::Bit => (Form::Identifier, IN_BIT, &[]),
@@ -215,6 +223,7 @@ fn row_of_yang_1(keyword: Keyword) -> Option<WideRule>
     };
     Some(WideRule {
         form: AsBefore(form),
+        once: &[],
         ahead: &[],
         substatements,
         behind,
@@ -238,12 +247,31 @@ fn core_rule(word: Word) -> WideRule
 {
     match word {
         Word::Known(keyword) => rule_as_before(rule_of(keyword)),
-        Word::Feature | Word::IfFeature => WideRule {
+        Word::Feature | Word::IfFeature | Word::Pattern | Word::Modifier => WideRule {
             form: AsBefore(Form::Any),
+            once: &[],
             ahead: &[],
             substatements: &[],
             behind: &[],
         },
+    }
+}
+
+/// The row of `pattern`: YANG 1 has no `modifier` (RFC 7950, 1.1).
+fn rule_of_pattern(version: YangVersion) -> WideRule
+    ensures rule { wide_rule_view result ≡ wide.wide_rule (version_view version) pattern_word }
+    ensures needs { needs (allowed_views result.substatements.now) ≡ [] }
+{
+    let once: &'static [Word] = match version {
+        YangVersion::Yang1 => &[],
+        YangVersion::Yang1_1 => MODIFIERS,
+    };
+    WideRule {
+        form: AsBefore(Form::Any),
+        once,
+        ahead: &[],
+        substatements: IN_RANGE,
+        behind: &[],
     }
 }
 
@@ -258,12 +286,22 @@ fn wide_rule(version: YangVersion, word: Word) -> WideRule
         },
         Word::Feature => WideRule {
             form: AsBefore(Form::Identifier),
+            once: &[],
             ahead: CONDITIONS,
             substatements: IN_FEATURE,
             behind: &[],
         },
         Word::IfFeature => WideRule {
             form: WideForm::IfFeature,
+            once: &[],
+            ahead: &[],
+            substatements: &[],
+            behind: &[],
+        },
+        Word::Pattern => rule_of_pattern(version),
+        Word::Modifier => WideRule {
+            form: WideForm::Modifier,
+            once: &[],
             ahead: &[],
             substatements: &[],
             behind: &[],
@@ -289,6 +327,6 @@ pub(crate) fn needs_in(word: Word) -> &'static [Keyword]
 {
     match word {
         Word::Known(keyword) => needs_of(keyword),
-        Word::Feature | Word::IfFeature => &[],
+        Word::Feature | Word::IfFeature | Word::Pattern | Word::Modifier => &[],
     }
 }

@@ -204,7 +204,7 @@ pub(crate) const IN_REFINE: &[Allowed] = &[
     Allowed(Keyword::Reference, Count::AtMostOne),
 ];
 
-const IN_TYPE: &[Allowed] = &[
+pub(crate) const IN_TYPE: &[Allowed] = &[
     Allowed(Keyword::FractionDigits, Count::AtMostOne),
     Allowed(Keyword::Range, Count::AtMostOne),
     Allowed(Keyword::Length, Count::AtMostOne),
@@ -216,7 +216,7 @@ const IN_TYPE: &[Allowed] = &[
     Allowed(Keyword::Base, Count::Any),
 ];
 
-const IN_RANGE: &[Allowed] = &[
+pub(crate) const IN_RANGE: &[Allowed] = &[
     Allowed(Keyword::ErrorMessage, Count::AtMostOne),
     Allowed(Keyword::ErrorAppTag, Count::AtMostOne),
     Allowed(Keyword::Description, Count::AtMostOne),

@@ -1,4 +1,4 @@
-//! The keywords of a language (RFC 7950, 7.20.1 and 7.20.2).
+//! The keywords of a language (RFC 7950, 7.20.1, 7.20.2, 9.4.5 and 9.4.6).
 
 ghost use Rattle.std.specs.Prelude.{◌≡◌, None, option_map};
 ghost use Rattle.yspec_wide.specs.Words as spec;
@@ -8,16 +8,15 @@ ghost use Rattle.ylink_grammar.specs.WordView.{word_view};
 use crate::language::Language;
 use ybase_words::Keyword;
 
-/// A keyword of a language: one of the core, or one that features bring.
+/// A keyword of a language: one of the core, or one of features or patterns.
 #[derive(Clone, Copy, Debug)]
 pub enum Word {
     Known(Keyword),
     Feature,
     IfFeature,
+    Pattern,
+    Modifier,
 }
-
-/// How many there are.
-pub(crate) const WORDS: usize = 50;
 
 impl Word {
     ghost use Rattle.std.specs.Prelude.{◌≡◌};
@@ -32,6 +31,8 @@ impl Word {
             Word::Known(keyword) => keyword.number(),
             Word::Feature => 48,
             Word::IfFeature => 49,
+            Word::Pattern => 50,
+            Word::Modifier => 51,
         }
     }
 
@@ -50,6 +51,8 @@ fn added_word(text: &str) -> Option<Word>
     match text {
         "feature" => Some(Word::Feature),
         "if-feature" => Some(Word::IfFeature),
+        "pattern" => Some(Word::Pattern),
+        "modifier" => Some(Word::Modifier),
         _ => None,
     }
 }

@@ -1,5 +1,5 @@
 -- Types, one after another.
-use Rattle.std.proofs.Common.{◌≡◌, ◌≢◌, Bool, true, false, cond, List, [], ◌∷◌, ◌++◌, Option, Some, refl, sym, ap, ◌∙◌}
+use Rattle.std.proofs.Common.{◌≡◌, ◌≢◌, Bool, true, false, ◌&&◌, cond, List, [], ◌∷◌, ◌++◌, Option, Some, refl, sym, ap, ◌∙◌}
 use Rattle.std.proofs.lemmas.List.{append_assoc, append-nil}
 use Rattle.yspec.specs.Forest.{Forest, end, node}
 use Rattle.yspec.specs.linking.Source.{Source, is_source_of}
@@ -28,6 +28,18 @@ pub union_of : (members : List Verdict) (types : Option (List YangType)) → fal
     → option_map_or spec.of_members types spec.unjudged ≡ union_verdict (map verdict_view members)
 union_of [] types some is = absurd cc
 union_of (v ∷ vs) types some is = ap (λ o. option_map_or spec.of_members o spec.unjudged) is
+
+-- ---- substatements, one after another
+
+module _ (type : spec.BuiltIn) (s : Source) (below after before : Forest Source) (first : before ≡ node s below after)
+    (b whole : Bool) (is : b ≡ spec.is_in_place type s) where
+  pub one_misplaced : b ≡ false → spec.are_in_place type before ≡ whole → false ≡ whole
+  one_misplaced fails so_far =
+      sym (ap (λ c. c && spec.are_in_place type after) (sym is ∙ fails)) ∙ (sym (ap (spec.are_in_place type) first) ∙ so_far)
+
+  pub one_in_place : b ≡ true → spec.are_in_place type before ≡ whole → spec.are_in_place type after ≡ whole
+  one_in_place holds so_far =
+      sym (ap (λ c. c && spec.are_in_place type after) (sym is ∙ holds)) ∙ (sym (ap (spec.are_in_place type) first) ∙ so_far)
 
 -- ---- types that are no unions, no leafrefs and no identityrefs
 

@@ -1,6 +1,6 @@
 //! What `type` statements name and mean (RFC 7950, 7.4 and 9).
 
-ghost use Rattle.std.specs.Prelude.{◌≡◌, Bool, IfOk, false, true, None, map, nat_lt, option_map, option_and_then};
+ghost use Rattle.std.specs.Prelude.{◌≡◌, ℕ, Bool, IfOk, false, true, None, map, nat_lt, option_map, option_and_then};
 ghost use Rattle.std.specs.Option.{option_map_or};
 ghost use Rattle.yspec.specs.Forest.{Forest, row};
 ghost use Rattle.yspec.specs.linking.Arguments.{fraction_digits_of, leafref_path_of};
@@ -29,7 +29,8 @@ use ybase_words::{BuiltIn, Keyword};
 use ylink_arguments::{Name, fraction_digits, leafref_path};
 use ylink_grammar::{Source, Sources, argument_of, argument_with};
 use ylink_values::{
-    Kept, NamingKind, accepted_type, measured_type, named_type, narrowed_type, ranged_type,
+    Kept, NamingKind, accepted_type, is_pattern_statement, matched_type, measured_type, named_type,
+    narrowed_type, ranged_type,
 };
 use ytype::{FractionDigits, YType};
 
@@ -90,12 +91,30 @@ fn built_in_meant(sources: &Sources<'_>, number: u32, statement: &Source<'_>) ->
     statement.built_in()
 }
 
+fn may_bear_patterns(type_name: BuiltIn) -> bool
+    ensures { result ≡ spec.may_bear_patterns (built_in_view type_name) }
+{
+    matches!(type_name, BuiltIn::String)
+}
+
+/// Whether a substatement may stand below a built-in type.
+fn is_in_place(type_name: BuiltIn, statement: &Source<'_>) -> bool
+    ensures { (number : ℕ) → result
+        ≡ spec.is_in_place (built_in_view type_name) (source_view number statement.now) }
+{
+    if is_pattern_statement(statement) {
+        may_bear_patterns(type_name)
+    } else {
+        may_bear(type_name, statement.keyword)
+    }
+}
+
 fn are_in_place(type_name: BuiltIn, below: Siblings<'_, Source<'_>>) -> bool
     ensures { result ≡ spec.are_in_place (built_in_view type_name)
         (row_by source_view below.entry) }
 {
     for statement in below {
-        if !may_bear(type_name, statement.label().keyword) {
+        if !is_in_place(type_name, statement.label()) {
             return false;
         }
     }
@@ -115,6 +134,16 @@ fn decimal(alloc: Global, below: Siblings<'_, Source<'_>>) -> Result<Option<YTyp
 {
     match digits_stated(below) {
         Some(digits) => ranged_type(alloc, below, YType::decimal64(alloc, digits)),
+        None => Ok(None),
+    }
+}
+
+fn string_type(alloc: Global, below: Siblings<'_, Source<'_>>) -> Result<Option<YType>, AllocError>
+    ensures { IfOk result (λ type. type
+        ≡ spec.single_type spec.string (row_by source_view below.entry)) }
+{
+    match measured_type(alloc, below, YType::string(alloc))? {
+        Some(measured) => matched_type(alloc, measured, below),
         None => Ok(None),
     }
 }
@@ -139,7 +168,7 @@ fn single_type(
         BuiltIn::Uint32 => ranged_type(alloc, below, YType::uint32(alloc)),
         BuiltIn::Uint64 => ranged_type(alloc, below, YType::uint64(alloc)),
         BuiltIn::Decimal64 => decimal(alloc, below),
-        BuiltIn::String => measured_type(alloc, below, YType::string(alloc)),
+        BuiltIn::String => string_type(alloc, below),
         BuiltIn::Boolean => accepted_type(YType::boolean(alloc)),
         BuiltIn::Empty => accepted_type(YType::empty(alloc)),
         BuiltIn::Enumeration => named_type(alloc, kept, NamingKind::Enum, below),
@@ -359,6 +388,40 @@ fn restricted_in<'t>(
     Ok(Some(made))
 }
 
+/// What the patterns of a `type` statement make of what the typedef means that it names.
+fn matched_meant<'t>(
+    alloc: Global,
+    meant: Meant<'t>,
+    below: Siblings<'_, Source<'t>>,
+) -> Result<Option<Meant<'t>>, AllocError>
+    ensures { IfOk result (λ made. option_map meant_view made
+        ≡ spec.matched_meant (row_by source_view below.entry) (meant_view meant.entry)) }
+{
+    match meant {
+        Meant::Own(outer) => match matched_type(alloc, outer, below)? {
+            Some(matched) => Ok(Some(Meant::Own(matched))),
+            None => Ok(None),
+        },
+        target @ Meant::OfTarget { .. } => Ok(Some(target)),
+    }
+}
+
+/// What both make of it, patterns behind the others.
+fn derived_meant<'t>(
+    alloc: Global,
+    meant: Meant<'t>,
+    below: Siblings<'_, Source<'t>>,
+) -> Result<Option<Meant<'t>>, AllocError>
+    ensures { IfOk result (λ made. option_map meant_view made
+        ≡ option_and_then (spec.matched_meant (row_by source_view below.entry))
+        (spec.restricted_in (row_by source_view below.entry) (meant_view meant.entry))) }
+{
+    match restricted_in(alloc, meant, below)? {
+        Some(restricted) => matched_meant(alloc, restricted, below),
+        None => Ok(None),
+    }
+}
+
 /// The verdict on a `type` statement that names a typedef, given what is known of that one.
 fn derived<'t>(
     alloc: Global,
@@ -379,8 +442,8 @@ fn derived<'t>(
     if is_member && meant.is_reference() {
         return Ok(Verdict::Wrong);
     }
-    match restricted_in(alloc, meant.copy()?, below)? {
-        Some(restricted) => Ok(Verdict::Means(restricted)),
+    match derived_meant(alloc, meant.copy()?, below)? {
+        Some(made) => Ok(Verdict::Means(made)),
         None => Ok(Verdict::Wrong),
     }
 }

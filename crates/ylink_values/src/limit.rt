@@ -15,6 +15,7 @@ ghost use Rattle.ybase_preorder.specs.View.{row_by, label_by};
 ghost use Rattle.ylink_grammar.specs.SourceView.{node_view, source_view};
 ghost use Rattle.ylink_values.specs.KindView.{word_of, restriction_by};
 
+use crate::matching::is_pattern_statement;
 use std::alloc::{AllocError, Global};
 use ybase_preorder::{Node, Siblings};
 use ybase_words::Keyword;
@@ -74,7 +75,10 @@ fn text_with(
 }
 
 /// What a row says of values that aren't taken.
-fn error_text(alloc: Global, below: Siblings<'_, Source<'_>>) -> Result<ErrorText, AllocError>
+pub(crate) fn error_text(
+    alloc: Global,
+    below: Siblings<'_, Source<'_>>,
+) -> Result<ErrorText, AllocError>
     ensures { IfOk result (λ error. error ≡ spec.error_text_in (row_by source_view below.entry)) }
 {
     Ok(ErrorText {
@@ -189,15 +193,15 @@ pub fn measured_type(
     restricted_type(alloc, SpanRestriction::Length, below, outer)
 }
 
-/// What a statement makes of a type where it is a restriction that the type may bear.
-pub fn narrowed_type(
+/// What a range or a length makes of a type; nothing where a statement is neither.
+fn narrowed_by(
     alloc: Global,
-    outer: YType,
+    outer: &YType,
     statement: Node<'_, Source<'_>>,
 ) -> Result<Option<YType>, AllocError>
-    ensures { IfOk result (λ type. option_map spec.own type
-        ≡ spec.restricted_by (label_by source_view statement.entry)
-        (row_by source_view statement.entry.children) (spec.own outer)) }
+    ensures { IfOk result (λ type. type
+        ≡ spec.narrowed_by (label_by source_view statement.entry)
+        (row_by source_view statement.entry.children) outer.now) }
 {
     let keyword = statement.label().keyword;
     let kind = if Keyword::Range.is(keyword) {
@@ -209,4 +213,21 @@ pub fn narrowed_type(
     };
     let restriction = restriction_by(alloc, kind, statement)?;
     accepted_type(outer.narrow(alloc, &restriction))
+}
+
+/// What a statement makes of a type where it is a restriction that the type may bear. A pattern leaves it as it is, since
+/// patterns come behind the others.
+pub fn narrowed_type(
+    alloc: Global,
+    outer: YType,
+    statement: Node<'_, Source<'_>>,
+) -> Result<Option<YType>, AllocError>
+    ensures { IfOk result (λ type. option_map spec.own type
+        ≡ spec.restricted_by (label_by source_view statement.entry)
+        (row_by source_view statement.entry.children) (spec.own outer)) }
+{
+    if is_pattern_statement(statement.label()) {
+        return Ok(Some(outer));
+    }
+    narrowed_by(alloc, &outer, statement)
 }

@@ -75,6 +75,8 @@ of_modules =
     (codes "the leaf or leaf-list") (codes "Name each data node on the way with its prefix; write require-instance false where configuration may refer to state.") (codes "RFC 7950, 9.9") ∷
     said (codes "C18") (codes "The modules define more than 65,535 nodes, nodes stand more than 60 deep, or a union has more than 65,535 members.")
     (codes "the module that is given last, or the union's type") (codes "Give fewer modules at once; name each member of a union once.") (codes "a limit of this program") ∷
+    said (codes "C20") (codes "A pattern isn't a regular expression as XML Schema has it.")
+    (codes "the pattern") (codes "Close each class and group, and put a backslash before a sign that stands for itself; blocks such as IsGreek aren't read.") (codes "RFC 7950, 9.4.5; XML Schema, part 2, appendix F") ∷
     said (codes "C22") (codes "A condition names no feature, or features lead back to themselves by their conditions.")
     (codes "the if-feature") (codes "Define the feature at the top of the module that the prefix names, or correct the name; take one of the conditions out.") (codes "RFC 7950, 7.20.1 and 7.20.2") ∷
     []

@@ -193,6 +193,13 @@ const OF_MODULES: &[Explanation] = &[
         source: "a limit of this program",
     },
     Explanation {
+        code: "C20",
+        cause: "A pattern isn't a regular expression as XML Schema has it.",
+        place: "the pattern",
+        remedy: "Close each class and group, and put a backslash before a sign that stands for itself; blocks such as IsGreek aren't read.",
+        source: "RFC 7950, 9.4.5; XML Schema, part 2, appendix F",
+    },
+    Explanation {
         code: "C22",
         cause: "A condition names no feature, or features lead back to themselves by their conditions.",
         place: "the if-feature",

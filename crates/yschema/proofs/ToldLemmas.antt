@@ -26,6 +26,7 @@ use Rattle.yspec_wide.proofs.CoreExpansionLemmas.{standing_alike}
 use Rattle.yspec_wide.specs.Sources.{sources_in}
 use Rattle.yspec_wide.specs.StatementBreaks.{statement_phase_in}
 use Rattle.yspec_wide.specs.VersionBreaks.{version_import_breaks, version_type_breaks}
+use Rattle.yspec_wide.specs.Patterns.{pattern_breaks}
 use Rattle.yschema.specs.Phases.{expansion_part, target_breaks, plan_part, rule_part}
 use Rattle.ylink.proofs.PhaseLemmas.{told_here, told_later, told_last, told_first, told_then}
 
@@ -84,7 +85,7 @@ module _ (language : Language) where
       → condition_breaks language s ≡ []
   conditions_hold f s s_is first =
       let sources = sources_in language f in
-      let types = type_breaks sources ++ version_type_breaks language sources in
+      let types = type_breaks sources ++ (version_type_breaks language sources ++ pattern_breaks language sources) in
       let of_types = types ∷ [] in
       let of_meanings = meanings_phase_in language sources ∷ of_types in
       let of_names = names_phase_in language f sources ∷ of_meanings in

@@ -7,7 +7,7 @@ ghost use Rattle.yspec.specs.types.Types.{text, int, bool, int8, int32, int64, u
 ghost use Rattle.yspec.specs.types.Order.{same_value, TellsValues};
 ghost use Rattle.yspec.specs.types.Restriction.{require_instance, narrowed, union_type, leafref_type};
 ghost use Rattle.yspec.specs.types.Values.{canonical, value_of_text};
-ghost use Rattle.yspec.specs.types.TypeExamples.{decimal, shown, number_is, default_of, from_to, one, at, tagged, explained, untagged, measured, gaps, twice_narrowed, is_taken, named, numbered, five_enums, enumeration, bits, three_bits, taken_by, shown_by, identity_sample, names_sample};
+ghost use Rattle.yspec.specs.types.TypeExamples.{decimal, shown, number_is, default_of, from_to, one, at, tagged, explained, untagged, measured, gaps, twice_narrowed, all_narrowed, matched, hex_digits, no_xml_name, is_taken, tag_by, named, numbered, five_enums, enumeration, bits, three_bits, taken_by, shown_by, identity_sample, names_sample};
 
 /// Numbers with a point, of two digits after it and of eighteen.
 pub fn decimals()
@@ -206,6 +206,27 @@ pub fn lengths()
         (narrowed string_type (measured (from_to (pos 0) (pos (2 ^ 64 - 1)) ∷ []))) ≡ true }
     ensures past_the_greatest { narrowed string_type
         (measured (from_to (pos 0) (pos (2 ^ 64)) ∷ [])) ≡ None }
+{}
+
+/// A pattern takes texts as a whole, and one with `invert-match` those that it doesn't match; the first that excludes a text
+/// gives its tag.
+pub fn patterns()
+    ensures digits { is_taken hex_digits (text (codes "9A00")) ≡ true }
+    ensures too_long { is_taken hex_digits (text (codes "00ABAB")) ≡ false }
+    ensures no_digits { is_taken hex_digits (text (codes "xx00")) ≡ false }
+    ensures digits_in_front { is_taken hex_digits (text (codes "00xx")) ≡ false }
+    ensures empty { is_taken hex_digits (text []) ≡ true }
+    ensures name { is_taken no_xml_name (text (codes "enabled")) ≡ true }
+    ensures no_name { tag_by no_xml_name (codes "10-mbit") ≡ Some (codes "name") }
+    ensures inverted { tag_by no_xml_name (codes "xml-element") ≡ Some (codes "xml") }
+    ensures first { tag_by no_xml_name [] ≡ Some (codes "short") }
+    ensures of_no_text { is_taken no_xml_name (int (pos 1)) ≡ false }
+    ensures of_a_default { option_and_then (λ t. value_of_text (names_sample (codes "m")) t (codes "00xx")) hex_digits
+        ≡ None }
+    ensures wider_length { all_narrowed string_type (measured (from_to (pos 0) (pos 4) ∷ [])
+        ∷ matched (codes "a*") ∷ measured (from_to (pos 0) (pos 5) ∷ []) ∷ []) ≡ None }
+    ensures of_a_number { narrowed uint8_type (matched (codes "1")) ≡ None }
+    ensures of_a_union { narrowed (union_type (string_type ∷ [])) (matched (codes "1")) ≡ None }
 {}
 
 /// Two values are the same where the same member took them and their contents are the same.

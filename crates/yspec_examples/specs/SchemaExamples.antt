@@ -2,6 +2,7 @@
 use Rattle.std.specs.Prelude.{ℕ, pos, true, false, List, ◌++◌, [], ◌∷◌, codes, Option, Some, None, option_and_then, Result, Ok, Err}
 use Rattle.yspec.specs.Forest.{Forest, end, node}
 use Rattle.yspec.specs.text.Text.{Text}
+use Rattle.yspec.specs.types.Ranges as ranges
 use Rattle.yspec.specs.types.Ranges.{Part}
 use Rattle.yspec.specs.types.Types.{Base, integer_base, decimal_base, string_base, boolean_base, empty_base, uint8, uint16, uint32, uint64, Shape, single, union, YangType, plain, Val, value, number_value}
 use Rattle.yspec.specs.schema.Schema.{Schema, SchemaModule, Augment, SchemaNode, Kind, container, leaf, leaf_list, list, choice, case, LeafType, own_type, allowed, default_used, mandatory, key, Amount, current}
@@ -43,7 +44,7 @@ abbrev pub within : ℕ → ℕ → Part
 within low high = record { low = pos low; high = pos high }
 
 abbrev pub limited_to : Base → List Part → Option Text → Shape
-limited_to base parts app_tag = single (record { base = base; limits = record { parts = parts; error = record { message = None; app_tag = app_tag } } ∷ [] })
+limited_to base parts app_tag = single (record { base = base; limits = record { test = ranges.within parts; error = record { message = None; app_tag = app_tag } } ∷ [] })
 
 abbrev pub unrestricted : Shape → YangType
 unrestricted shape = record { shape = shape; requires_instance = None }

@@ -4,6 +4,7 @@ ghost use Rattle.std.specs.Prelude.{◌≡◌, ◌++◌, [], ◌∷◌, codes, p
 ghost use Rattle.yspec.specs.edit.Examples.{module_text};
 ghost use Rattle.yspec_examples.specs.RunExamples.{counted, shown, without_faults};
 ghost use Rattle.yspec_examples.specs.Printing.{failed, found};
+ghost use Rattle.yspec.specs.types.Ranges.{within};
 ghost use Rattle.yspec.specs.types.Types.{integer_base, uint8, single};
 ghost use Rattle.yspec.specs.linking.TypeStatements.{own, of_target};
 ghost use Rattle.yspec.specs.linking.Circles.{import_circles, definition_circles};
@@ -164,8 +165,8 @@ pub fn derived_types()
         ∷ []) 11 ≡ Some (own (record {
           shape = single (record {
             base = integer_base uint8;
-            limits = record { parts = record { low = pos 0; high = pos 9 } ∷ []; error = record { message = None; app_tag = None } }
-                ∷ record { parts = record { low = pos 1; high = pos 5 } ∷ []; error = record { message = None; app_tag = None } } ∷ [];
+            limits = record { test = within (record { low = pos 0; high = pos 9 } ∷ []); error = record { message = None; app_tag = None } }
+                ∷ record { test = within (record { low = pos 1; high = pos 5 } ∷ []); error = record { message = None; app_tag = None } } ∷ [];
           });
           requires_instance = None;
         })) }

@@ -3,11 +3,12 @@ use Rattle.std.proofs.Common.{ℕ, Bool, true, false, List, [], ◌∷◌, ◌++
 use Rattle.std.specs.Option.{option_map_or}
 use Rattle.yspec.specs.Forest.{Forest, end, join}
 use Rattle.yspec.specs.text.Text.{Text}
-use Rattle.yspec.specs.text.Statement.{Statement, Slip, module_of}
+use Rattle.yspec.specs.text.Statement.{Statement, Slip}
 use Rattle.yspec.specs.schema.Breaks.{Break}
 use Rattle.yspec.specs.schema.Schema.{Schema}
 use Rattle.yspec.specs.document.Document.{Step, Tree}
 use Rattle.yspec.specs.document.Reading.{Refusal, document_of}
+use Rattle.yspec_wide.specs.Texts.{module_in}
 use Rattle.yspec_wide.specs.Language.{Language}
 use Rattle.yspec_wide.specs.Compiling.{compiled_in}
 use Rattle.ysay_repeated.specs.Repeated.{repeated_in}
@@ -31,16 +32,16 @@ files_alike (name ∷ names) (None ∷ answers) next other alike = same (with_fi
 files_alike (name ∷ names) (Some bytes ∷ answers) next other alike =
     files_alike names answers (λ rest. next (bytes ∷ rest)) (λ rest. other (bytes ∷ rest)) (λ rest. alike (bytes ∷ rest))
 
-modules_alike : (names : List Text) (contents : List (List ℕ)) (next other : Forest Statement → List (List ℕ) → Outcome)
+modules_alike : (language : Language) (names : List Text) (contents : List (List ℕ)) (next other : Forest Statement → List (List ℕ) → Outcome)
     → ((top : Forest Statement) (files : List (List ℕ)) → AlikeBesides (next top files) (other top files))
-    → AlikeBesides (with_modules names contents next) (with_modules names contents other)
-modules_alike [] contents next other alike = alike end contents
-modules_alike (name ∷ names) [] next other alike = alike end []
-modules_alike (name ∷ names) (bytes ∷ contents) next other alike =
-    by (module_of bytes) (λ top. modules_alike names contents (λ rest. next (join top rest)) (λ rest. other (join top rest)) (λ rest files. alike (join top rest) files))
+    → AlikeBesides (with_modules language names contents next) (with_modules language names contents other)
+modules_alike language [] contents next other alike = alike end contents
+modules_alike language (name ∷ names) [] next other alike = alike end []
+modules_alike language (name ∷ names) (bytes ∷ contents) next other alike =
+    by (module_in language bytes) (λ top. modules_alike language names contents (λ rest. next (join top rest)) (λ rest. other (join top rest)) (λ rest files. alike (join top rest) files))
   where
     behind : (Forest Statement → List (List ℕ) → Outcome) → Forest Statement → Outcome
-    behind next top = with_modules names contents (λ rest. next (join top rest))
+    behind next top = with_modules language names contents (λ rest. next (join top rest))
 
     by : (read : Result (Forest Statement) Slip) → ((top : Forest Statement) → AlikeBesides (behind next top) (behind other top))
         → AlikeBesides (with_module name bytes read (behind next)) (with_module name bytes read (behind other))
@@ -51,7 +52,7 @@ schema_alike : (language : Language) (names : List Text) (contents : List (List 
     → ((schema : Schema) (files : List (List ℕ)) → AlikeBesides (next schema files) (other schema files))
     → AlikeBesides (with_schema language names contents next) (with_schema language names contents other)
 schema_alike language names contents next other alike =
-    modules_alike names contents (λ modules files. with_compiled language names contents modules (compiled_in language modules) (λ schema. next schema files))
+    modules_alike language names contents (λ modules files. with_compiled language names contents modules (compiled_in language modules) (λ schema. next schema files))
     (λ modules files. with_compiled language names contents modules (compiled_in language modules) (λ schema. other schema files)) (λ modules files. by modules files (compiled_in language modules))
   where
     by : (modules : Forest Statement) (files : List (List ℕ)) (o : Result Schema Break)

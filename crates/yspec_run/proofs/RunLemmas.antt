@@ -2,11 +2,12 @@
 use Rattle.std.proofs.Common.{◌≡◌, ℕ, suc, ◌≤◌, List, [], ◌∷◌, ◌++◌, length, take, drop, Option, Some, None, Result, Ok, Err, refl, ap, ◌∙◌, subst, arith}
 use Rattle.yspec.specs.Forest.{Forest, end, join}
 use Rattle.yspec.specs.text.Text.{Text}
-use Rattle.yspec.specs.text.Statement.{Statement, Slip, module_of}
+use Rattle.yspec.specs.text.Statement.{Statement, Slip}
 use Rattle.yspec.specs.schema.Breaks.{Break}
 use Rattle.yspec.specs.schema.Schema.{Schema}
 use Rattle.yspec.specs.document.Document.{Tree}
 use Rattle.yspec.specs.document.Reading.{Refusal}
+use Rattle.yspec_wide.specs.Texts.{module_in}
 use Rattle.yspec_wide.specs.Language.{Language}
 use Rattle.yspec_wide.specs.Compiling.{compiled_in}
 use Rattle.yspec_run.specs.Output.{Outcome, with_files, with_module, with_modules, with_compiled, with_schema, with_tree}
@@ -57,24 +58,24 @@ both_read first second (Some bytes ∷ Some others ∷ answers) next shown = rec
 
 -- ---- modules
 
-pub record AreParsed (names : List Text) (contents : List (List ℕ)) : Type 0 where
+pub record AreParsed (language : Language) (names : List Text) (contents : List (List ℕ)) : Type 0 where
   pub top : Forest Statement
-  pub is : (rest : List (List ℕ)) (next : Forest Statement → List (List ℕ) → Outcome) → with_modules names (contents ++ rest) next ≡ next top rest
+  pub is : (rest : List (List ℕ)) (next : Forest Statement → List (List ℕ) → Outcome) → with_modules language names (contents ++ rest) next ≡ next top rest
 
-pub are_parsed : (names : List Text) (contents rest : List (List ℕ)) (next : Forest Statement → List (List ℕ) → Outcome)
-    → length contents ≡ length names → IsReport (with_modules names (contents ++ rest) next) → AreParsed names contents
-are_parsed [] [] rest next count shown = record { top = end; is = λ rest next. refl }
-are_parsed [] (bytes ∷ contents) rest next count shown = absurd (omega (arith, count))
-are_parsed (name ∷ names) [] rest next count shown = absurd (omega (arith, count))
-are_parsed (name ∷ names) (bytes ∷ contents) rest next count shown =
-    by (module_of bytes) refl (λ top shown. are_parsed names contents rest (λ below files. next (join top below) files) (omega (arith, count)) shown) shown
+pub are_parsed : (language : Language) (names : List Text) (contents rest : List (List ℕ)) (next : Forest Statement → List (List ℕ) → Outcome)
+    → length contents ≡ length names → IsReport (with_modules language names (contents ++ rest) next) → AreParsed language names contents
+are_parsed language [] [] rest next count shown = record { top = end; is = λ rest next. refl }
+are_parsed language [] (bytes ∷ contents) rest next count shown = absurd (omega (arith, count))
+are_parsed language (name ∷ names) [] rest next count shown = absurd (omega (arith, count))
+are_parsed language (name ∷ names) (bytes ∷ contents) rest next count shown =
+    by (module_in language bytes) refl (λ top shown. are_parsed language names contents rest (λ below files. next (join top below) files) (omega (arith, count)) shown) shown
   where
     others : (Forest Statement → List (List ℕ) → Outcome) → List (List ℕ) → Forest Statement → Outcome
-    others next rest top = with_modules names (contents ++ rest) (λ below files. next (join top below) files)
+    others next rest top = with_modules language names (contents ++ rest) (λ below files. next (join top below) files)
 
-    by : (o : Result (Forest Statement) Slip) → module_of bytes ≡ o
-        → ((top : Forest Statement) → IsReport (others next rest top) → AreParsed names contents)
-        → IsReport (with_module name bytes o (others next rest)) → AreParsed (name ∷ names) (bytes ∷ contents)
+    by : (o : Result (Forest Statement) Slip) → module_in language bytes ≡ o
+        → ((top : Forest Statement) → IsReport (others next rest top) → AreParsed language names contents)
+        → IsReport (with_module name bytes o (others next rest)) → AreParsed language (name ∷ names) (bytes ∷ contents)
     by (Err slip) is inner shown = absurd (omega (arith, shown))
     by (Ok top) is inner shown = let behind = inner top shown in record {
       top = join top behind.top;
@@ -93,8 +94,8 @@ pub is_compiled : (language : Language) (names : List Text) (contents rest : Lis
 is_compiled language names contents rest next count shown =
     by (compiled_in language parsed.top) refl (subst IsReport (parsed.is rest (λ modules files. with_compiled language names (contents ++ rest) modules (compiled_in language modules) (λ schema. next schema files))) shown)
   where
-    parsed : AreParsed names contents
-    parsed = are_parsed names contents rest (λ modules files. with_compiled language names (contents ++ rest) modules (compiled_in language modules) (λ schema. next schema files)) count shown
+    parsed : AreParsed language names contents
+    parsed = are_parsed language names contents rest (λ modules files. with_compiled language names (contents ++ rest) modules (compiled_in language modules) (λ schema. next schema files)) count shown
 
     by : (o : Result Schema Break) → compiled_in language parsed.top ≡ o → IsReport (with_compiled language names (contents ++ rest) parsed.top o (λ schema. next schema rest)) → IsCompiled language names contents
     by (Err broken) is shown = absurd (omega (arith, shown))

@@ -5,7 +5,7 @@ use Rattle.std.specs.Option.{option_map_or}
 use Rattle.ysay_codes.specs.Codes.{all_explanations, explained, explanations_of, reason_of, unknown_among}
 use Rattle.yspec.specs.Forest.{Forest, end, join, size}
 use Rattle.yspec.specs.text.Text.{Text, is_text}
-use Rattle.yspec.specs.text.Statement.{Statement, Slip, module_of}
+use Rattle.yspec.specs.text.Statement.{Statement, Slip}
 use Rattle.yspec.specs.schema.Breaks.{Break}
 use Rattle.yspec.specs.schema.Schema.{Schema}
 use Rattle.yspec.specs.schema.Diagram.{diagram}
@@ -18,6 +18,7 @@ use Rattle.yspec.specs.document.StateData.{Inspected, inspected}
 use Rattle.yspec.specs.document.Path.{path_text}
 use Rattle.yspec.specs.document.Writing.{written_text}
 use Rattle.yspec_wide.specs.Language.{Language}
+use Rattle.yspec_wide.specs.Texts.{module_in}
 use Rattle.yspec_wide.specs.Compiling.{compiled_in}
 use Rattle.ysay_fault.specs.Sentences.{explained_fault}
 use Rattle.ysay_json.specs.FaultData.{json_text}
@@ -205,11 +206,11 @@ with_module name bytes (Err s) next = slipped name bytes s
 with_module name bytes (Ok top) next = next top
 
 -- `next` goes on with the row of all modules' statements, and with the files that are left
-abbrev pub with_modules : List Text → List (List ℕ) → (Forest Statement → List (List ℕ) → Outcome) → Outcome
-with_modules [] files next = next end files
-with_modules (name ∷ names) [] next = next end []
-with_modules (name ∷ names) (bytes ∷ files) next =
-    with_module name bytes (module_of bytes) (λ top. with_modules names files (λ rest. next (join top rest)))
+abbrev pub with_modules : Language → List Text → List (List ℕ) → (Forest Statement → List (List ℕ) → Outcome) → Outcome
+with_modules language [] files next = next end files
+with_modules language (name ∷ names) [] next = next end []
+with_modules language (name ∷ names) (bytes ∷ files) next =
+    with_module name bytes (module_in language bytes) (λ top. with_modules language names files (λ rest. next (join top rest)))
 
 abbrev pub with_compiled : Language → List Text → List (List ℕ) → Forest Statement → Result Schema Break → (Schema → Outcome) → Outcome
 with_compiled language names contents modules (Err b) next = broken language names contents modules b
@@ -217,7 +218,7 @@ with_compiled language names contents modules (Ok schema) next = next schema
 
 -- `next` goes on with the schema in a language of modules whose files have these contents, and with the files that are left
 abbrev pub with_schema : Language → List Text → List (List ℕ) → (Schema → List (List ℕ) → Outcome) → Outcome
-with_schema language names contents next = with_modules names contents (λ modules files.
+with_schema language names contents next = with_modules language names contents (λ modules files.
     with_compiled language names contents modules (compiled_in language modules) (λ schema. next schema files))
 
 -- ---- the document

@@ -22,6 +22,7 @@ use Rattle.yspec_wide.specs.Sources.{conditions_in}
 use Rattle.yspec_wide.specs.StatementBreaks.{statement_phase_in}
 use Rattle.yspec_wide.specs.Features.{features_in, doubled_features, condition_holds, is_on, stands, condition_prefix_breaks, taken_feature_breaks, condition_breaks}
 use Rattle.yspec_wide.specs.VersionBreaks.{version_import_break, version_import_breaks, version_type_break, version_type_breaks}
+use Rattle.yspec_wide.specs.Patterns.{pattern_break, pattern_breaks}
 use Rattle.yspec_wide.specs.Compiling.{names_phase_in, meanings_phase_in, linking_phases_in, linked_in}
 use Rattle.yspec_wide.proofs.CoreLemmas.{phase_alike, kept_of_all_alike}
 
@@ -70,6 +71,9 @@ types_none : (modules : Forest Source) → version_type_breaks core modules ≡ 
 types_none modules = nothing_told (version_type_break core modules)
     (λ p. when_never (is_source_of word.type_word p.source) (broken 10 p.source.home p.source.statement.line)) (statements_of modules)
 
+patterns_none : (modules : Forest Source) → pattern_breaks core modules ≡ []
+patterns_none modules = nothing_told (pattern_break core) (λ p. refl) (statements_of modules)
+
 -- ---- the phases
 
 names_alike : (modules : Forest Statement) (sources : Forest Source) → names_phase_in core modules sources ≡ names_phase modules sources
@@ -84,15 +88,16 @@ meanings_alike sources = ap₂ (λ imports lost. import_breaks sources ++ (impor
     ∙ ap (λ circles. import_breaks sources ++ (lost_breaks sources ++ (import_circles sources ++ circles)))
     (append-nil (definition_circles sources))
 
-types_alike : (sources : Forest Source) → type_breaks sources ++ version_type_breaks core sources ≡ type_breaks sources
-types_alike sources = ap (λ told. type_breaks sources ++ told) (types_none sources) ∙ append-nil (type_breaks sources)
+types_alike : (sources : Forest Source) → type_breaks sources ++ (version_type_breaks core sources ++ pattern_breaks core sources) ≡ type_breaks sources
+types_alike sources = ap₂ (λ versions patterns. type_breaks sources ++ (versions ++ patterns)) (types_none sources) (patterns_none sources)
+    ∙ append-nil (type_breaks sources)
 
 pub linking_alike : (modules : Forest Statement) → linking_phases_in core modules ≡ linking_phases modules
 linking_alike modules =
     ap (λ sources. statement_phase_in core modules ∷ names_phase_in core modules sources ∷ meanings_phase_in core sources
-    ∷ (type_breaks sources ++ version_type_breaks core sources) ∷ []) (kept_of_all_alike modules)
+    ∷ (type_breaks sources ++ (version_type_breaks core sources ++ pattern_breaks core sources)) ∷ []) (kept_of_all_alike modules)
     ∙ (ap₂ (λ statements names. statements ∷ names ∷ meanings_phase_in core (sources_of modules)
-    ∷ (type_breaks (sources_of modules) ++ version_type_breaks core (sources_of modules)) ∷ [])
+    ∷ (type_breaks (sources_of modules) ++ (version_type_breaks core (sources_of modules) ++ pattern_breaks core (sources_of modules))) ∷ [])
     (phase_alike modules) (names_alike modules (sources_of modules))
     ∙ ap₂ (λ meanings types. statement_phase modules ∷ names_phase modules (sources_of modules) ∷ meanings ∷ types ∷ [])
     (meanings_alike (sources_of modules)) (types_alike (sources_of modules)))

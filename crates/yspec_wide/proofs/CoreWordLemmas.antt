@@ -11,7 +11,8 @@ use Rattle.yspec.specs.text.Statement.{Statement}
 use Rattle.yspec.specs.linking.Keyword.{Keyword, keyword_named}
 use Rattle.yspec.specs.linking.Source.{Source, unless_extension, kept_keyword, kept_at, kept, numbered, sources_from}
 use Rattle.yspec_wide.specs.Language.{Choosing, core, rfc}
-use Rattle.yspec_wide.specs.Words.{word_text, feature_word, if_feature_word}
+use Rattle.yspec.specs.linking.TypeStatements.{is_pattern_statement}
+use Rattle.yspec_wide.specs.Words.{word_text, feature_word, if_feature_word, pattern_word}
 use Rattle.yspec_wide.specs.Sources.{is_feature, is_condition, sources_in}
 use Rattle.yspec_wide.proofs.CoreLemmas.{kept_of_all_alike}
 
@@ -73,3 +74,6 @@ no_feature choosings modules = none_in_core (word_text feature_word) refl module
 
 pub no_condition : (choosings : List Choosing) (modules : Forest Statement) → list_any (is_condition (rfc choosings)) (preorder (sources_in core modules)) ≡ false
 no_condition choosings modules = none_in_core (word_text if_feature_word) refl modules
+
+pub no_pattern : (modules : Forest Statement) → list_any is_pattern_statement (preorder (sources_in core modules)) ≡ false
+no_pattern modules = none_in_core (word_text pattern_word) refl modules

@@ -2,7 +2,7 @@
 use Rattle.std.specs.Prelude.{⊤}
 use Rattle.yspec.proofs.LiteralLemmas.{yspec_on_literals}
 use Rattle.yspec_wide.specs.Expressions.{tokens_from, read}
-use Rattle.yspec_wide.specs.Texts.{unescaped_in_1, tokens_in_1_from, version_from, module_in_1}
+use Rattle.yspec_wide.specs.Texts.{mended, tokens_in_1_from, version_among, module_in_1}
 use Rattle.yspec_wide.specs.StatementBreaks.{row_breaks_in, breaks_in_from}
 use Rattle.yspec_wide.specs.Sources.{kept_in, sources_in_from}
 use Rattle.yspec_wide.specs.Features.{is_on_within}
@@ -12,5 +12,5 @@ use Rattle.yspec_wide.specs.Types.{verdicts_of, known_within_of, type_within_of}
 use Rattle.yspec_wide.specs.Compiling.{compiled_in}
 
 unfoldable pub ywide_on_literals : ⊤
-unfolding yspec_on_literals unescaped_in_1 tokens_in_1_from version_from module_in_1 tokens_from read row_breaks_in breaks_in_from kept_in sources_in_from is_on_within refined_in stands_for_in unfit_for_in standing_by verdicts_of known_within_of type_within_of compiled_in
+unfolding yspec_on_literals mended tokens_in_1_from version_among module_in_1 tokens_from read row_breaks_in breaks_in_from kept_in sources_in_from is_on_within refined_in stands_for_in unfit_for_in standing_by verdicts_of known_within_of type_within_of compiled_in
 ywide_on_literals = tt

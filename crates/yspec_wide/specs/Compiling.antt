@@ -24,6 +24,7 @@ use Rattle.yspec_wide.specs.Features.{condition_prefix_breaks, taken_feature_bre
 use Rattle.yspec_wide.specs.Expansion.{augmented_in, unfit_breaks_in, augment_breaks_in}
 use Rattle.yspec_wide.specs.Standing.{standing}
 use Rattle.yspec_wide.specs.VersionBreaks.{version_import_breaks, version_type_breaks, key_break}
+use Rattle.yspec_wide.specs.Patterns.{pattern_breaks}
 use Rattle.yspec_wide.specs.Types.{default_breaks_in, schema_nodes_in}
 use Rattle.yspec_wide.specs.Additions.{addition_breaks_in}
 
@@ -56,7 +57,7 @@ linking_phases_in language modules = let sources = sources_in language modules i
     statement_phase_in language modules
     ∷ names_phase_in language modules sources
     ∷ meanings_phase_in language sources
-    ∷ (type_breaks sources ++ version_type_breaks language sources) ∷ []
+    ∷ (type_breaks sources ++ (version_type_breaks language sources ++ pattern_breaks language sources)) ∷ []
 
 -- C11, C12, C16 and C17
 abbrev pub own_breaks_in : Language → Plan → Planned → List Break

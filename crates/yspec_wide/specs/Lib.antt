@@ -10,6 +10,7 @@ pub mod Features
 pub mod Expansion
 pub mod Standing
 pub mod VersionBreaks
+pub mod Patterns
 pub mod Types
 pub mod Additions
 pub mod Compiling

@@ -82,6 +82,11 @@ faults_under language text document = option_and_then (λ schema. option_map (λ
 abbrev pub faults_with : List Text → Text → Text → Option (List ℕ)
 faults_with features lines document = faults_under (rfc (chosen (codes "m") features ∷ [])) (text_in_1_1 lines) document
 
+-- of each fault the number and the tag, with all features
+abbrev pub tags_with : Text → Text → Option (List (ℕ × Option Text))
+tags_with lines document = option_and_then (λ schema. option_map (λ tree. map (λ f. (fault_number f.code, f.app_tag)) (faults_of schema tree))
+    (result_ok (document_of schema document))) (result_ok (compiled_in (rfc []) (statements_in (rfc []) (text_in_1_1 lines ∷ []))))
+
 -- ---- texts alone
 
 -- what slips, or the version and the statements in order, each with its argument

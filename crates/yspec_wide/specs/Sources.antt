@@ -1,4 +1,4 @@
--- The statements that linking stands on, with features and conditions among them (RFC 7950, 7.20.1 and 7.20.2).
+-- The statements that linking stands on, with features, conditions and patterns among them (RFC 7950, 7.20.1, 7.20.2, 9.4.5).
 use Rattle.std.specs.Prelude.{ℕ, ◌+◌, Bool, false, List, Option, Some, filter, option_and_then, if◌then◌else◌}
 use Rattle.std.specs.List.{list_any}
 use Rattle.yspec.specs.Forest.{Forest, end, node, row, join, size}
@@ -9,8 +9,7 @@ use Rattle.yspec.specs.linking.Source.{Source, unless_extension, kept_at, number
 use Rattle.yspec_wide.specs.Language.{Language, core, rfc}
 use Rattle.yspec_wide.specs.Words.{Word, known, feature_word, if_feature_word, word_text, word_named}
 
--- A `feature` and an `if-feature` are kept as `extension` is named, which no rule behind the table asks for; they are told
--- apart by their texts.
+-- Those that the core doesn't have are kept as `extension` is named; they are told apart by their texts.
 abbrev pub keyword_kept : Word → Option Keyword
 keyword_kept (known k) = unless_extension k
 keyword_kept _ = Some extension_word

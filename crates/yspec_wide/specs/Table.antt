@@ -1,13 +1,13 @@
 -- The table of statements by language and version (RFC 7950, 7 and 14; RFC 6020, 7 and 12).
-use Rattle.std.specs.Prelude.{◌==◌, ◌&&◌, ◌||◌, Bool, true, false, not, List, [], ◌∷◌, ◌++◌, map, filter, is_some, if◌then◌else◌}
-use Rattle.yspec.specs.text.Text.{Text}
+use Rattle.std.specs.Prelude.{◌==◌, ◌&&◌, ◌||◌, Bool, true, false, not, List, [], ◌∷◌, ◌++◌, codes, map, filter, is_some, if◌then◌else◌}
+use Rattle.yspec.specs.text.Text.{Text, is_text}
 use Rattle.yspec.specs.linking.Keyword as keyword
 use Rattle.yspec.specs.linking.Keyword.{Keyword, same_keyword}
 use Rattle.yspec.specs.linking.Arguments.{Form, identifier_form, any_form, fits}
 use Rattle.yspec.specs.linking.Table as narrow
-use Rattle.yspec.specs.linking.Table.{Count, exactly_one, at_most_one, any_number, rule_of, doc}
+use Rattle.yspec.specs.linking.Table.{Count, exactly_one, at_most_one, any_number, rule_of, in_range, doc}
 use Rattle.yspec_wide.specs.Language.{Language, core, rfc, YangVersion, yang_1, yang_1_1}
-use Rattle.yspec_wide.specs.Words.{Word, known, feature_word, if_feature_word, same_word}
+use Rattle.yspec_wide.specs.Words.{Word, known, feature_word, if_feature_word, pattern_word, modifier_word, same_word}
 use Rattle.yspec_wide.specs.Expressions.{expression_of}
 
 pub record Allowed : Type 0 where
@@ -22,6 +22,8 @@ pub data WideForm : Type 0 where
   prefix_form : WideForm
   -- an expression of features
   if_feature_form : WideForm
+  -- `invert-match`
+  modifier_form : WideForm
 
 pub record Rule : Type 0 where
   pub form : WideForm
@@ -41,6 +43,7 @@ abbrev pub fits_in : YangVersion → WideForm → Text → Bool
 fits_in version (as_before form) t = fits_before version form t
 fits_in version prefix_form t = fits identifier_form t
 fits_in version if_feature_form t = is_some (expression_of version t)
+fits_in version modifier_form t = is_text t (codes "invert-match")
 
 -- ---- the core's rows
 
@@ -76,6 +79,7 @@ added keyword.augment_word = conditions
 added keyword.identity_word = conditions
 added keyword.enum_word = conditions
 added keyword.bit_word = conditions
+added keyword.type_word = many pattern_word ∷ []
 added _ = []
 
 -- ---- what YANG 1 lacks of YANG 1.1 (RFC 7950, 1.1)
@@ -120,6 +124,11 @@ abbrev pub wide_form : Keyword → Form → WideForm
 wide_form keyword.prefix_word form = prefix_form
 wide_form k form = as_before form
 
+-- YANG 1 has no `modifier` (RFC 7950, 1.1).
+abbrev pub in_pattern : YangVersion → List Allowed
+in_pattern yang_1 = row_before in_range
+in_pattern yang_1_1 = record { word = modifier_word; count = at_most_one } ∷ row_before in_range
+
 -- ---- the table
 
 abbrev pub wide_rule : YangVersion → Word → Rule
@@ -127,6 +136,8 @@ wide_rule version (known k) = record { form = wide_form k (rule_of k).form; subs
 wide_rule version feature_word =
     record { form = as_before identifier_form; substatements = many if_feature_word ∷ row_before doc }
 wide_rule version if_feature_word = record { form = if_feature_form; substatements = [] }
+wide_rule version pattern_word = record { form = as_before any_form; substatements = in_pattern version }
+wide_rule version modifier_word = record { form = modifier_form; substatements = [] }
 
 -- nothing is known of a keyword that the core doesn't have
 abbrev pub core_rule : Word → Rule

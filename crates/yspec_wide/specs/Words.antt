@@ -1,4 +1,5 @@
--- The keywords of the wide language: those of the core, and those that features bring (RFC 7950, 7.20.1 and 7.20.2).
+-- The keywords of the wide language: those of the core, and those of features (RFC 7950, 7.20.1 and 7.20.2) and of patterns
+-- (9.4.5 and 9.4.6).
 use Rattle.std.specs.Prelude.{◌==◌, ℕ, Bool, codes, Option, Some, None, option_map, if◌then◌else◌}
 use Rattle.yspec.specs.text.Text.{Text, is_text}
 use Rattle.yspec.specs.linking.Keyword.{Keyword, keyword_text, keyword_number, keyword_named}
@@ -8,16 +9,22 @@ pub data Word : Type 0 where
   known : Keyword → Word
   feature_word : Word
   if_feature_word : Word
+  pattern_word : Word
+  modifier_word : Word
 
 abbrev pub word_text : Word → Text
 word_text (known k) = keyword_text k
 word_text feature_word = codes "feature"
 word_text if_feature_word = codes "if-feature"
+word_text pattern_word = codes "pattern"
+word_text modifier_word = codes "modifier"
 
 abbrev pub word_number : Word → ℕ
 word_number (known k) = keyword_number k
 word_number feature_word = 48
 word_number if_feature_word = 49
+word_number pattern_word = 50
+word_number modifier_word = 51
 
 abbrev pub same_word : Word → Word → Bool
 same_word a b = word_number a == word_number b
@@ -25,7 +32,9 @@ same_word a b = word_number a == word_number b
 abbrev pub or_added : Option Keyword → Text → Option Word
 or_added (Some k) t = Some (known k)
 or_added None t = if is_text t (word_text feature_word) then Some feature_word
-    else (if is_text t (word_text if_feature_word) then Some if_feature_word else None)
+    else (if is_text t (word_text if_feature_word) then Some if_feature_word
+    else (if is_text t (word_text pattern_word) then Some pattern_word
+    else (if is_text t (word_text modifier_word) then Some modifier_word else None)))
 
 -- the keyword of a language that a text is, if it is one
 abbrev pub word_named : Language → Text → Option Word

@@ -6,6 +6,7 @@ ghost use Rattle.yspec.specs.Forest.{preorder};
 ghost use Rattle.yspec.specs.linking.Table.{rule_of};
 ghost use Rattle.yspec.specs.linking.StatementBreaks.{statement_phase};
 ghost use Rattle.yspec.specs.linking.Source.{sources_of};
+ghost use Rattle.yspec.specs.linking.TypeStatements.{is_pattern_statement};
 ghost use Rattle.yspec.specs.linking.Expansion.{unfit_breaks};
 ghost use Rattle.yspec.specs.linking.Augments.{augmented, augment_breaks};
 ghost use Rattle.yspec.specs.linking.Planned.{type_of};
@@ -33,10 +34,11 @@ pub fn core_table()
     ensures kept { (modules : _) → sources_in core modules ≡ sources_of modules }
 {}
 
-/// Of what the core keeps no language would say that it is a feature or a condition.
+/// Of what the core keeps no language would say that it is a feature, a condition or a pattern.
 pub fn no_conditions_in_the_core()
     ensures features { (choosings modules : _) → list_any (is_feature (rfc choosings)) (preorder (sources_in core modules)) ≡ false }
     ensures conditions { (choosings modules : _) → list_any (is_condition (rfc choosings)) (preorder (sources_in core modules)) ≡ false }
+    ensures patterns { (modules : _) → list_any is_pattern_statement (preorder (sources_in core modules)) ≡ false }
 {}
 
 /// A module of which the core breaks no rule of the table says that it is one of YANG 1.1.

@@ -6,5 +6,6 @@
 pub mod expressions;
 pub mod features;
 pub mod laws;
+pub mod patterns;
 pub mod standing;
 pub mod versions;

@@ -35,4 +35,7 @@ pub fn texts()
     ensures quotes { reading_of (codes "m a\"b { x'c'; e \"\\q\\\\\"; }")
         ≡ spells yang_1 ((codes "m", Some (codes "a\"b")) ∷ (codes "x", Some (codes "c")) ∷ (codes "e", Some (codes "\\q\\")) ∷ []) }
     ensures of_yang_1_1 { map reading_of (codes "m a { yang-version 1.1; e \"\\q\"; }" ∷ codes "m a { yang-version \"1\" + '.1'; x a\"b\"; }" ∷ []) ≡ slips 4 1 ∷ slips 5 1 ∷ [] }
+    ensures wrong_before_the_version { map reading_of (codes "m a { e \"\\q\"; 9 b; yang-version 1.1; }" ∷ codes "m a { e \"\\q\"; yang-version 1.1 }" ∷ []) ≡ slips 8 1 ∷ slips 5 1 ∷ [] }
+    ensures version_of_another { reading_of (codes "m a { c { yang-version 1.1; } e \"\\\\\\q\"; }")
+        ≡ spells yang_1 ((codes "m", Some (codes "a")) ∷ (codes "c", None) ∷ (codes "yang-version", Some (codes "1.1")) ∷ (codes "e", Some (codes "\\\\q")) ∷ []) }
 {}

@@ -25,6 +25,7 @@ use Rattle.yspec_wide.specs.Features.{condition_prefix_breaks, taken_feature_bre
 use Rattle.yspec_wide.specs.Expansion.{augmented_in, unfit_breaks_in, augment_breaks_in}
 use Rattle.yspec_wide.specs.Standing.{standing, standing_by}
 use Rattle.yspec_wide.specs.VersionBreaks.{version_type_breaks}
+use Rattle.yspec_wide.specs.Patterns.{pattern_breaks}
 use Rattle.yspec_wide.specs.Compiling.{whole_plan, plan_in, schema_in, names_phase_in, meanings_phase_in, node_breaks_in, phases_in, compiled_in}
 use Rattle.yspec_wide_fit.proofs.LegalLemmas.{are_modules}
 use Rattle.yspec_wide_fit.proofs.SoundLemmas.{elsewhere, AreSound}
@@ -78,7 +79,7 @@ breaks_nothing language modules e =
     let of_refines = unfit ∷ of_names in
     let many = limit_breaks (nat_lt node_limit (node_count sources)) modules in
     let of_sizes = many ∷ of_refines in
-    let types = type_breaks sources ++ version_type_breaks language sources in
+    let types = type_breaks sources ++ (version_type_breaks language sources ++ pattern_breaks language sources) in
     let of_types = types ∷ of_sizes in
     let of_meanings = meanings_phase_in language sources ∷ of_types in
     let of_modules = names_phase_in language modules sources ∷ of_meanings in

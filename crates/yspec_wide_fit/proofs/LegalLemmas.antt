@@ -14,7 +14,7 @@ use Rattle.yspec.specs.schema.Breaks.{Break, broken}
 use Rattle.yspec.specs.linking.Keyword.{Keyword, same_keyword, keywords, module_word, extension_word, description_word, reference_word, status_word}
 use Rattle.yspec.specs.linking.Arguments.{identifier_form, fits}
 use Rattle.yspec.specs.linking.Table as narrow
-use Rattle.yspec.specs.linking.Table.{rule_of, doc}
+use Rattle.yspec.specs.linking.Table.{rule_of, doc, in_range}
 use Rattle.yspec.specs.linking.Source.{Source, unless_extension, kept_at, numbered, argument_in}
 use Rattle.yspec.specs.linking.StatementBreaks as narrow_breaks
 use Rattle.yspec.specs.linking.StatementBreaks.{is_prefixed}
@@ -23,16 +23,17 @@ use Rattle.yspec.proofs.LinkingProofs.BreakLemmas.{none_first, none_second, unbr
 use Rattle.yspec.proofs.LinkingProofs.KeywordLemmas.{of_each, same_is, by_definition, prefixed_is_none}
 use Rattle.yspec.proofs.LinkingProofs.LegalLemmas.{identifier_fits}
 use Rattle.yspec_wide.specs.Language.{Language, core, rfc, YangVersion, yang_1, yang_1_1}
-use Rattle.yspec_wide.specs.Words.{Word, known, feature_word, if_feature_word, same_word, word_text, or_added, word_named}
+use Rattle.yspec_wide.specs.Words.{Word, known, feature_word, if_feature_word, pattern_word, modifier_word, same_word, word_text, or_added, word_named}
 use Rattle.yspec_wide.specs.Table.{WideForm, as_before, fits_in, Allowed, row_before, added, lacks, has_fewer, with_fewer, of_version, is_version_row, with_version_free, rule_in}
 use Rattle.yspec_wide.specs.StatementBreaks.{version_in, argument_breaks, own_breaks, is_allowed, known_breaks, named_breaks, breaks_at, substatements_of, row_breaks_in, top_breaks, breaks_in_from}
 use Rattle.yspec_wide.specs.Sources.{keyword_kept, kept_keyword_in, kept_in, sources_in_from}
 
 -- ---- rows of sources
 
--- what may stand below a keyword, with what documents a feature, which is kept as `extension` is named
+-- what may stand below a keyword, with what documents a feature and what a pattern says of other values: these are kept as
+-- `extension` is named
 abbrev pub may_stand : Keyword → List narrow.Allowed
-may_stand k = doc ++ (rule_of k).substatements
+may_stand k = in_range ++ (doc ++ (rule_of k).substatements)
 
 pub record IsLegalAt (home : ℕ) (allowed : List narrow.Allowed) (s : Source) : Type 0 where
   pub known : same_keyword extension_word s.keyword ≡ false → narrow_breaks.is_allowed s.keyword allowed ≡ true
@@ -109,7 +110,7 @@ of_version_is yang_1 k w rows e =
     lacking (λ (a : Allowed). not (lacks k a.word)) w rows (sym (recounted (with_fewer k) (fewer_word k) w (filter (λ (a : Allowed). not (lacks k a.word)) rows)) ∙ e)
 of_version_is yang_1_1 k w rows e = e
 
--- what is added are features and conditions
+-- what is added the core doesn't have
 none_added : (k j : Keyword) → is_allowed (known j) (added k) ≡ false
 none_added k j = turned (is_allowed (known j) (added k))
     (of_each (λ j. not (is_allowed (known j) (added k))) (of_each (λ k. list_all (λ j. not (is_allowed (known j) (added k))) keywords) refl k) j)
@@ -123,12 +124,17 @@ or_none true b none e = refl
 or_none false true none e = absurd cc
 or_none false false none e = e
 
+behind : (j : Keyword) (front rows : List narrow.Allowed) → narrow_breaks.is_allowed j rows ≡ true → narrow_breaks.is_allowed j (front ++ rows) ≡ true
+behind j front rows e =
+    list_any-append (λ (a : narrow.Allowed). same_keyword a.keyword j) front rows
+    ∙ or_right (narrow_breaks.is_allowed j front) (narrow_breaks.is_allowed j rows) e
+
+ahead : (j : Keyword) (rows after : List narrow.Allowed) → narrow_breaks.is_allowed j rows ≡ true → narrow_breaks.is_allowed j (rows ++ after) ≡ true
+ahead j rows after e =
+    list_any-append (λ (a : narrow.Allowed). same_keyword a.keyword j) rows after ∙ ap (λ b. b || narrow_breaks.is_allowed j after) e
+
 documented : (j k : Keyword) → narrow_breaks.is_allowed j (rule_of k).substatements ≡ true → narrow_breaks.is_allowed j (may_stand k) ≡ true
-documented j k e =
-    let own = narrow_breaks.is_allowed j (rule_of k).substatements in
-    let referred = same_keyword reference_word j || own in
-    or_right (same_keyword status_word j) (same_keyword description_word j || referred)
-    (or_right (same_keyword description_word j) referred (or_right (same_keyword reference_word j) own e))
+documented j k e = behind j in_range (doc ++ (rule_of k).substatements) (behind j doc (rule_of k).substatements e)
 
 covers_known : (language : Language) (version : YangVersion) (k : Keyword) → Covers (rule_in language version (known k)).substatements (may_stand k)
 covers_known core version k j e = documented j k (sym (before_is j (rule_of k).substatements) ∙ e)
@@ -139,18 +145,33 @@ covers_known (rfc choosings) version k j e =
     (sym (list_any-append (λ (a : Allowed). same_word a.word (known j)) (map with_version_free rows) (added k)) ∙ whole) in
     documented j k (sym (before_is j (rule_of k).substatements) ∙ (sym (recounted with_version_free free_word (known j) rows) ∙ own))
 
+-- behind a row of what the core doesn't have
+later : (w : Word) (j : Keyword) (rows : List Allowed) → not (same_word w (known j)) ≡ true → (same_word w (known j) || is_allowed (known j) rows) ≡ true
+    → is_allowed (known j) rows ≡ true
+later w j rows other e = by (same_word w (known j)) (is_allowed (known j) rows) other e
+  where
+    by : (a b : Bool) → not a ≡ true → (a || b) ≡ true → b ≡ true
+    by true b is e = absurd cc
+    by false b is e = e
+
 covers_feature : (language : Language) (version : YangVersion) → Covers (rule_in language version feature_word).substatements (may_stand extension_word)
 covers_feature core version j e = absurd cc
-covers_feature (rfc choosings) version j e =
-    sym (before_is j doc) ∙ later (same_word if_feature_word (known j)) (is_allowed (known j) (row_before doc)) (of_each (λ j. not (same_word if_feature_word (known j))) refl j) e
-  where
-    later : (a b : Bool) → not a ≡ true → (a || b) ≡ true → b ≡ true
-    later true b is e = absurd cc
-    later false b is e = e
+covers_feature (rfc choosings) version j e = behind j in_range doc
+    (sym (before_is j doc) ∙ later if_feature_word j (row_before doc) (of_each (λ j. not (same_word if_feature_word (known j))) refl j) e)
 
 covers_condition : (language : Language) (version : YangVersion) → Covers (rule_in language version if_feature_word).substatements (may_stand extension_word)
 covers_condition core version j e = absurd cc
 covers_condition (rfc choosings) version j e = absurd cc
+
+covers_pattern : (language : Language) (version : YangVersion) → Covers (rule_in language version pattern_word).substatements (may_stand extension_word)
+covers_pattern core version j e = absurd cc
+covers_pattern (rfc choosings) yang_1 j e = ahead j in_range doc (sym (before_is j in_range) ∙ e)
+covers_pattern (rfc choosings) yang_1_1 j e = ahead j in_range doc
+    (sym (before_is j in_range) ∙ later modifier_word j (row_before in_range) (of_each (λ j. not (same_word modifier_word (known j))) refl j) e)
+
+covers_modifier : (language : Language) (version : YangVersion) → Covers (rule_in language version modifier_word).substatements (may_stand extension_word)
+covers_modifier core version j e = absurd cc
+covers_modifier (rfc choosings) version j e = absurd cc
 
 -- ---- identifiers
 
@@ -189,11 +210,15 @@ unprefixed t prefixed w plain = by (is_text t w) refl
     by true is = absurd (let no : true ≡ false = sym prefixed ∙ (ap is_prefixed ((bytes_eq-Decides t w).0 is) ∙ plain) in cc)
     by false is = refl
 
+not_named : (t : Text) → is_prefixed t ≡ true → (w : Word) → is_prefixed (word_text w) ≡ false → (other : Option Word)
+    → cond (is_text t (word_text w)) (Some w) other ≡ other
+not_named t prefixed w plain other = ap (λ b. cond b (Some w) other) (unprefixed t prefixed (word_text w) plain)
+
 prefixed_none : (language : Language) (t : Text) → is_prefixed t ≡ true → word_named language t ≡ None
 prefixed_none core t prefixed = ap (option_map known) (prefixed_is_none t prefixed)
 prefixed_none (rfc choosings) t prefixed = ap (λ o. or_added o t) (prefixed_is_none t prefixed)
-    ∙ (ap (λ b. cond b (Some feature_word) (cond (is_text t (word_text if_feature_word)) (Some if_feature_word) None)) (unprefixed t prefixed (word_text feature_word) refl)
-    ∙ ap (λ b. cond b (Some if_feature_word) None) (unprefixed t prefixed (word_text if_feature_word) refl))
+    ∙ (not_named t prefixed feature_word refl _ ∙ (not_named t prefixed if_feature_word refl _
+    ∙ (not_named t prefixed pattern_word refl _ ∙ not_named t prefixed modifier_word refl None)))
 
 -- ---- a row of statements
 
@@ -201,7 +226,7 @@ module _ (language : Language) (version : YangVersion) (m : ℕ) where
   Inside : Word → List Break → Forest (Keyword × Statement) → Type 0
   Inside w inner f = (allowed : List narrow.Allowed) → Covers (rule_in language version w).substatements allowed → inner ≡ [] → (n : ℕ) → IsLegal m allowed (numbered m n f)
 
-  -- a feature or a condition
+  -- one that the core doesn't have
   legal_added : (number : ℕ) (rows : List Allowed) (allowed : List narrow.Allowed) (w : Word) → Covers (rule_in language version w).substatements (may_stand extension_word)
       → same_word w (known extension_word) ≡ false → keyword_kept w ≡ Some extension_word
       → (s : Statement) (below : Forest Statement) (inner : List Break) (f g : Forest (Keyword × Statement))
@@ -262,6 +287,10 @@ module _ (language : Language) (version : YangVersion) (m : ℕ) where
       legal_added number rows allowed feature_word (covers_feature language version) refl refl s below inner f g e (inside feature_word refl) rest
   legal_named number rows allowed covers s below inner f g false (Some if_feature_word) is e inside rest =
       legal_added number rows allowed if_feature_word (covers_condition language version) refl refl s below inner f g e (inside if_feature_word refl) rest
+  legal_named number rows allowed covers s below inner f g false (Some pattern_word) is e inside rest =
+      legal_added number rows allowed pattern_word (covers_pattern language version) refl refl s below inner f g e (inside pattern_word refl) rest
+  legal_named number rows allowed covers s below inner f g false (Some modifier_word) is e inside rest =
+      legal_added number rows allowed modifier_word (covers_modifier language version) refl refl s below inner f g e (inside modifier_word refl) rest
 
   pub legal_row : (rows : List Allowed) (allowed : List narrow.Allowed) → Covers rows allowed → (f : Forest Statement) → row_breaks_in language version m rows f ≡ []
       → (number : ℕ) → IsLegal m allowed (numbered m number (kept_in language f))
@@ -317,6 +346,8 @@ is_module language m s below e = by (word_named language s.keyword) refl e
     by (Some (known k)) is e = named k is (same_keyword module_word k) refl e
     by (Some feature_word) is e = absurd cc
     by (Some if_feature_word) is e = absurd cc
+    by (Some pattern_word) is e = absurd cc
+    by (Some modifier_word) is e = absurd cc
 
 -- a module is one source, and the others follow
 pub sources_first : (language : Language) (home number : ℕ) (s : Statement) (below after : Forest Statement) → kept_keyword_in language s ≡ Some module_word

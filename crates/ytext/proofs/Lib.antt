@@ -10,3 +10,5 @@ pub mod ScannerLemmas
 pub mod TextLemmas
 pub mod TokenLemmas
 pub mod ParseLemmas
+pub mod VersionLemmas
+pub mod StatedLemmas

@@ -6,7 +6,8 @@ use Rattle.yspec.specs.text.Token.{Token, double, double_text, bad_escape_line}
 use Rattle.yspec.specs.text.Statement.{Slip, slip, ◌>>=◌, piece, pieces, after_piece, appended, is_plus, begins_quoted}
 use Rattle.yspec.specs.Results.{Fails}
 use Rattle.ytext.specs.Told.{told_by, number_of}
-use Rattle.ytext.specs.Quoted.{said, reading}
+use Rattle.ytext.specs.Quoted.{said, reading, reading_in}
+use Rattle.ytext.specs.Versions.{raw_in}
 use Rattle.ytext.specs.Reading.{piece_behind, behind_piece}
 use Rattle.ytext.specs.declared.fault.TextFault.{TextFault}
 use Rattle.ytext.specs.declared.fault.TextFault.TheVariants.{Refused, Memory}
@@ -52,9 +53,9 @@ by_option : (o : Option ℕ) (text before : Text) → option_map_or (λ bad. sli
 by_option None text before = refl
 by_option (Some bad) text before = refl
 
-pub reading_piece : (column line : ℕ) (before raw : Text) → reading column 0 line before raw ≡ piece line (double column raw) >>= (λ t. Ok (before ++ t))
-unfolding reading said
-reading_piece column line before raw = by_option (bad_escape_line false line raw) (double_text column raw) before
+pub reading_piece : (is_yang_1 : Bool) (column line : ℕ) (before raw : Text) → reading_in is_yang_1 column 0 line before raw ≡ piece line (double column (raw_in is_yang_1 raw)) >>= (λ t. Ok (before ++ t))
+unfolding reading_in reading said
+reading_piece is_yang_1 column line before raw = by_option (bad_escape_line false line (raw_in is_yang_1 raw)) (double_text column (raw_in is_yang_1 raw)) before
 
 appended_nothing : (r : Result (Text × List Token) Slip) → r >>= appended [] ≡ r
 appended_nothing (Ok m) = refl

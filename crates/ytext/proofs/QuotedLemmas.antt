@@ -9,7 +9,9 @@ use Rattle.std.proofs.lemmas.List.{drop-drop, drop_all, take-append-drop}
 use Rattle.yspec.specs.text.Text.{Text, begins, line_feed, carriage_return, space, tab, backslash, is_blank, line_after}
 use Rattle.yspec.specs.text.Token.{joined_breaks, trimmed_ends, stripped_starts, escape, unescaped, bad_escape_line}
 use Rattle.yspec.specs.text.Statement.{slip}
-use Rattle.ytext.specs.Quoted.{said, reading, all_blank, is_solid, is_break, is_plain, blank_width}
+use Rattle.ytext.specs.Quoted.{said, reading, reading_in, all_blank, is_solid, is_break, is_plain, blank_width}
+use Rattle.yspec_wide.specs.Texts.{mended}
+use Rattle.ytext.specs.Versions.{raw_in}
 use Rattle.ytext.proofs.ScanLemmas.{drop_at}
 use Rattle.ytext.proofs.TokenLemmas.{nothing_between, stretched}
 
@@ -374,24 +376,156 @@ reading_plain width left line x text xs e =
     let solid = and_right (not (x == backslash)) (is_solid (x ∷ xs)) e in
     reading_other width left line x text xs (solid_feed x xs solid) (not_true (x == backslash) (and_left (not (x == backslash)) (is_solid (x ∷ xs)) e)) (solid_blank x xs solid) (solid_return x xs solid)
 
+-- ---- in each version: a text of YANG 1 is read as it is mended
+
+is_or_not : (b : Bool) → (b ≡ true) ⊎ (b ≡ false)
+is_or_not true = inl refl
+is_or_not false = inr refl
+
+some_not_none : Some backslash ≡ None → ⊥
+some_not_none e = cc
+
+begins_mended : (ys : List ℕ) → begins line_feed (mended false ys) ≡ begins line_feed ys
+unfolding mended
+begins_mended [] = refl
+begins_mended (y ∷ ys) = refl
+
+break_mended : (ys : List ℕ) → is_break (mended false ys) ≡ is_break ys
+unfolding mended
+break_mended [] = refl
+break_mended (y ∷ ys) = elim (is_or_not (y == backslash)) [
+  | inl h ↦ ap (λ (x : ℕ). is_break (x ∷ mended (x == backslash) ys)) (eqb-true y backslash h) ∙ sym (ap (λ (x : ℕ). is_break (x ∷ ys)) (eqb-true y backslash h))
+  | inr h ↦ ap (λ (b : Bool). is_break (y ∷ mended b ys)) h ∙ ap (λ (b : Bool). y == line_feed || (y == carriage_return && b)) (begins_mended ys)
+]
+
+solid_mended : (ys : List ℕ) → is_solid (mended false ys) ≡ is_solid ys
+unfolding mended
+solid_mended [] = refl
+solid_mended (y ∷ ys) = ap (λ (b : Bool). not (is_blank y) && not b) (break_mended (y ∷ ys))
+
+-- a stretch without backslashes stays
+mended_kept : (x : ℕ) (xs : List ℕ) → (x == backslash) ≡ false → mended false (x ∷ xs) ≡ x ∷ mended false xs
+unfolding mended
+mended_kept x xs e = ap (λ (b : Bool). x ∷ mended b xs) e
+
+mended_blanks : (bs ys : List ℕ) → all_blank bs ≡ true → mended false (bs ++ ys) ≡ bs ++ mended false ys
+mended_blanks [] ys e = refl
+mended_blanks (b ∷ bs) ys e =
+    mended_kept b (bs ++ ys) (blank_not b backslash refl refl (and_left (is_blank b) (all_blank bs) e))
+    ∙ ap (λ (r : List ℕ). b ∷ r) (mended_blanks bs ys (and_right (is_blank b) (all_blank bs) e))
+
+mended_escape : (y : ℕ) (xs : List ℕ) (o : Option ℕ) → escape y ≡ o → mended false (92 ∷ y ∷ xs) ≡ 92 ∷ option_map_or (λ _. y ∷ mended false xs) o (92 ∷ y ∷ mended false xs)
+unfolding mended
+mended_escape y xs o e = ap (λ (p : Option ℕ). 92 ∷ option_map_or (λ _. y ∷ mended false xs) p (92 ∷ y ∷ mended false xs)) e
+
+feeds_mended : (after_backslash : Bool) (xs : List ℕ) → list_any (λ y. y == line_feed) xs ≡ false → list_any (λ y. y == line_feed) (mended after_backslash xs) ≡ false
+unfolding mended
+feeds_mended after_backslash [] e = refl
+feeds_mended false (x ∷ xs) e =
+    ap (λ (b : Bool). b || list_any (λ y. y == line_feed) (mended (x == backslash) xs)) (or_left (x == line_feed) (list_any (λ y. y == line_feed) xs) e)
+    ∙ feeds_mended (x == backslash) xs (or_right (x == line_feed) (list_any (λ y. y == line_feed) xs) e)
+feeds_mended true (x ∷ xs) e =
+    let kept = ap (λ (b : Bool). b || list_any (λ y. y == line_feed) (mended false xs)) (or_left (x == line_feed) (list_any (λ y. y == line_feed) xs) e)
+    ∙ feeds_mended false xs (or_right (x == line_feed) (list_any (λ y. y == line_feed) xs) e) in
+    either_way (escape x) (x ∷ mended false xs) kept
+  where
+    either_way : (o : Option ℕ) (rest : List ℕ) → list_any (λ y. y == line_feed) rest ≡ false → list_any (λ y. y == line_feed) (option_map_or (λ _. rest) o (backslash ∷ rest)) ≡ false
+    either_way None rest h = h
+    either_way (Some z) rest h = h
+
+-- a character behind a backslash that isn't one of an escape is no backslash
+pub no_backslash : (y : ℕ) → escape y ≡ None → (y == backslash) ≡ false
+no_backslash y e = elim (is_or_not (y == backslash)) [
+  | inl h ↦ absurd (some_not_none (sym (ap escape (eqb-true y backslash h)) ∙ e))
+  | inr h ↦ h
+]
+
+in_none : (v : Bool) (width left line : ℕ) (text : Text) → reading_in v width left line text [] ≡ Ok text
+unfolding reading_in mended
+in_none false width left line text = reading_none width left line text
+in_none true width left line text = reading_none width left line text
+
+in_feed : (v : Bool) (width left line : ℕ) (text : Text) (xs : List ℕ) → reading_in v width left line text (10 ∷ xs) ≡ reading_in v width width (line + 1) (text ++ 10 ∷ []) xs
+unfolding reading_in mended
+in_feed false width left line text xs = reading_feed width left line text xs
+in_feed true width left line text xs = reading_feed width left line text (mended false xs)
+
+in_return : (v : Bool) (width left line : ℕ) (text : Text) (xs : List ℕ) → begins line_feed xs ≡ true → reading_in v width left line text (13 ∷ xs) ≡ reading_in v width left line text xs
+unfolding reading_in mended
+in_return false width left line text xs e = reading_return width left line text xs e
+in_return true width left line text xs e = reading_return width left line text (mended false xs) (begins_mended xs ∙ e)
+
+in_plain : (v : Bool) (width left line x : ℕ) (text : Text) (xs : List ℕ) → is_plain (x ∷ xs) ≡ true
+    → reading_in v width left line text (x ∷ xs) ≡ reading_in v width 0 line (text ++ x ∷ []) xs
+unfolding reading_in
+in_plain false width left line x text xs e = reading_plain width left line x text xs e
+in_plain true width left line x text xs e =
+    let other = not_true (x == backslash) (and_left (not (x == backslash)) (is_solid (x ∷ xs)) e) in
+    let kept = mended_kept x xs other in
+    ap (reading width left line text) kept
+    ∙ reading_plain width left line x text (mended false xs)
+    (ap (λ (b : Bool). not b && is_solid (x ∷ mended false xs)) other ∙ ap is_solid (sym kept) ∙ solid_mended (x ∷ xs) ∙ and_right (not (x == backslash)) (is_solid (x ∷ xs)) e)
+
+in_escape : (v : Bool) (width left line y z : ℕ) (text : Text) (xs : List ℕ) → escape y ≡ Some z
+    → reading_in v width left line text (92 ∷ y ∷ xs) ≡ reading_in v width 0 line (text ++ z ∷ []) xs
+unfolding reading_in
+in_escape false width left line y z text xs e = reading_escape width left line y z text xs e
+in_escape true width left line y z text xs e =
+    ap (reading width left line text) (mended_escape y xs (Some z) e) ∙ reading_escape width left line y z text (mended false xs) e
+
+in_wrong : (v : Bool) (width left line y : ℕ) (text : Text) (xs : List ℕ) → v ≡ false → escape y ≡ None → reading_in v width left line text (92 ∷ y ∷ xs) ≡ slip 4 line
+unfolding reading_in
+in_wrong v width left line y text xs old e =
+    ap (λ (b : Bool). reading width left line text (raw_in b (92 ∷ y ∷ xs))) old ∙ reading_wrong width left line y text xs e
+
+-- in YANG 1 a backslash before another character is itself
+in_itself : (v : Bool) (width left line y : ℕ) (text : Text) (xs : List ℕ) → v ≡ true → escape y ≡ None
+    → reading_in v width left line text (92 ∷ y ∷ xs) ≡ reading_in v width 0 line (text ++ 92 ∷ []) (y ∷ xs)
+unfolding reading_in
+in_itself v width left line y text xs new e =
+    ap (λ (b : Bool). reading width left line text (raw_in b (92 ∷ y ∷ xs))) new
+    ∙ ap (reading width left line text) (mended_escape y xs None e)
+    ∙ reading_92 width left line text (y ∷ mended false xs)
+    ∙ ap (reading width 0 line (text ++ 92 ∷ [])) (sym (mended_kept y xs (no_backslash y e)))
+    ∙ sym (ap (λ (b : Bool). reading width 0 line (text ++ 92 ∷ []) (raw_in b (y ∷ xs))) new)
+
+in_alone : (v : Bool) (width left line : ℕ) (text : Text) → reading_in v width left line text (92 ∷ []) ≡ Ok text
+unfolding reading_in mended
+in_alone false width left line text = reading_alone width left line text
+in_alone true width left line text = reading_alone width left line text
+
+in_dropped : (v : Bool) (width left line : ℕ) (text : Text) (bs ys : List ℕ) → all_blank bs ≡ true → is_break ys ≡ true
+    → reading_in v width left line text (bs ++ ys) ≡ reading_in v width left line text ys
+unfolding reading_in
+in_dropped false width left line text bs ys e f = blanks_dropped width left line text bs ys e f
+in_dropped true width left line text bs ys e f =
+    ap (reading width left line text) (mended_blanks bs ys e) ∙ blanks_dropped width left line text bs (mended false ys) e (break_mended ys ∙ f)
+
+in_kept : (v : Bool) (width left line : ℕ) (text : Text) (bs ys : List ℕ) → all_blank bs ≡ true → is_solid ys ≡ true
+    → reading_in v width left line text (bs ++ ys) ≡ reading_in v width 0 line (text ++ stripped_starts 0 left bs) ys
+unfolding reading_in
+in_kept false width left line text bs ys e f = blanks_kept width left line text bs ys e f
+in_kept true width left line text bs ys e f =
+    ap (reading width left line text) (mended_blanks bs ys e) ∙ blanks_kept width left line text bs (mended false ys) e (solid_mended ys ∙ f)
+
 -- ---- places of the string
 
 -- a plain character at a place, with those of its stretch before it
-pub plain_first : (width left line : ℕ) (text : Text) (raw : List ℕ) (i : ℕ) → i < length raw → is_plain (drop i raw) ≡ true
-    → reading width left line text (drop i raw) ≡ reading width 0 line (text ++ slice_range raw i (i + 1)) (drop (i + 1) raw)
-plain_first width left line text raw i l e =
+pub plain_first : (v : Bool) (width left line : ℕ) (text : Text) (raw : List ℕ) (i : ℕ) → i < length raw → is_plain (drop i raw) ≡ true
+    → reading_in v width left line text (drop i raw) ≡ reading_in v width 0 line (text ++ slice_range raw i (i + 1)) (drop (i + 1) raw)
+plain_first v width left line text raw i l e =
     let there = drop_at raw i l in
     let one : slice_range raw i (i + 1) ≡ get_or raw i 0 ∷ [] = stretched raw i i (le_refl i) l ∙ ap (λ (r : List ℕ). r ++ get_or raw i 0 ∷ []) (nothing_between raw i) in
-    ap (reading width left line text) there ∙ reading_plain width left line (get_or raw i 0) text (drop (i + 1) raw) (ap is_plain (sym there) ∙ e)
-    ∙ ap (λ (r : List ℕ). reading width 0 line (text ++ r) (drop (i + 1) raw)) (sym one)
+    ap (reading_in v width left line text) there ∙ in_plain v width left line (get_or raw i 0) text (drop (i + 1) raw) (ap is_plain (sym there) ∙ e)
+    ∙ ap (λ (r : List ℕ). reading_in v width 0 line (text ++ r) (drop (i + 1) raw)) (sym one)
 
-pub plain_next : (width line : ℕ) (text : Text) (raw : List ℕ) (from i : ℕ) → from ≤ i → i < length raw → is_plain (drop i raw) ≡ true
-    → reading width 0 line (text ++ slice_range raw from i) (drop i raw) ≡ reading width 0 line (text ++ slice_range raw from (i + 1)) (drop (i + 1) raw)
-plain_next width line text raw from i h l e =
+pub plain_next : (v : Bool) (width line : ℕ) (text : Text) (raw : List ℕ) (from i : ℕ) → from ≤ i → i < length raw → is_plain (drop i raw) ≡ true
+    → reading_in v width 0 line (text ++ slice_range raw from i) (drop i raw) ≡ reading_in v width 0 line (text ++ slice_range raw from (i + 1)) (drop (i + 1) raw)
+plain_next v width line text raw from i h l e =
     let there = drop_at raw i l in
-    ap (reading width 0 line (text ++ slice_range raw from i)) there
-    ∙ reading_plain width 0 line (get_or raw i 0) (text ++ slice_range raw from i) (drop (i + 1) raw) (ap is_plain (sym there) ∙ e)
-    ∙ ap (λ (r : List ℕ). reading width 0 line r (drop (i + 1) raw)) (append_assoc text (slice_range raw from i) (get_or raw i 0 ∷ []) ∙ ap (λ (r : List ℕ). text ++ r) (sym (stretched raw from i h l)))
+    ap (reading_in v width 0 line (text ++ slice_range raw from i)) there
+    ∙ in_plain v width 0 line (get_or raw i 0) (text ++ slice_range raw from i) (drop (i + 1) raw) (ap is_plain (sym there) ∙ e)
+    ∙ ap (λ (r : List ℕ). reading_in v width 0 line r (drop (i + 1) raw)) (append_assoc text (slice_range raw from i) (get_or raw i 0 ∷ []) ∙ ap (λ (r : List ℕ). text ++ r) (sym (stretched raw from i h l)))
 
 -- ---- tests at a place
 
@@ -504,66 +638,72 @@ solid_at raw i blank e = elim (lt_or_le i (length raw)) [
   | inr l ↦ ap is_solid (drop_all i raw l)
 ]
 
-pub step_feed : (width left line : ℕ) (text new : Text) (raw : List ℕ) (i j : ℕ) → i < length raw → get_or raw i 0 ≡ 10 → new ≡ text ++ 10 ∷ [] → j ≡ i + 1
-    → reading width width (line + 1) new (drop j raw) ≡ reading width left line text (drop i raw)
-step_feed width left line text new raw i j l feed is e =
-    ap (λ (k : ℕ). reading width width (line + 1) new (drop k raw)) e ∙ ap (λ (t : Text). reading width width (line + 1) t (drop (i + 1) raw)) is
-    ∙ sym (reading_feed width left line text (drop (i + 1) raw)) ∙ ap (λ (x : ℕ). reading width left line text (x ∷ drop (i + 1) raw)) (sym feed)
-    ∙ ap (reading width left line text) (sym (drop_at raw i l))
+pub step_feed : (v : Bool) (width left line : ℕ) (text new : Text) (raw : List ℕ) (i j : ℕ) → i < length raw → get_or raw i 0 ≡ 10 → new ≡ text ++ 10 ∷ [] → j ≡ i + 1
+    → reading_in v width width (line + 1) new (drop j raw) ≡ reading_in v width left line text (drop i raw)
+step_feed v width left line text new raw i j l feed is e =
+    ap (λ (k : ℕ). reading_in v width width (line + 1) new (drop k raw)) e ∙ ap (λ (t : Text). reading_in v width width (line + 1) t (drop (i + 1) raw)) is
+    ∙ sym (in_feed v width left line text (drop (i + 1) raw)) ∙ ap (λ (x : ℕ). reading_in v width left line text (x ∷ drop (i + 1) raw)) (sym feed)
+    ∙ ap (reading_in v width left line text) (sym (drop_at raw i l))
 
-pub step_return : (width left line : ℕ) (text : Text) (raw : List ℕ) (i j : ℕ) → i < length raw → get_or raw i 0 ≡ 13 → begins line_feed (drop (i + 1) raw) ≡ true → j ≡ i + 1
-    → reading width left line text (drop j raw) ≡ reading width left line text (drop i raw)
-step_return width left line text raw i j l return feed e =
-    ap (λ (k : ℕ). reading width left line text (drop k raw)) e
-    ∙ sym (reading_return width left line text (drop (i + 1) raw) feed) ∙ ap (λ (x : ℕ). reading width left line text (x ∷ drop (i + 1) raw)) (sym return)
-    ∙ ap (reading width left line text) (sym (drop_at raw i l))
+pub step_return : (v : Bool) (width left line : ℕ) (text : Text) (raw : List ℕ) (i j : ℕ) → i < length raw → get_or raw i 0 ≡ 13 → begins line_feed (drop (i + 1) raw) ≡ true → j ≡ i + 1
+    → reading_in v width left line text (drop j raw) ≡ reading_in v width left line text (drop i raw)
+step_return v width left line text raw i j l return feed e =
+    ap (λ (k : ℕ). reading_in v width left line text (drop k raw)) e
+    ∙ sym (in_return v width left line text (drop (i + 1) raw) feed) ∙ ap (λ (x : ℕ). reading_in v width left line text (x ∷ drop (i + 1) raw)) (sym return)
+    ∙ ap (reading_in v width left line text) (sym (drop_at raw i l))
 
-pub step_plain : (width left line : ℕ) (text new piece : Text) (raw : List ℕ) (i j : ℕ)
-    → reading width left line text (drop i raw) ≡ reading width 0 line (text ++ slice_range raw i j) (drop j raw) → piece ≡ slice_range raw i j → new ≡ text ++ piece
-    → reading width 0 line new (drop j raw) ≡ reading width left line text (drop i raw)
-step_plain width left line text new piece raw i j same is e =
-    ap (λ (t : Text). reading width 0 line t (drop j raw)) (e ∙ ap (λ (t : Text). text ++ t) is) ∙ sym same
+pub step_plain : (v : Bool) (width left line : ℕ) (text new piece : Text) (raw : List ℕ) (i j : ℕ)
+    → reading_in v width left line text (drop i raw) ≡ reading_in v width 0 line (text ++ slice_range raw i j) (drop j raw) → piece ≡ slice_range raw i j → new ≡ text ++ piece
+    → reading_in v width 0 line new (drop j raw) ≡ reading_in v width left line text (drop i raw)
+step_plain v width left line text new piece raw i j same is e =
+    ap (λ (t : Text). reading_in v width 0 line t (drop j raw)) (e ∙ ap (λ (t : Text). text ++ t) is) ∙ sym same
 
-pub step_dropped : (width left line : ℕ) (text : Text) (raw : List ℕ) (i j : ℕ) → i ≤ j → all_blank (slice_range raw i j) ≡ true → is_break (drop j raw) ≡ true
-    → reading width left line text (drop j raw) ≡ reading width left line text (drop i raw)
-step_dropped width left line text raw i j h e f =
-    sym (ap (reading width left line text) (cut_at raw i j h) ∙ blanks_dropped width left line text (slice_range raw i j) (drop j raw) e f)
+pub step_dropped : (v : Bool) (width left line : ℕ) (text : Text) (raw : List ℕ) (i j : ℕ) → i ≤ j → all_blank (slice_range raw i j) ≡ true → is_break (drop j raw) ≡ true
+    → reading_in v width left line text (drop j raw) ≡ reading_in v width left line text (drop i raw)
+step_dropped v width left line text raw i j h e f =
+    sym (ap (reading_in v width left line text) (cut_at raw i j h) ∙ in_dropped v width left line text (slice_range raw i j) (drop j raw) e f)
 
-pub step_kept : (width left line : ℕ) (text new : Text) (raw : List ℕ) (i j : ℕ) → i ≤ j → all_blank (slice_range raw i j) ≡ true → is_solid (drop j raw) ≡ true
+pub step_kept : (v : Bool) (width left line : ℕ) (text new : Text) (raw : List ℕ) (i j : ℕ) → i ≤ j → all_blank (slice_range raw i j) ≡ true → is_solid (drop j raw) ≡ true
     → new ≡ text ++ stripped_starts 0 left (slice_range raw i j)
-    → reading width 0 line new (drop j raw) ≡ reading width left line text (drop i raw)
-step_kept width left line text new raw i j h e f is =
-    ap (λ (t : Text). reading width 0 line t (drop j raw)) is
-    ∙ sym (ap (reading width left line text) (cut_at raw i j h) ∙ blanks_kept width left line text (slice_range raw i j) (drop j raw) e f)
+    → reading_in v width 0 line new (drop j raw) ≡ reading_in v width left line text (drop i raw)
+step_kept v width left line text new raw i j h e f is =
+    ap (λ (t : Text). reading_in v width 0 line t (drop j raw)) is
+    ∙ sym (ap (reading_in v width left line text) (cut_at raw i j h) ∙ in_kept v width left line text (slice_range raw i j) (drop j raw) e f)
 
 slash_pair : (raw : List ℕ) (i j : ℕ) → j ≡ i + 1 → j < length raw → get_or raw i 0 ≡ 92 → drop i raw ≡ 92 ∷ get_or raw j 0 ∷ drop (j + 1) raw
 slash_pair raw i j e l slash =
     drop_at raw i (omega arith) ∙ ap (λ (x : ℕ). x ∷ drop (i + 1) raw) slash ∙ ap (λ (k : ℕ). 92 ∷ drop k raw) (sym e) ∙ ap (λ (ys : List ℕ). 92 ∷ ys) (drop_at raw j l)
 
-pub step_escape : (width left line z : ℕ) (text new : Text) (raw : List ℕ) (i j k : ℕ) → j ≡ i + 1 → k ≡ j + 1 → j < length raw → get_or raw i 0 ≡ 92
-    → Some z ≡ escape (get_or raw j 0) → new ≡ text ++ z ∷ [] → reading width 0 line new (drop k raw) ≡ reading width left line text (drop i raw)
-step_escape width left line z text new raw i j k e f l slash stands is =
-    ap (λ (n : ℕ). reading width 0 line new (drop n raw)) f ∙ ap (λ (t : Text). reading width 0 line t (drop (j + 1) raw)) is
-    ∙ sym (ap (reading width left line text) (slash_pair raw i j e l slash) ∙ reading_escape width left line (get_or raw j 0) z text (drop (j + 1) raw) (sym stands))
+pub step_escape : (v : Bool) (width left line z : ℕ) (text new : Text) (raw : List ℕ) (i j k : ℕ) → j ≡ i + 1 → k ≡ j + 1 → j < length raw → get_or raw i 0 ≡ 92
+    → Some z ≡ escape (get_or raw j 0) → new ≡ text ++ z ∷ [] → reading_in v width 0 line new (drop k raw) ≡ reading_in v width left line text (drop i raw)
+step_escape v width left line z text new raw i j k e f l slash stands is =
+    ap (λ (n : ℕ). reading_in v width 0 line new (drop n raw)) f ∙ ap (λ (t : Text). reading_in v width 0 line t (drop (j + 1) raw)) is
+    ∙ sym (ap (reading_in v width left line text) (slash_pair raw i j e l slash) ∙ in_escape v width left line (get_or raw j 0) z text (drop (j + 1) raw) (sym stands))
 
-pub step_wrong : (width left line : ℕ) (text : Text) (raw : List ℕ) (i j : ℕ) → j ≡ i + 1 → j < length raw → get_or raw i 0 ≡ 92
-    → None ≡ escape (get_or raw j 0) → reading width left line text (drop i raw) ≡ slip 4 line
-step_wrong width left line text raw i j e l slash stands =
-    ap (reading width left line text) (slash_pair raw i j e l slash) ∙ reading_wrong width left line (get_or raw j 0) text (drop (j + 1) raw) (sym stands)
+pub step_wrong : (v : Bool) (width left line : ℕ) (text : Text) (raw : List ℕ) (i j : ℕ) → v ≡ false → j ≡ i + 1 → j < length raw → get_or raw i 0 ≡ 92
+    → None ≡ escape (get_or raw j 0) → reading_in v width left line text (drop i raw) ≡ slip 4 line
+step_wrong v width left line text raw i j old e l slash stands =
+    ap (reading_in v width left line text) (slash_pair raw i j e l slash) ∙ in_wrong v width left line (get_or raw j 0) text (drop (j + 1) raw) old (sym stands)
 
-pub step_alone : (width left line : ℕ) (text : Text) (raw : List ℕ) (i j : ℕ) → j ≡ i + 1 → i < length raw → j ≡ length raw → get_or raw i 0 ≡ 92
-    → reading width left line text (drop j raw) ≡ reading width left line text (drop i raw)
-step_alone width left line text raw i j e l f slash =
+pub step_itself : (v : Bool) (width left line : ℕ) (text more : Text) (raw : List ℕ) (i j : ℕ) → v ≡ true → j ≡ i + 1 → j < length raw → get_or raw i 0 ≡ 92
+    → None ≡ escape (get_or raw j 0) → more ≡ text ++ 92 ∷ [] → reading_in v width 0 line more (drop j raw) ≡ reading_in v width left line text (drop i raw)
+step_itself v width left line text more raw i j new e l slash stands is =
+    ap (λ (t : Text). reading_in v width 0 line t (drop j raw)) is ∙ ap (reading_in v width 0 line (text ++ 92 ∷ [])) (drop_at raw j l)
+    ∙ sym (ap (reading_in v width left line text) (slash_pair raw i j e l slash) ∙ in_itself v width left line (get_or raw j 0) text (drop (j + 1) raw) new (sym stands))
+
+pub step_alone : (v : Bool) (width left line : ℕ) (text : Text) (raw : List ℕ) (i j : ℕ) → j ≡ i + 1 → i < length raw → j ≡ length raw → get_or raw i 0 ≡ 92
+    → reading_in v width left line text (drop j raw) ≡ reading_in v width left line text (drop i raw)
+step_alone v width left line text raw i j e l f slash =
     let none = drop_all j raw (omega arith) in
-    ap (reading width left line text) none ∙ reading_none width left line text
-    ∙ sym (ap (reading width left line text) (drop_at raw i l ∙ ap (λ (x : ℕ). x ∷ drop (i + 1) raw) slash ∙ ap (λ (k : ℕ). 92 ∷ drop k raw) (sym e) ∙ ap (λ (ys : List ℕ). 92 ∷ ys) none) ∙ reading_alone width left line text)
+    ap (reading_in v width left line text) none ∙ in_none v width left line text
+    ∙ sym (ap (reading_in v width left line text) (drop_at raw i l ∙ ap (λ (x : ℕ). x ∷ drop (i + 1) raw) slash ∙ ap (λ (k : ℕ). 92 ∷ drop k raw) (sym e) ∙ ap (λ (ys : List ℕ). 92 ∷ ys) none) ∙ in_alone v width left line text)
 
 pub returned : (raw : List ℕ) (i : ℕ) → (get_or raw i 0 == carriage_return && begins line_feed (drop (i + 1) raw)) ≡ true
     → (get_or raw i 0 ≡ 13) × (begins line_feed (drop (i + 1) raw) ≡ true)
 returned raw i e = (eqb-true (get_or raw i 0) 13 (and_left (get_or raw i 0 == carriage_return) (begins line_feed (drop (i + 1) raw)) e), and_right (get_or raw i 0 == carriage_return) (begins line_feed (drop (i + 1) raw)) e)
 
-pub reading_done : (width left line : ℕ) (text : Text) (raw : List ℕ) (i : ℕ) → length raw ≤ i → reading width left line text (drop i raw) ≡ Ok text
-reading_done width left line text raw i h = ap (reading width left line text) (drop_all i raw h) ∙ reading_none width left line text
+pub reading_done : (v : Bool) (width left line : ℕ) (text : Text) (raw : List ℕ) (i : ℕ) → length raw ≤ i → reading_in v width left line text (drop i raw) ≡ Ok text
+reading_done v width left line text raw i h = ap (reading_in v width left line text) (drop_all i raw h) ∙ in_none v width left line text
 
 -- ---- a string in which no line breaks
 
@@ -600,10 +740,16 @@ stripped_alike width other left (x ∷ xs) e =
     let rest = or_right (x == line_feed) (feeds xs) e in
     rw (feed, stripped_alike width other (left - 1) xs rest, stripped_alike width other (left - 8) xs rest, stripped_alike width other 0 xs rest) refl
 
-pub width_unasked : (width other line : ℕ) (text : Text) (raw : List ℕ) → list_any (λ y. y == line_feed) raw ≡ false
+plain_unasked : (width other line : ℕ) (text : Text) (raw : List ℕ) → list_any (λ y. y == line_feed) raw ≡ false
     → reading width 0 line text raw ≡ reading other 0 line text raw
 unfolding reading said
-width_unasked width other line text raw e =
+plain_unasked width other line text raw e =
     let same : trimmed_ends (joined_breaks raw) ≡ raw = ap trimmed_ends (joined_whole raw e) ∙ trimmed_whole raw e in
     ap (λ (ys : List ℕ). option_map_or (λ bad. slip 4 bad) (bad_escape_line false line raw) (Ok (text ++ unescaped false ys)))
     (ap (stripped_starts width 0) same ∙ stripped_alike width other 0 raw e ∙ ap (stripped_starts other 0) (sym same))
+
+pub width_unasked : (v : Bool) (width other line : ℕ) (text : Text) (raw : List ℕ) → list_any (λ y. y == line_feed) raw ≡ false
+    → reading_in v width 0 line text raw ≡ reading_in v other 0 line text raw
+unfolding reading_in
+width_unasked false width other line text raw e = plain_unasked width other line text raw e
+width_unasked true width other line text raw e = plain_unasked width other line text (mended false raw) (feeds_mended false raw e)

@@ -12,8 +12,8 @@ use Rattle.ytext.specs.View.{row_view}
 use Rattle.ytext.specs.View.{lexeme_of, ends_text}
 use Rattle.ytext.specs.declared.cursor.Cursor.{Cursor}
 use Rattle.ytext.specs.declared.cursor.Lexed.{Lexed}
-use Rattle.ytext.specs.declared.cursor.Lexeme.{Lexeme}
-use Rattle.ytext.specs.declared.cursor.Lexeme.TheVariants.{Word}
+use Rattle.ytext.specs.declared.lexeme.Lexeme.{Lexeme}
+use Rattle.ytext.specs.declared.lexeme.Lexeme.TheVariants.{Word}
 use Rattle.ytext.specs.declared.fault.TextFault.{TextFault}
 use Rattle.ytext.specs.declared.fault.TextFault.TheVariants.{Refused, Memory}
 use Rattle.ytext.specs.declared.reader.Reader.{Reader}

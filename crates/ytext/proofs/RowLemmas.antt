@@ -137,7 +137,7 @@ statement_by true inner level keyword line ts h x e =
     omega (arith, first, second, ap (λ (y : Row). length y.1) same)
 statement_by false inner level keyword line ts h x e = cc
 
-statement_shrinks : (inner : List Token → Result Row Slip) (level : ℕ) (keyword : Text) (line : ℕ) (ts : List Token) → AllShrink inner → Shrinks (length ts) (statement inner level keyword line ts)
+pub statement_shrinks : (inner : List Token → Result Row Slip) (level : ℕ) (keyword : Text) (line : ℕ) (ts : List Token) → AllShrink inner → Shrinks (length ts) (statement inner level keyword line ts)
 statement_shrinks inner level keyword line ts h x e = statement_by (is_name keyword) inner level keyword line ts h x e
 
 stay : (t : Token) (ts : List Token) → Shrinks {A = Forest Statement} (suc (length ts)) (Ok (end, t ∷ ts))
@@ -231,7 +231,7 @@ enough (suc f) (suc g) level (t ∷ ts) h k =
 pub rows_agree : (n level : ℕ) → Agree n (statements n level) (rows level)
 rows_agree n level us m = enough n (length us) level us m (le_refl (length us))
 
-rows_shrink : (level : ℕ) → AllShrink (rows level)
+pub rows_shrink : (level : ℕ) → AllShrink (rows level)
 rows_shrink level us = statements_shrink (length us) level us
 
 -- a row by its first token

@@ -2,6 +2,8 @@
 use Rattle.std.proofs.Common.{◌≡◌, ℕ, suc, ◌+◌, ◌<◌, ◌≤◌, List, ◌∷◌, Bool, true, false, cond, Option, Some, None, option_map, length, drop, get_or, refl, ap, ◌∙◌, arith, drop-cons, ◌==◌, ◌&&◌, not}
 use Rattle.std.proofs.lemmas.List.{drop_all}
 use Rattle.yspec.specs.text.Text.{begins, star, slash, double_quote, backslash}
+use Rattle.yspec_wide.specs.Texts.{is_quote, argument_length}
+use Rattle.ytext.specs.Versions.{ends_run, run_length}
 use Rattle.yspec.specs.text.Token.{ends_word, word_length, comment_rest_length, double_length}
 
 pub drop_at : (xs : List ℕ) (i : ℕ) → i < length xs → drop i xs ≡ get_or xs i 0 ∷ drop (i + 1) xs
@@ -11,18 +13,31 @@ pub shift_some : (o : Option ℕ) (i : ℕ) → option_map (λ n. i + n) (option
 shift_some None i = refl
 shift_some (Some n) i = ap Some (omega arith)
 
-pub word_more : (xs : List ℕ) (i : ℕ) → i < length xs → ends_word (get_or xs i 0) (drop (i + 1) xs) ≡ false
-    → i + word_length (drop i xs) ≡ (i + 1) + word_length (drop (i + 1) xs)
-word_more xs i h e =
+pub run_test : (keeps_quotes : Bool) (x : ℕ) (xs : List ℕ) → ends_run keeps_quotes x xs ≡ (ends_word x xs && not (keeps_quotes && is_quote x))
+run_test true x xs = refl
+run_test false x xs = and_true (ends_word x xs)
+  where
+    and_true : (b : Bool) → b ≡ (b && true)
+    and_true true = refl
+    and_true false = refl
+
+pub word_more : (keeps_quotes : Bool) (xs : List ℕ) (i : ℕ) → i < length xs → ends_run keeps_quotes (get_or xs i 0) (drop (i + 1) xs) ≡ false
+    → i + run_length keeps_quotes (drop i xs) ≡ (i + 1) + run_length keeps_quotes (drop (i + 1) xs)
+word_more false xs i h e =
     ap (λ (ys : List ℕ). i + word_length ys) (drop_at xs i h) ∙ ap (λ (b : Bool). i + cond b 0 (suc (word_length (drop (i + 1) xs)))) e ∙ omega arith
+word_more true xs i h e =
+    ap (λ (ys : List ℕ). i + argument_length ys) (drop_at xs i h) ∙ ap (λ (b : Bool). i + cond b 0 (suc (argument_length (drop (i + 1) xs)))) e ∙ omega arith
 
-pub word_stops : (xs : List ℕ) (i : ℕ) → i < length xs → ends_word (get_or xs i 0) (drop (i + 1) xs) ≡ true
-    → word_length (drop i xs) ≡ 0
-word_stops xs i h e =
+pub word_stops : (keeps_quotes : Bool) (xs : List ℕ) (i : ℕ) → i < length xs → ends_run keeps_quotes (get_or xs i 0) (drop (i + 1) xs) ≡ true
+    → run_length keeps_quotes (drop i xs) ≡ 0
+word_stops false xs i h e =
     ap word_length (drop_at xs i h) ∙ ap (λ (b : Bool). cond b 0 (suc (word_length (drop (i + 1) xs)))) e
+word_stops true xs i h e =
+    ap argument_length (drop_at xs i h) ∙ ap (λ (b : Bool). cond b 0 (suc (argument_length (drop (i + 1) xs)))) e
 
-pub word_all : (xs : List ℕ) (i : ℕ) → length xs ≤ i → word_length (drop i xs) ≡ 0
-word_all xs i h = ap word_length (drop_all i xs h)
+pub word_all : (keeps_quotes : Bool) (xs : List ℕ) (i : ℕ) → length xs ≤ i → run_length keeps_quotes (drop i xs) ≡ 0
+word_all false xs i h = ap word_length (drop_all i xs h)
+word_all true xs i h = ap argument_length (drop_all i xs h)
 
 pub comment_more : (xs : List ℕ) (i : ℕ) → i < length xs → (get_or xs i 0 == star && begins slash (drop (i + 1) xs)) ≡ false
     → option_map (λ n. i + n) (comment_rest_length (drop i xs)) ≡ option_map (λ n. (i + 1) + n) (comment_rest_length (drop (i + 1) xs))

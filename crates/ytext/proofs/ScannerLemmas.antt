@@ -5,7 +5,7 @@ use Rattle.std.specs.Option.{option_map_or}
 use Rattle.yspec.specs.text.Statement.{Slip}
 use Rattle.yspec.specs.text.Scanning.{Piece, Cause, TokenKind, Scanned, first_cause, cause_within, told_of, kind_of, scanned, given, given_of}
 use Rattle.ytext.specs.View.{ends_text}
-use Rattle.ytext.specs.Left.{pieces_left, pieces_behind, piece_of, with_piece}
+use Rattle.ytext.specs.Left.{pieces_left, behind_found, piece_of, with_piece}
 use Rattle.ytext.specs.Scanned.{tokens_left}
 use Rattle.ytext.specs.declared.cursor.Cursor.{Cursor}
 use Rattle.ytext.specs.declared.cursor.Found.{Found}
@@ -16,7 +16,7 @@ Items = List (Result Scanned Slip)
 
 pub left_by_piece : (s : Tokens) (f : Found) → s.ended ≡ false → f.cursor.text.now ≡ s.cursor.text.now → pieces_left s.cursor ≡ with_piece f
     → tokens_left s ≡ given f.cursor.text.now s.forbidden (piece_of f) (given_of f.cursor.text.now s.forbidden
-    (cond (ends_text f.lexeme) [] (pieces_behind (f.end - f.cursor.at) f.cursor)))
+    (cond (ends_text f.lexeme) [] (behind_found f)))
 unfolding given_of
 left_by_piece s f e same met =
     ap (λ (b : Bool). cond b [] (given_of s.cursor.text.now s.forbidden (pieces_left s.cursor))) e
@@ -56,10 +56,10 @@ progress can s t item x goes e =
 
 -- what is left behind a token
 pub behind_token : (f : Found) (d : Cursor) (forbidden : Option ℕ) (ended : Bool) (rest : Items) → rest ≡ cond ended [] (given_of d.text.now forbidden (pieces_left d))
-    → ended ≡ false → ends_text f.lexeme ≡ false → d.text.now ≡ f.cursor.text.now → pieces_left d ≡ pieces_behind (f.end - f.cursor.at) f.cursor
-    → given_of f.cursor.text.now forbidden (cond (ends_text f.lexeme) [] (pieces_behind (f.end - f.cursor.at) f.cursor)) ≡ rest
+    → ended ≡ false → ends_text f.lexeme ≡ false → d.text.now ≡ f.cursor.text.now → pieces_left d ≡ behind_found f
+    → given_of f.cursor.text.now forbidden (cond (ends_text f.lexeme) [] (behind_found f)) ≡ rest
 behind_token f d forbidden ended rest is e goes same behind =
-    ap (λ (b : Bool). given_of f.cursor.text.now forbidden (cond b [] (pieces_behind (f.end - f.cursor.at) f.cursor))) goes
+    ap (λ (b : Bool). given_of f.cursor.text.now forbidden (cond b [] (behind_found f))) goes
     ∙ ap (given_of f.cursor.text.now forbidden) (sym behind)
     ∙ ap (λ (text : List ℕ). given_of text forbidden (pieces_left d)) (sym same)
     ∙ ap (λ (b : Bool). cond b [] (given_of d.text.now forbidden (pieces_left d))) (sym e) ∙ sym is

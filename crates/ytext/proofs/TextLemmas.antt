@@ -1,5 +1,5 @@
 -- The judgement of a whole text, character by character and step by step.
-use Rattle.std.proofs.Common.{◌≡◌, ℕ, suc, get_or, drop-cons, ◌+◌, ◌<◌, ◌≤◌, List, [], ◌∷◌, Bool, true, false, ◌&&◌, ◌||◌, ◌==◌, cond, Option, Some, length, take, drop, nat_lt, refl, sym, ap, ◌∙◌, arith, lt-ltb, le-ltb}
+use Rattle.std.proofs.Common.{◌≡◌, ℕ, suc, get_or, drop-cons, ◌+◌, ◌<◌, ◌≤◌, List, [], ◌∷◌, Bool, true, false, ◌&&◌, ◌||◌, ◌==◌, cond, Option, Some, Result, length, take, drop, nat_lt, refl, sym, ap, ◌∙◌, arith, lt-ltb, le-ltb}
 use Rattle.std.specs.Option.{option_map_or}
 use Rattle.std.specs.Char.{len_utf8}
 use lib.Utf8.{encodes, encode}
@@ -9,10 +9,10 @@ use Rattle.std.proofs.lemmas.Bool.{ne_eqb}
 use Rattle.std.proofs.lemmas.Str.{is_utf8-from_IsUtf8, IsUtf8-from_is_utf8, length-le-encodes, encodes-chars, length-encode}
 use Rattle.std.proofs.lemmas.List.{drop_all, length-append}
 use Rattle.yspec.specs.text.Text.{begins, is_yang_char, line_after, line_behind, forbidden_line, line_feed, carriage_return}
-use Rattle.yspec.specs.text.Token.{tokens_of}
-use Rattle.yspec.specs.text.Statement.{slip, module_of, allowed_text, top_statement}
+use Rattle.yspec.specs.Forest.{Forest}
+use Rattle.yspec.specs.text.Statement.{Statement, Slip, slip}
 use Rattle.std.specs.Prelude.{not, is_some, None}
-use Rattle.ytext.specs.Characters.{is_allowed_text, pending}
+use Rattle.ytext.specs.Characters.{is_allowed_text, pending, judged}
 
 pub at_feed : (r : Bool) (line : ℕ) (cs : List ℕ) → pending r line (10 ∷ cs) ≡ pending false (line + 1) cs
 at_feed true line cs = refl
@@ -37,27 +37,32 @@ at_forbidden line c cs e f =
 not_limit : (n : ℕ) → n ≤ 4194304 → nat_lt 4194304 n ≡ false
 not_limit n h = le-ltb 4194304 n h
 
-pub too_long : (t : List ℕ) → 4194304 < length t → module_of t ≡ slip 7 1
-unfolding module_of
-too_long t h = ap (λ (b : Bool). cond b (slip 7 1) (cond (is_utf8 t) (allowed_text t) (slip 1 (line_behind 1 (take (utf8_valid_len t) t))))) (lt-ltb 4194304 (length t) h)
+abbrev Top : Type 0
+Top = Result (Forest Statement) Slip
 
-fits : (t : List ℕ) → length t ≤ 4194304 → module_of t ≡ cond (is_utf8 t) (allowed_text t) (slip 1 (line_behind 1 (take (utf8_valid_len t) t)))
-unfolding module_of
-fits t h = ap (λ (b : Bool). cond b (slip 7 1) (cond (is_utf8 t) (allowed_text t) (slip 1 (line_behind 1 (take (utf8_valid_len t) t))))) (not_limit (length t) h)
+-- what a text spells that isn't too long
+abbrev within : List ℕ → Top → Top
+within t top = cond (is_utf8 t) (option_map_or (λ line. slip 2 line) (forbidden_line 1 (chars t)) top) (slip 1 (line_behind 1 (take (utf8_valid_len t) t)))
+
+pub too_long : (t : List ℕ) (top : Top) → 4194304 < length t → judged t top ≡ slip 7 1
+too_long t top h = ap (λ (b : Bool). cond b (slip 7 1) (within t top)) (lt-ltb 4194304 (length t) h)
+
+fits : (t : List ℕ) (top : Top) → length t ≤ 4194304 → judged t top ≡ within t top
+fits t top h = ap (λ (b : Bool). cond b (slip 7 1) (within t top)) (not_limit (length t) h)
 
 not_true : (b : Bool) → (b ≡ true → ⊥) → b ≡ false
 not_true true e = absurd (e refl)
 not_true false e = refl
 
-pub no_text : (t valid : List ℕ) (n : ℕ) → length t ≤ 4194304 → (IsUtf8 t → ⊥) → n ≡ utf8_valid_len t → valid ≡ take n t → module_of t ≡ slip 1 (line_behind 1 valid)
-no_text t valid n h e is cut =
-    fits t h ∙ ap (λ (b : Bool). cond b (allowed_text t) (slip 1 (line_behind 1 (take (utf8_valid_len t) t)))) (not_true (is_utf8 t) (λ u. e (IsUtf8-from_is_utf8 t u)))
+pub no_text : (t valid : List ℕ) (top : Top) (n : ℕ) → length t ≤ 4194304 → (IsUtf8 t → ⊥) → n ≡ utf8_valid_len t → valid ≡ take n t → judged t top ≡ slip 1 (line_behind 1 valid)
+no_text t valid top n h e is cut =
+    fits t top h ∙ ap (λ (b : Bool). cond b (option_map_or (λ line. slip 2 line) (forbidden_line 1 (chars t)) top) (slip 1 (line_behind 1 (take (utf8_valid_len t) t)))) (not_true (is_utf8 t) (λ u. e (IsUtf8-from_is_utf8 t u)))
     ∙ ap (λ (k : ℕ). slip 1 (line_behind 1 (take k t))) (sym is) ∙ ap (λ (v : List ℕ). slip 1 (line_behind 1 v)) (sym cut)
 
-pub judged : (t text : List ℕ) (o : Option ℕ) → text ≡ t → length t ≤ 4194304 → IsUtf8 t → o ≡ forbidden_line 1 (chars text) → module_of t ≡ option_map_or (λ line. slip 2 line) o (top_statement (tokens_of t))
-judged t text o is h u e =
-    fits t h ∙ ap (λ (b : Bool). cond b (allowed_text t) (slip 1 (line_behind 1 (take (utf8_valid_len t) t)))) (is_utf8-from_IsUtf8 t u)
-    ∙ ap (λ (p : Option ℕ). option_map_or (λ line. slip 2 line) p (top_statement (tokens_of t))) (sym (e ∙ ap (λ (v : List ℕ). forbidden_line 1 (chars v)) is))
+pub judged_by : (t text : List ℕ) (top : Top) (o : Option ℕ) → text ≡ t → length t ≤ 4194304 → IsUtf8 t → o ≡ forbidden_line 1 (chars text) → judged t top ≡ option_map_or (λ line. slip 2 line) o top
+judged_by t text top o is h u e =
+    fits t top h ∙ ap (λ (b : Bool). cond b (option_map_or (λ line. slip 2 line) (forbidden_line 1 (chars t)) top) (slip 1 (line_behind 1 (take (utf8_valid_len t) t)))) (is_utf8-from_IsUtf8 t u)
+    ∙ ap (λ (p : Option ℕ). option_map_or (λ line. slip 2 line) p top) (sym (e ∙ ap (λ (v : List ℕ). forbidden_line 1 (chars v)) is))
 
 pub text_allowed : (t text : List ℕ) → text ≡ t → length t ≤ 4194304 → IsUtf8 t → None ≡ forbidden_line 1 (chars text) → is_allowed_text t ≡ true
 text_allowed t text is h u e =

@@ -6,3 +6,5 @@ pub mod Reading
 pub mod Scanned
 pub mod Shown
 pub mod View
+pub mod Versions
+pub mod Stated

@@ -4,6 +4,7 @@ use Rattle.std.specs.Option.{option_map_or}
 use Rattle.yspec.specs.text.Text.{Text, begins, is_blank, tab, line_feed, carriage_return, backslash}
 use Rattle.yspec.specs.text.Token.{joined_breaks, trimmed_ends, stripped_starts, unescaped, bad_escape_line}
 use Rattle.yspec.specs.text.Statement.{Slip, slip}
+use Rattle.ytext.specs.Versions.{raw_in}
 
 -- `left` columns of its line are still to be stripped
 unfoldable pub said : ℕ → ℕ → List ℕ → Text
@@ -13,6 +14,10 @@ said width left xs = unescaped false (stripped_starts width left (trimmed_ends (
 unfoldable pub reading : ℕ → ℕ → ℕ → Text → List ℕ → Result Text Slip
 reading width left line text xs =
     option_map_or (λ bad. slip 4 bad) (bad_escape_line false line xs) (Ok (text ++ said width left xs))
+
+-- the same in YANG 1, or in YANG 1.1
+unfoldable pub reading_in : Bool → ℕ → ℕ → ℕ → Text → List ℕ → Result Text Slip
+reading_in is_yang_1 width left line text xs = reading width left line text (raw_in is_yang_1 xs)
 
 abbrev pub all_blank : List ℕ → Bool
 all_blank [] = true

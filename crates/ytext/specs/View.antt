@@ -2,10 +2,11 @@
 use Rattle.std.specs.Prelude.{ℕ, ◌+◌, ◌-◌, ◌<◌, ◌≤◌, length, ◌≡◌, Bool, true, false, List, [], ◌∷◌, map, option_map, string_bytes}
 use Rattle.std.specs.Str.{IsCharBoundary}
 use Rattle.yspec.specs.text.Token as token
-use Rattle.ytext.specs.declared.cursor.Lexeme.{Lexeme}
-use Rattle.ytext.specs.declared.cursor.Lexeme.TheVariants.{Word, Single, Double, Semi, Open, Close, End, UnclosedQuote, UnclosedComment, StrayEnd}
-use Rattle.ytext.specs.declared.cursor.Front.{Front}
-use Rattle.ytext.specs.declared.cursor.Front.TheVariants as front
+use Rattle.ytext.specs.Versions.{raw_in}
+use Rattle.ytext.specs.declared.lexeme.Lexeme.{Lexeme}
+use Rattle.ytext.specs.declared.lexeme.Lexeme.TheVariants.{Word, Single, Double, Semi, Open, Close, End, UnclosedQuote, UnclosedComment, StrayEnd}
+use Rattle.ytext.specs.declared.lexeme.Front.{Front}
+use Rattle.ytext.specs.declared.lexeme.Front.TheVariants as front
 use Rattle.yspec.specs.Forest.{Forest, end, node}
 use Rattle.yspec.specs.text.Statement.{Statement}
 use Rattle.ytext.specs.declared.statement.Stmt.{Stmt, fold-Stmt}
@@ -16,7 +17,7 @@ use Rattle.ytext.specs.declared.statement.Module.{Module}
 abbrev pub ends_text : Lexeme → Bool
 ends_text (Word w) = false
 ends_text (Single raw) = false
-ends_text (Double before raw) = false
+ends_text (Double before raw is_yang_1) = false
 ends_text Semi = false
 ends_text Open = false
 ends_text Close = false
@@ -32,11 +33,11 @@ abbrev pub is_word : token.Lexeme → Bool
 is_word (token.word w) = true
 is_word _ = false
 
--- the lexeme itself; of a quoted string's line before it only the column counts
+-- the lexeme itself; of a double-quoted string's line before it only the column counts, and in YANG 1 its backslashes are mended
 abbrev pub lexeme_of : Lexeme → token.Lexeme
 lexeme_of (Word w) = token.word w.now
 lexeme_of (Single raw) = token.single raw.now
-lexeme_of (Double before raw) = token.double (token.column_behind 1 before.now) raw.now
+lexeme_of (Double before raw is_yang_1) = token.double (token.column_behind 1 before.now) (raw_in is_yang_1 raw.now)
 lexeme_of Semi = token.semi
 lexeme_of Open = token.open_block
 lexeme_of Close = token.close_block
@@ -53,11 +54,11 @@ front_of place (front.Last lexeme) = token.last (lexeme_of lexeme)
 
 -- how long a double-quoted string is, and the part of its line before it
 abbrev pub extent : Lexeme → ℕ
-extent (Double before raw) = length raw.now
+extent (Double before raw is_yang_1) = length raw.now
 extent _ = 0
 
 abbrev pub indent : Lexeme → ℕ
-indent (Double before raw) = length before.now
+indent (Double before raw is_yang_1) = length before.now
 indent _ = 0
 
 -- a later place where a text may be cut

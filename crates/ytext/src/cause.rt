@@ -1,12 +1,14 @@
 //! What is wrong with a text's characters, quotes and comments, and where.
-ghost use Rattle.std.specs.Prelude.{◌≡◌, ◌+◌, ◌<◌, ◌≤◌, ◌^◌, length, option_map, IfSome, Err};
+ghost use Rattle.std.specs.Prelude.{◌≡◌, ◌+◌, ◌<◌, ◌≤◌, ◌^◌, length, option_map, IfSome, Err, false};
 ghost use Rattle.std.specs.Option.{ForSome};
-ghost use Rattle.yspec.specs.text.Scanning.{first_cause, cause_within, told_of};
+ghost use Rattle.yspec.specs.text.Scanning.{first_cause, cause_within, told_of, wrong_escape, cause};
+ghost use Rattle.ytext.specs.Versions.{raw_in};
 ghost use Rattle.ytext.specs.View.{extent, lexeme_of, Reaches};
 ghost use Rattle.ytext.specs.Shown.{cause_of, shown};
 
-use crate::cursor::{Found, Lexeme};
+use crate::cursor::Found;
 use crate::fault::{TextCode, TextFault};
+use crate::lexeme::Lexeme;
 use crate::quoted::wrong_escape;
 use crate::text::line_behind;
 
@@ -17,6 +19,26 @@ pub(crate) struct Cause {
     pub(crate) place: usize,
 }
 
+#[tactic(auto, using(crate::proofs::VersionLemmas::mended_none, crate::proofs::VersionLemmas::raw_plain))]
+/// What is wrong between the double quotes the first of which stands at this place.
+fn escape_cause(start: usize, raw: &str, is_yang_1: bool) -> Option<Cause>
+    requires { start + length raw.now < 2 ^ 63 }
+    ensures cause { option_map cause_of result
+        ≡ option_map (λ place. cause 4 place) (wrong_escape false (start + 1) (raw_in is_yang_1 raw.now)) }
+    ensures within { IfSome result (λ c. c.place ≤ start + length raw.now) }
+{
+    if is_yang_1 {
+        return None;
+    }
+    match wrong_escape(raw.as_bytes(), start + 1) {
+        Some(place) => Some(Cause {
+            code: TextCode::L4,
+            place,
+        }),
+        None => None,
+    }
+}
+
 /// What is wrong in a token, or with what ends the text.
 fn cause_within(start: usize, lexeme: Lexeme<'_>) -> Option<Cause>
     requires { start + extent lexeme < 2 ^ 63 }
@@ -24,13 +46,7 @@ fn cause_within(start: usize, lexeme: Lexeme<'_>) -> Option<Cause>
     ensures within { IfSome result (λ c. c.place ≤ start + extent lexeme.entry) }
 {
     match lexeme {
-        Lexeme::Double { before: _, raw } => match wrong_escape(raw.as_bytes(), start + 1) {
-            Some(place) => Some(Cause {
-                code: TextCode::L4,
-                place,
-            }),
-            None => None,
-        },
+        Lexeme::Double { raw, is_yang_1, .. } => escape_cause(start, raw, is_yang_1),
         Lexeme::UnclosedQuote | Lexeme::UnclosedComment => Some(Cause {
             code: TextCode::L3,
             place: start,

@@ -1,27 +1,11 @@
 //! The tokens of a text, one after another (RFC 7950, 6.1).
-ghost use Rattle.std.specs.Prelude.{◌≡◌, suc, ◌+◌, ◌-◌, ◌<◌, ◌≤◌, ◌∷◌, false, length, take, drop, slice_index, slice_range};
+ghost use Rattle.std.specs.Prelude.{ℕ, ◌≡◌, suc, ◌+◌, ◌-◌, ◌<◌, ◌≤◌, ◌∷◌, false, length, take, drop, slice_index, slice_range};
 ghost use Rattle.std.specs.Str.{IsCharBoundary};
 
+use crate::lexeme::{Front, Lexeme, Standing};
 use crate::scan::{
     behind_ascii, comment_end, double_end, is_white, line_end, single_end, stands_at, word_end,
 };
-
-/// What stands at a place: a word, a quoted string without its quotes, `;`, `{`, `}`, or what ends the text.
-#[derive(Clone, Copy)]
-pub(crate) enum Lexeme<'a> {
-    Word(&'a str),
-    Single(&'a str),
-    /// With the part of its line that stands before the opening quote.
-    Double { before: &'a [u8], raw: &'a str },
-    Semi,
-    Open,
-    Close,
-    End,
-    UnclosedQuote,
-    UnclosedComment,
-    /// `*/` with no comment before it.
-    StrayEnd,
-}
 
 /// A lexeme with its line.
 #[derive(Clone, Copy)]
@@ -30,21 +14,14 @@ pub(crate) struct Lexed<'a> {
     pub(crate) lexeme: Lexeme<'a>,
 }
 
-/// What stands at the front: a gap or a token with the place behind it, or what ends the text.
-#[derive(Clone, Copy)]
-pub(crate) enum Front<'a> {
-    Gap(usize),
-    Token(Lexeme<'a>, usize),
-    Last(Lexeme<'a>),
-}
-
-/// A place in a text, with its line and where that line begins.
+/// A place in a text, with its line, where that line begins, and where in a statement it is.
 #[derive(Clone, Copy)]
 pub(crate) struct Cursor<'a> {
     pub(crate) text: &'a str,
     pub(crate) at: usize,
     pub(crate) line: u64,
     pub(crate) line_start: usize,
+    pub(crate) standing: Standing,
     pub ghost place: { IsCharBoundary text.now at },
     pub ghost line_begun: { line_start ≤ at },
     pub ghost few_lines: { line ≤ at + 1 },
@@ -59,15 +36,17 @@ pub(crate) struct Found<'a> {
 }
 
 impl<'a> Cursor<'a> {
-    ghost use Rattle.yspec.specs.text.Token.{tokens_of, word, token, word_length, slash_front, single_front, double_front, other_front};
+    ghost use Rattle.yspec.specs.text.Token.{word, token, slash_front, single_front, double_front, other_front};
     ghost use Rattle.yspec.specs.text.Scanning.{pieces_of};
-    ghost use Rattle.ytext.specs.View.{ends_text, extent, indent, front_of, GoesOn, Reaches};
-    ghost use Rattle.ytext.specs.Left.{left, pieces_left, pieces_behind, column_of, stands, with_piece, with_token};
+    ghost use Rattle.yspec_wide.specs.Texts.{longer_word};
+    ghost use Rattle.ytext.specs.View.{ends_text, extent, indent, front_of, lexeme_of, GoesOn, Reaches};
+    ghost use Rattle.ytext.specs.Versions.{tokens_in, run_length};
+    ghost use Rattle.ytext.specs.Left.{left, pieces_left, pieces_behind, pieces_after, column_of, stands, stands_plainly, with_piece, with_token, behind_found};
 
-    /// The beginning of a text.
-    pub(crate) fn new(text: &'a str) -> Cursor<'a>
-        ensures start { left result ≡ tokens_of text.now }
-        ensures pieces { pieces_left result ≡ pieces_of text.now }
+    /// The beginning of a text, of YANG 1 or of YANG 1.1.
+    pub(crate) fn new(text: &'a str, is_yang_1: bool) -> Cursor<'a>
+        ensures start { left result ≡ tokens_in is_yang_1 text.now }
+        ensures pieces { is_yang_1 ≡ false → pieces_left result ≡ pieces_of text.now }
         ensures text { result.text.now ≡ text.now }
     {
         Cursor {
@@ -75,6 +54,22 @@ impl<'a> Cursor<'a> {
             at: 0,
             line: 1,
             line_start: 0,
+            standing: Standing::first(is_yang_1),
+        }
+    }
+
+    /// The same place, behind a token that ends there.
+    fn standing_at(self, standing: Standing) -> Cursor<'a>
+        ensures text { result.text.now ≡ self.entry.text.now }
+        ensures at { result.at ≡ self.entry.at }
+        ensures pieces { (skip : ℕ) → pieces_behind skip result ≡ pieces_after standing skip self.entry }
+    {
+        Cursor {
+            text: self.text,
+            at: self.at,
+            line: self.line,
+            line_start: self.line_start,
+            standing,
         }
     }
 
@@ -100,6 +95,7 @@ impl<'a> Cursor<'a> {
             at: end,
             line,
             line_start,
+            standing: self.standing,
         }
     }
 
@@ -114,15 +110,15 @@ impl<'a> Cursor<'a> {
         &self.text[start..end]
     }
 
-    fn word(self) -> Front<'a>
+    fn word(self, keeps_quotes: bool) -> Front<'a>
         requires { self.at < length self.text.now }
         ensures later { GoesOn self.entry.text.now self.entry.at result }
         ensures front { let xs = drop (self.entry.at + 1) self.entry.text.now in
-            let n = word_length xs in
+            let n = run_length keeps_quotes xs in
             front_of self.entry.at result
             ≡ token (word (slice_index self.entry.text.now self.entry.at ∷ take n xs)) (suc n) }
     {
-        let end = word_end(self.text.as_bytes(), self.at + 1);
+        let end = word_end(self.text.as_bytes(), self.at + 1, keeps_quotes);
         Front::Token(Lexeme::Word(self.between(self.at, end)), end)
     }
 
@@ -142,7 +138,7 @@ impl<'a> Cursor<'a> {
                 None => Front::Last(Lexeme::UnclosedComment),
             }
         } else {
-            self.word()
+            self.word(false)
         }
     }
 
@@ -174,17 +170,56 @@ impl<'a> Cursor<'a> {
             Some(end) => {
                 let before = &bytes[self.line_start..self.at];
                 let raw = self.between(behind_ascii(self.text, self.at), end);
-                Front::Token(Lexeme::Double { before, raw }, behind_ascii(self.text, end))
+                let string = Lexeme::Double {
+                    before,
+                    raw,
+                    is_yang_1: false,
+                };
+                Front::Token(string, behind_ascii(self.text, end))
             }
             None => Front::Last(Lexeme::UnclosedQuote),
         }
     }
 
+    #[tactic(auto, using(crate::proofs::VersionLemmas::longer_is, crate::proofs::VersionLemmas::longer_not))]
+    /// What stands here, where that is the argument of a statement of YANG 1.
+    fn longer(self, front: Front<'a>) -> Front<'a>
+        requires within { self.at < length self.text.now }
+        requires later { GoesOn self.text.now self.at front }
+        ensures later { GoesOn self.entry.text.now self.entry.at result }
+        ensures front { front_of self.entry.at result
+            ≡ longer_word (slice_index self.entry.text.now self.entry.at)
+            (drop (self.entry.at + 1) self.entry.text.now) (front_of self.entry.at front.entry) }
+    {
+        if front.is_word() {
+            self.word(true)
+        } else {
+            front
+        }
+    }
+
+    /// What stands here, in the version of the text.
     fn front(self, byte: u8) -> Front<'a>
         requires byte { slice_index self.text.now self.at ≡ byte }
         requires within { self.at < length self.text.now }
         ensures later { GoesOn self.entry.text.now self.entry.at result }
         ensures front { front_of self.entry.at result ≡ stands self.entry }
+    {
+        let front = self.plain_front(byte);
+        match self.standing {
+            Standing::Anywhere => front,
+            Standing::BeforeKeyword => front.in_yang_1(),
+            Standing::BeforeArgument => self.longer(front).in_yang_1(),
+            Standing::BehindArgument => front.in_yang_1(),
+        }
+    }
+
+    /// What stands here in a text of YANG 1.1.
+    fn plain_front(self, byte: u8) -> Front<'a>
+        requires byte { slice_index self.text.now self.at ≡ byte }
+        requires within { self.at < length self.text.now }
+        ensures later { GoesOn self.entry.text.now self.entry.at result }
+        ensures front { front_of self.entry.at result ≡ stands_plainly self.entry }
     {
         if is_white(byte) {
             Front::Gap(behind_ascii(self.text, self.at))
@@ -203,7 +238,7 @@ impl<'a> Cursor<'a> {
         } else if byte == b'*' {
             self.star()
         } else {
-            self.word()
+            self.word(false)
         }
     }
 
@@ -218,7 +253,7 @@ impl<'a> Cursor<'a> {
         if stands_at(self.text.as_bytes(), self.at + 1, b'/') {
             Front::Last(Lexeme::StrayEnd)
         } else {
-            self.word()
+            self.word(false)
         }
     }
 
@@ -254,6 +289,7 @@ impl<'a> Cursor<'a> {
             at,
             line,
             line_start,
+            standing: self.standing,
         }
     }
 
@@ -303,9 +339,22 @@ impl<'a> Cursor<'a> {
         ensures indent { indent result.0.lexeme ≤ result.1.at }
     {
         let found = self.found();
-        (
-            found.cursor.with_lexeme(found.lexeme),
-            found.cursor.moved_to(found.end),
-        )
+        (found.cursor.with_lexeme(found.lexeme), found.behind())
+    }
+}
+
+impl<'a> Found<'a> {
+    ghost use Rattle.ytext.specs.View.{Reaches};
+    ghost use Rattle.ytext.specs.Left.{pieces_left, behind_found};
+
+    /// The place behind what is found.
+    pub(crate) fn behind(self) -> Cursor<'a>
+        requires { Reaches self.cursor.text.now self.cursor.at self.lexeme self.end }
+        ensures text { result.text.now ≡ self.entry.cursor.text.now }
+        ensures at { result.at ≡ self.entry.end }
+        ensures pieces { pieces_left result ≡ behind_found self.entry }
+    {
+        let standing = self.cursor.standing.behind(self.lexeme);
+        self.cursor.standing_at(standing).moved_to(self.end)
     }
 }

@@ -1,12 +1,12 @@
-//! What a quoted string says (RFC 7950, 6.1.3).
-ghost use Rattle.std.specs.Prelude.{◌≡◌, ℕ, ◌+◌, ◌*◌, ◌^◌, ◌<◌, ◌≤◌, List, ◌++◌, Ok, length, drop, slice_index, slice_range, string_bytes, true, false, IsTrue, ◌==◌, ◌&&◌, ◌||◌, IsSome, IfSome, IfOk, IfErr, OnOk, replicate};
+//! What a quoted string says (RFC 7950, 6.1.3; RFC 6020, 6.1.3).
+ghost use Rattle.std.specs.Prelude.{◌≡◌, ℕ, ◌+◌, ◌*◌, ◌^◌, ◌<◌, ◌≤◌, Bool, List, ◌++◌, Ok, length, drop, slice_index, slice_range, string_bytes, true, false, IsTrue, ◌==◌, ◌&&◌, ◌||◌, IsSome, IfSome, IfOk, IfErr, OnOk, replicate};
 ghost use Rattle.std.specs.Str.{IsCharBoundary};
 ghost use Rattle.yspec.specs.text.Text.{is_blank, space, begins, line_feed, carriage_return};
 ghost use Rattle.yspec.specs.text.Token.{joined_breaks, stripped_starts, single_text, escape, column_behind, column_after};
 ghost use Rattle.yspec.specs.text.Scanning.{wrong_escape};
 ghost use Rattle.yspec.specs.Results.{Gives, Fails};
 ghost use Rattle.ytext.specs.Told.{told_by};
-ghost use Rattle.ytext.specs.Quoted.{reading, all_blank, blank_width, is_break, is_plain};
+ghost use Rattle.ytext.specs.Quoted.{reading_in, all_blank, blank_width, is_break, is_plain};
 
 use crate::fault::{TextCode, TextFault};
 use crate::scan::{behind_ascii, stands_at};
@@ -130,9 +130,10 @@ fn blanks_end(raw: &str, from: usize) -> usize
 fn plain_end(raw: &str, from: usize) -> usize
     requires within { from < length raw.now }
     requires plain { is_plain (drop from raw.now) ≡ true }
-    ensures same { (width left line : ℕ) (text : List ℕ)
-        → reading width left line text (drop from raw.now)
-        ≡ reading width 0 line (text ++ slice_range raw.now from result) (drop result raw.now) }
+    ensures same { (is_yang_1 : Bool) (width left line : ℕ) (text : List ℕ)
+        → reading_in is_yang_1 width left line text (drop from raw.now)
+        ≡ reading_in is_yang_1 width 0 line (text ++ slice_range raw.now from result)
+        (drop result raw.now) }
     ensures forward { from < result }
     ensures place { IsCharBoundary raw.now result }
 {
@@ -238,15 +239,21 @@ struct Place {
 }
 
 /// Adds what the backslash at this place and the character behind it say.
-fn push_escape(text: &mut String, raw: &str, place: Place) -> Result<Place, TextFault>
+fn push_escape(
+    text: &mut String,
+    raw: &str,
+    place: Place,
+    is_yang_1: bool,
+) -> Result<Place, TextFault>
     requires within { place.at < length raw.now }
     requires slash { slice_index raw.now place.at ≡ 92 }
     requires few_lines { place.line < 2 ^ 32 }
     ensures ok { (width : ℕ) → IfOk result
-        (λ p. reading width p.left p.line (string_bytes text.new) (drop p.at raw.now)
-        ≡ reading width place.left place.line (string_bytes text.old) (drop place.at raw.now)) }
+        (λ p. reading_in is_yang_1 width p.left p.line (string_bytes text.new) (drop p.at raw.now)
+        ≡ reading_in is_yang_1 width place.left place.line (string_bytes text.old)
+        (drop place.at raw.now)) }
     ensures err { (width : ℕ) → IfErr result (λ e.
-        Fails (told_by e) (reading width place.left place.line (string_bytes text.old)
+        Fails (told_by e) (reading_in is_yang_1 width place.left place.line (string_bytes text.old)
         (drop place.at raw.now))) }
     ensures place { IfOk result (λ p. (place.at < p.at) × IsCharBoundary raw.now p.at) }
     ensures line { IfOk result (λ p. p.line ≡ place.line) }
@@ -269,20 +276,38 @@ fn push_escape(text: &mut String, raw: &str, place: Place) -> Result<Place, Text
                 left: 0,
             })
         }
-        None => Err(TextFault::refused(TextCode::L4, place.line)),
+        None => {
+            if is_yang_1 {
+                text.push('\\')?;
+                return Ok(Place {
+                    at: next,
+                    line: place.line,
+                    left: 0,
+                });
+            }
+            Err(TextFault::refused(TextCode::L4, place.line))
+        }
     }
 }
 
 /// Adds what stands at this place.
-fn push_next(text: &mut String, raw: &str, width: usize, place: Place) -> Result<Place, TextFault>
+fn push_next(
+    text: &mut String,
+    raw: &str,
+    width: usize,
+    place: Place,
+    is_yang_1: bool,
+) -> Result<Place, TextFault>
     requires within { place.at < length raw.now }
     requires place { IsCharBoundary raw.now place.at }
     requires few_lines { place.line + length raw.now < 2 ^ 32 + place.at }
-    ensures ok { IfOk result (λ p. reading width p.left p.line (string_bytes text.new)
-        (drop p.at raw.now)
-        ≡ reading width place.left place.line (string_bytes text.old) (drop place.at raw.now)) }
+    ensures ok { IfOk result
+        (λ p. reading_in is_yang_1 width p.left p.line (string_bytes text.new) (drop p.at raw.now)
+        ≡ reading_in is_yang_1 width place.left place.line (string_bytes text.old)
+        (drop place.at raw.now)) }
     ensures err { IfErr result (λ e. Fails (told_by e)
-        (reading width place.left place.line (string_bytes text.old) (drop place.at raw.now))) }
+        (reading_in is_yang_1 width place.left place.line (string_bytes text.old)
+        (drop place.at raw.now))) }
     ensures place { IfOk result (λ p. (place.at < p.at) × IsCharBoundary raw.now p.at) }
     ensures line { IfOk result (λ p. p.line + place.at ≤ place.line + p.at) }
 {
@@ -315,7 +340,7 @@ fn push_next(text: &mut String, raw: &str, width: usize, place: Place) -> Result
         });
     }
     if bytes[at] == b'\\' {
-        return push_escape(text, raw, place);
+        return push_escape(text, raw, place, is_yang_1);
     }
     if returns_at(bytes, at) {
         return Ok(Place {
@@ -337,8 +362,9 @@ fn push_next(text: &mut String, raw: &str, width: usize, place: Place) -> Result
 /// Where no line breaks in the string nothing asks for them, and that line isn't looked at.
 fn strip_width(before: &[u8], raw: &str) -> usize
     requires { 8 * length before.now < 2 ^ 63 }
-    ensures { (line : ℕ) (text : List ℕ) → reading result 0 line text raw.now
-        ≡ reading (column_behind 1 before.now) 0 line text raw.now }
+    ensures { (is_yang_1 : Bool) (line : ℕ) (text : List ℕ)
+        → reading_in is_yang_1 result 0 line text raw.now
+        ≡ reading_in is_yang_1 (column_behind 1 before.now) 0 line text raw.now }
 {
     if raw.as_bytes().contains(&b'\n') {
         column_behind(before)
@@ -354,11 +380,12 @@ pub(crate) fn push_double(
     before: &[u8],
     raw: &str,
     line: u64,
+    is_yang_1: bool,
 ) -> Result<(), TextFault>
     requires few_columns { 8 * length before.now < 2 ^ 63 }
     requires few_lines { line + length raw.now < 2 ^ 32 }
     ensures { Gives (λ _. string_bytes text.new) told_by result
-        (reading (column_behind 1 before.now) 0 line (string_bytes text.old) raw.now) }
+        (reading_in is_yang_1 (column_behind 1 before.now) 0 line (string_bytes text.old) raw.now) }
 {
     let width = strip_width(before, raw);
     let mut place = Place {
@@ -367,7 +394,7 @@ pub(crate) fn push_double(
         left: 0,
     };
     while place.at < raw.len() {
-        place = push_next(text, raw, width, place)?;
+        place = push_next(text, raw, width, place, is_yang_1)?;
     }
     Ok(())
 }

@@ -2,8 +2,9 @@
 ghost use Rattle.std.specs.Prelude.{◌≡◌, ℕ, ◌+◌, ◌<◌, ◌≤◌, ◌^◌, [], ◌∷◌, true, false, length, Some, Ok, option_map, string_bytes, IsTrue, OnOk};
 ghost use Rattle.ytext.specs.View.{extent, indent};
 
-use crate::cursor::{Cursor, Lexed, Lexeme};
+use crate::cursor::{Cursor, Lexed};
 use crate::fault::{TextCode, TextFault};
+use crate::lexeme::Lexeme;
 use crate::quoted::{push_double, push_single};
 use crate::statement::{Module, Stmt};
 use std::alloc::Global;
@@ -16,8 +17,8 @@ const BLOCK_LIMIT: u32 = 64;
 #[derive(Drop)]
 pub(crate) struct Reader<'a> {
     alloc: Global,
-    token: Lexed<'a>,
-    cursor: Cursor<'a>,
+    pub(crate) token: Lexed<'a>,
+    pub(crate) cursor: Cursor<'a>,
     ghost small: { length cursor.text.now ≤ 4194304 },
     ghost near: { token.line + extent token.lexeme ≤ cursor.at + 1 },
     ghost indented: { indent token.lexeme ≤ cursor.at },
@@ -70,18 +71,19 @@ impl<'a> Reader<'a> {
     ghost use Rattle.yspec.specs.Forest.{Forest, end};
     ghost use Rattle.ytext.specs.View.{a_word, is_word};
     ghost use Rattle.ytext.specs.View.{row_view, modules_view};
-    ghost use Rattle.yspec.specs.text.Token.{tokens_of};
+    ghost use Rattle.ytext.specs.Versions.{tokens_in};
     ghost use Rattle.yspec.specs.Results.{Gives};
     ghost use Rattle.ytext.specs.Told.{told_by};
     ghost use Rattle.ytext.specs.View.{ends_text, lexeme_of};
     ghost use Rattle.ytext.specs.Left.{left, token_of};
     ghost use Rattle.ytext.specs.Reading.{ahead, tokens_ahead, added, piece_behind, rows, block_of, first_of, rest_of};
 
-    pub(crate) fn new(alloc: Global, text: &'a str) -> Reader<'a>
+    /// At the beginning of a text, of YANG 1 or of YANG 1.1.
+    pub(crate) fn new(alloc: Global, text: &'a str, is_yang_1: bool) -> Reader<'a>
         requires { length text.now ≤ 4194304 }
-        ensures { tokens_ahead result ≡ tokens_of text.now }
+        ensures { tokens_ahead result ≡ tokens_in is_yang_1 text.now }
     {
-        let (token, cursor) = Cursor::new(text).next();
+        let (token, cursor) = Cursor::new(text, is_yang_1).next();
         Reader {
             alloc,
             token,
@@ -90,7 +92,7 @@ impl<'a> Reader<'a> {
     }
 
     /// Goes on to the next token.
-    fn step(&mut self)
+    pub(crate) fn step(&mut self)
         requires { ends_text self.old.token.lexeme ≡ false }
         ensures ahead { ahead self.new < ahead self.old }
         ensures tokens { tokens_ahead self.old ≡ token_of self.old.token ∷ tokens_ahead self.new }
@@ -109,7 +111,11 @@ impl<'a> Reader<'a> {
     {
         match self.token.lexeme {
             Lexeme::Single(raw) => push_single(text, raw),
-            Lexeme::Double { before, raw } => push_double(text, before, raw, self.token.line),
+            Lexeme::Double {
+                before,
+                raw,
+                is_yang_1,
+            } => push_double(text, before, raw, self.token.line, is_yang_1),
             _ => Err(TextFault::refused(TextCode::L3, self.token.line)),
         }
     }
@@ -150,7 +156,7 @@ impl<'a> Reader<'a> {
         Ok(text)
     }
 
-    fn argument(&mut self) -> Result<Option<String>, TextFault>
+    pub(crate) fn argument(&mut self) -> Result<Option<String>, TextFault>
         ensures ahead { OnOk result (ahead self.new ≤ ahead self.old) }
         ensures argument { Gives (λ arg. (option_map string_bytes arg, tokens_ahead self.new))
             told_by result (argument (tokens_ahead self.old)) }
@@ -220,7 +226,7 @@ impl<'a> Reader<'a> {
 
     /// The statement whose keyword is at hand.
     #[cycle(reading)]
-    fn statement(&mut self, word: &str, level: u32) -> Result<Stmt, TextFault>
+    pub(crate) fn statement(&mut self, word: &str, level: u32) -> Result<Stmt, TextFault>
         requires { lexeme_of self.old.token.lexeme ≡ a_word word.now }
         ensures ahead { OnOk result (ahead self.new < ahead self.old) }
         ensures statement { Gives

@@ -2,7 +2,9 @@
 ghost use Rattle.std.specs.Prelude.{◌≡◌, ◌+◌, ◌≤◌, ◌<◌, length, drop, slice_index, false, IsTrue, not, ◌==◌, ◌&&◌, Option, Some, None, IfSome, option_map, ◌-◌};
 ghost use Rattle.std.specs.Str.{IsCharBoundary};
 ghost use Rattle.yspec.specs.text.Text.{begins, is_white, star, slash};
-ghost use Rattle.yspec.specs.text.Token.{is_delimiter, ends_word, word_length, line_comment_length, comment_rest_length, single_length, double_length};
+ghost use Rattle.yspec_wide.specs.Texts.{is_quote};
+ghost use Rattle.ytext.specs.Versions.{ends_run, run_length};
+ghost use Rattle.yspec.specs.text.Token.{is_delimiter, ends_word, line_comment_length, comment_rest_length, single_length, double_length};
 
 /// The place behind an ASCII character, where a text may be cut.
 pub(crate) fn behind_ascii(text: &str, at: usize) -> usize
@@ -48,16 +50,32 @@ fn ends_word(bytes: &[u8], at: usize) -> bool
         || (byte == b'*' && stands_at(bytes, at + 1, b'/'))
 }
 
+fn is_quote(byte: u8) -> bool
+    ensures { result ≡ is_quote byte }
+{
+    byte == b'"' || byte == b'\''
+}
+
+#[tactic(auto, using(crate::proofs::ScanLemmas::run_test))]
+/// Whether a word ends before this place, which may keep quotes: that is an argument of YANG 1 (RFC 6020, 6.1.3).
+fn ends_run(bytes: &[u8], at: usize, keeps_quotes: bool) -> bool
+    requires { at < length bytes.now }
+    ensures cases { result ≡ ends_run keeps_quotes (slice_index bytes.now at) (drop (at + 1) bytes.now) }
+    ensures ascii { IsTrue result → slice_index bytes.now at < 128 }
+{
+    ends_word(bytes, at) && !(keeps_quotes && is_quote(bytes[at]))
+}
+
 #[tactic(auto, using(crate::proofs::ScanLemmas::word_more, crate::proofs::ScanLemmas::word_stops, crate::proofs::ScanLemmas::word_all))]
 /// Where the word ends that goes on at this place.
-pub(crate) fn word_end(bytes: &[u8], from: usize) -> usize
+pub(crate) fn word_end(bytes: &[u8], from: usize, keeps_quotes: bool) -> usize
     requires { from ≤ length bytes.now }
-    ensures length { result ≡ from + word_length (drop from bytes.now) }
+    ensures length { result ≡ from + run_length keeps_quotes (drop from bytes.now) }
     ensures within { result ≤ length bytes.now }
     ensures ascii { result < length bytes.now → slice_index bytes.now result < 128 }
 {
     let mut at = from;
-    while at < bytes.len() && !ends_word(bytes, at) {
+    while at < bytes.len() && !ends_run(bytes, at, keeps_quotes) {
         at += 1;
     }
     at

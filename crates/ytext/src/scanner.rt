@@ -26,7 +26,7 @@ impl<'a> Tokens<'a> {
         ensures { tokens_left result ≡ scan_of text.now }
     {
         Tokens {
-            cursor: Cursor::new(text),
+            cursor: Cursor::new(text, false),
             forbidden: forbidden_offset(text),
             ended: false,
         }
@@ -56,7 +56,7 @@ impl<'a> Iterator for Tokens<'a> {
         }
         match kind_of(found.lexeme) {
             Some(kind) => {
-                self.cursor = found.cursor.moved_to(found.end);
+                self.cursor = found.behind();
                 Some(Ok(found.token(kind)))
             }
             None => {

@@ -1,17 +1,20 @@
 //! Module text, as a whole.
-ghost use Rattle.std.specs.Prelude.{◌≡◌, ℕ, ◌+◌, ◌<◌, ◌≤◌, ◌^◌, List, [], ◌∷◌, true, Some, None, is_some, IfSome, IfNone, IfOk, IfErr, length};
+ghost use Rattle.std.specs.Prelude.{◌≡◌, ℕ, ◌+◌, ◌<◌, ◌≤◌, ◌^◌, List, [], ◌∷◌, ◌&&◌, true, Result, Ok, Some, None, is_some, IfSome, IfNone, IfOk, IfErr, length};
 ghost use Rattle.std.specs.Str.{chars};
 ghost use Rattle.std.specs.Char.{len_utf8};
 ghost use Rattle.std.specs.List.{list_all};
 ghost use Rattle.yspec.specs.text.Text.{line_behind, is_noncharacter, is_yang_char, forbidden_line};
-ghost use Rattle.yspec.specs.text.Statement.{module_of, top_statement};
+ghost use Rattle.yspec.specs.Forest.{Forest};
+ghost use Rattle.yspec.specs.text.Statement.{Statement, Slip, module_of, top_statement};
+ghost use Rattle.yspec_wide.specs.Language.{Language, is_yang_1};
+ghost use Rattle.yspec_wide.specs.Texts.{reads_versions, version_of_text, module_in};
+ghost use Rattle.ytext.specs.Versions.{tokens_in};
 ghost use Rattle.yspec.specs.Results.{Gives, Fails};
 ghost use Rattle.ytext.specs.Told.{told_by};
 ghost use Rattle.yspec.specs.text.Spelling.{Spells};
 ghost use Rattle.yspec.specs.text.Slips.{told_slip};
-ghost use Rattle.yspec.specs.text.Token.{tokens_of};
 ghost use Rattle.yspec.specs.text.Scanning.{forbidden_offset, scan_of};
-ghost use Rattle.ytext.specs.Characters.{is_allowed_text, is_plain, pending, pending_place};
+ghost use Rattle.ytext.specs.Characters.{is_allowed_text, is_plain, judged, pending, pending_place};
 ghost use Rattle.ytext.specs.Scanned.{tokens_left};
 ghost use Rattle.ytext.specs.View.{modules_view};
 
@@ -171,9 +174,10 @@ pub(crate) fn forbidden_offset(text: &str) -> Option<usize>
 fn checked_text(bytes: &[u8]) -> Result<&str, TextFault>
     ensures text { IfOk result (λ text. text.now ≡ bytes.now) }
     ensures length { IfOk result (λ text. length text.now ≤ 4194304) }
-    ensures ok { IfOk result (λ text. module_of bytes.now ≡ top_statement (tokens_of bytes.now)) }
+    ensures ok { (top : Result (Forest Statement) Slip) → IfOk result (λ _. judged bytes.now top ≡ top) }
     ensures allowed { IfOk result (λ _. is_allowed_text bytes.now ≡ true) }
-    ensures err { IfErr result (λ e. Fails (told_by e) (module_of bytes.now)) }
+    ensures err { (top : Result (Forest Statement) Slip)
+        → IfErr result (λ e. Fails (told_by e) (judged bytes.now top)) }
     ensures told { IfErr result (λ e. is_some (told_by e) ≡ true) }
 {
     if bytes.len() > TEXT_LIMIT {
@@ -201,19 +205,53 @@ pub fn parse(alloc: Global, bytes: &[u8]) -> Result<Module, TextFault>
     ensures memory { IfErr result
         (λ fault. told_by fault ≡ None → is_allowed_text bytes.now ≡ true) }
 {
-    read_module(alloc, bytes)
+    parse_in(alloc, bytes, false)
 }
 
-/// The same, as the definition by functions has it.
-fn read_module(alloc: Global, bytes: &[u8]) -> Result<Module, TextFault>
-    ensures answer { Gives (λ read. modules_view (read ∷ [])) told_by result (module_of bytes.now) }
+/// The same in a language: whether each text is read by its own version, a text of YANG 1 by RFC 6020, 6.1.3, or every
+/// text as one of YANG 1.1.
+pub fn parse_in(alloc: Global, bytes: &[u8], has_versions: bool) -> Result<Module, TextFault>
+    ensures answer { (language : Language) → reads_versions language ≡ has_versions
+        → Gives (λ read. modules_view (read ∷ [])) told_by result (module_in language bytes.now) }
     ensures memory { IfErr result
         (λ fault. told_by fault ≡ None → is_allowed_text bytes.now ≡ true) }
 {
     match checked_text(bytes) {
-        Ok(text) => Reader::new(alloc, text).module(),
+        Ok(text) => read_module(alloc, text, has_versions),
         Err(fault) => Err(fault),
     }
+}
+
+/// The statements of a text whose characters are right.
+fn read_module(alloc: Global, text: &str, has_versions: bool) -> Result<Module, TextFault>
+    requires { length text.now ≤ 4194304 }
+    ensures { Gives (λ read. modules_view (read ∷ [])) told_by result
+        (top_statement (tokens_in (has_versions && is_yang_1 (version_of_text text.now)) text.now)) }
+{
+    if !has_versions {
+        return read_as(alloc, text, false);
+    }
+    match is_of_yang_1(alloc, text) {
+        Ok(is_old) => read_as(alloc, text, is_old),
+        Err(fault) => Err(fault),
+    }
+}
+
+/// Whether a text is one of YANG 1, by what it states up to the first thing that is wrong.
+fn is_of_yang_1(alloc: Global, text: &str) -> Result<bool, TextFault>
+    requires { length text.now ≤ 4194304 }
+    ensures { Gives (λ is. is) told_by result (Ok (is_yang_1 (version_of_text text.now))) }
+{
+    Reader::new(alloc, text, true).is_yang_1()
+}
+
+/// The statements of a text as one of YANG 1, or of YANG 1.1.
+fn read_as(alloc: Global, text: &str, is_old: bool) -> Result<Module, TextFault>
+    requires { length text.now ≤ 4194304 }
+    ensures { Gives (λ read. modules_view (read ∷ [])) told_by result
+        (top_statement (tokens_in is_old text.now)) }
+{
+    Reader::new(alloc, text, is_old).module()
 }
 
 /// The tokens of a text (RFC 7950, 6.1), up to the first thing that is wrong with its characters, quotes, comments or

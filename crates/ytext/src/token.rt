@@ -5,7 +5,8 @@ ghost use Rattle.ytext.specs.View.{ends_text, lexeme_of, Reaches};
 ghost use Rattle.ytext.specs.Left.{piece_of};
 ghost use Rattle.ytext.specs.Shown.{kind_shown, scanned_of};
 
-use crate::cursor::{Found, Lexeme};
+use crate::cursor::Found;
+use crate::lexeme::Lexeme;
 
 /// What a token is.
 #[derive(Clone, Copy, Debug, PartialEq, Eq)]

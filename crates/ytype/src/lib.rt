@@ -10,7 +10,8 @@ pub use fault::BadValue;
 pub use val::Val;
 pub use ytype::YType;
 pub use ytype_numbers::{
-    Bound, ErrorText, FractionDigits, Names, Naming, NarrowFault, Part, Range, Restriction, Span,
+    Bound, ErrorText, Expression, FractionDigits, Names, Naming, NarrowFault, Part, Range,
+    Restriction, Span,
 };
 pub use ytype_simple::{
     Base, Identities, Integer, ModuleNames, Raw, SimpleType, cut_at_colon, identity_name,

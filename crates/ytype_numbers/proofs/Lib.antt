@@ -1,5 +1,6 @@
 pub mod CoverLemmas
 pub mod DecimalLemmas
+pub mod ExpressionLemmas
 pub mod NumeralLemmas
 pub mod PositionLemmas
 pub mod SetLemmas

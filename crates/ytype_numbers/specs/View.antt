@@ -21,4 +21,5 @@ text_of text = option_map string_bytes text
 abbrev pub restriction_of : Restriction → restrictions.Restriction
 restriction_of (restriction.Range spans error) = restrictions.range spans.items error
 restriction_of (restriction.Length spans error) = restrictions.length spans.items error
+restriction_of (restriction.Pattern expression inverted error) = restrictions.pattern expression.value inverted error
 restriction_of (restriction.RequireInstance b) = restrictions.require_instance b

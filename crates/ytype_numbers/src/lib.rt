@@ -1,10 +1,12 @@
-//! Numbers of types: their texts, the ranges and lengths that restrict them, and the names that stand for them.
+//! Numbers of types: their texts, the ranges and lengths that restrict them, and the names that stand for them; regular
+//! expressions.
 #![tactic(auto)]
 
 mod bits;
 mod decimal;
 mod digits;
 mod error_text;
+mod expression;
 mod fault;
 mod name;
 mod named;
@@ -17,6 +19,7 @@ pub use bits::positions_in;
 pub use decimal::{decimal_text, integer_text};
 pub use digits::FractionDigits;
 pub use error_text::ErrorText;
+pub use expression::Expression;
 pub use fault::NarrowFault;
 pub use name::{Naming, bit_names, enum_names};
 pub use named::{bits_text, name_of_number};

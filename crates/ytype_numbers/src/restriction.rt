@@ -8,10 +8,12 @@ ghost use Rattle.yspec.specs.Results.{Gives};
 ghost use Rattle.ytype_numbers.specs.Words.{narrow_refusal, same};
 
 use crate::error_text::ErrorText;
+use crate::expression::Expression;
 use crate::fault::NarrowFault;
 use crate::range::{Part, Range};
 use std::alloc::Global;
 use std::marker::Model;
+use std::rc::Rc;
 
 /// One end of a part of a range or length.
 #[derive(Clone, Copy, Debug, PartialEq, Eq)]
@@ -54,9 +56,21 @@ impl Span {
 #[derive(Debug, Drop)]
 pub enum Restriction {
     /// The numbers that it takes (RFC 7950, 9.2.4).
-    Range { spans: Vec<Span>, error: ErrorText },
+    Range {
+        spans: Vec<Span>,
+        error: ErrorText,
+    },
     /// How many characters its texts have (9.4.4).
-    Length { spans: Vec<Span>, error: ErrorText },
+    Length {
+        spans: Vec<Span>,
+        error: ErrorText,
+    },
+    /// The texts that an expression describes, or all others (9.4.5, 9.4.6).
+    Pattern {
+        expression: Rc<Expression>,
+        inverted: bool,
+        error: ErrorText,
+    },
     /// Whether a leafref requires an instance (9.9.3).
     RequireInstance(bool),
 }

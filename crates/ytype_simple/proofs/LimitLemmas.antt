@@ -1,39 +1,47 @@
--- The restrictions of a type, of which the outermost stands apart.
-use Rattle.std.proofs.Common.{◌≡◌, ℤ, List, [], ◌∷◌, ◌++◌, Option, Some, None, refl, sym, ap, ◌∙◌, ℕ, ◌+◌, drop}
-use Rattle.std.specs.Prelude.{not, slice_get, option_and_then}
+-- One step of a loop over the restrictions of a type.
+use Rattle.std.proofs.Common.{◌≡◌, List, [], ◌∷◌, ◌++◌, Option, Some, None, refl, sym, ap, ◌∙◌, ℕ, ◌+◌, take, drop}
+use Rattle.std.specs.Prelude.{not, slice_get, option_and_then, option_to_list, unwrap_or}
 use Rattle.std.specs.Option.{option_or}
 use Rattle.std.proofs.lemmas.List.Folds.{find-append}
-use Rattle.yspec.specs.types.Ranges.{Part, Limit, holds}
-use Rattle.yspec.specs.types.Types.{excluding}
-use Rattle.yspec.specs.types.Restriction.{left_after, left_by}
-use Rattle.ytype_simple.proofs.RowLemmas.{here, past}
+use Rattle.yspec.specs.types.Ranges.{Part, Test, within, matching, Limit}
+use Rattle.yspec.specs.types.Types.{Content, passes, excluding}
+use Rattle.yspec.specs.types.Restriction.{left_within, left_after}
+use Rattle.ytype_simple.specs.Limits.{numbers_in}
+use Rattle.ytype_simple.proofs.RowLemmas.{here, past, taken_next}
 
-left_after_last : (parts : List Part) (inner : List Limit) (outermost : Limit) → left_after parts (inner ++ outermost ∷ []) ≡ outermost.parts
-left_after_last parts [] outermost = refl
-left_after_last parts (l ∷ inner) outermost = left_after_last l.parts inner outermost
+first_one : (l : Limit) (rest : List Limit) (x : Content) → excluding (l ∷ rest) x ≡ option_or (excluding (l ∷ []) x) (excluding rest x)
+first_one l rest x = find-append (λ (m : Limit). not (passes m.test x)) (l ∷ []) rest
 
-pub left_by_last : (numbers : Part) (inner : List Limit) (outermost : Limit) → left_by numbers (inner ++ outermost ∷ []) ≡ outermost.parts
-left_by_last numbers inner outermost = left_after_last (numbers ∷ []) inner outermost
+module _ (ls : List Limit) (i : ℕ) (x : Content) where
+  by_this : (o : Option Limit) → o ≡ slice_get ls i → option_or (option_and_then (λ (l : Limit). excluding (l ∷ []) x) o) (excluding (drop (i + 1) ls) x) ≡ excluding (drop i ls) x
+  by_this None e = ap (λ (ms : List Limit). excluding ms x) (past ls i e)
+  by_this (Some l) e = sym (first_one l (drop (i + 1) ls) x) ∙ sym (ap (λ (ms : List Limit). excluding ms x) (here ls i l e))
 
-last_one : (inner : List Limit) (outermost : Limit) (z : ℤ) → excluding (inner ++ outermost ∷ []) z ≡ option_or (excluding inner z) (excluding (outermost ∷ []) z)
-last_one inner outermost z = find-append (λ (l : Limit). not (holds l.parts z)) inner (outermost ∷ [])
+  pub not_this : None ≡ option_and_then (λ (l : Limit). excluding (l ∷ []) x) (slice_get ls i) → excluding (drop (i + 1) ls) x ≡ excluding (drop i ls) x
+  not_this e = ap (λ (o : Option Limit). option_or o (excluding (drop (i + 1) ls) x)) e ∙ by_this (slice_get ls i) refl
 
-pub excluded_inside : (inner : List Limit) (outermost : Limit) (z : ℤ) (l : Limit) → Some l ≡ excluding inner z → Some l ≡ excluding (inner ++ outermost ∷ []) z
-excluded_inside inner outermost z l e = ap (λ (o : Option Limit). option_or o (excluding (outermost ∷ []) z)) e ∙ sym (last_one inner outermost z)
+  pub is_this : (m : Limit) → Some m ≡ option_and_then (λ (l : Limit). excluding (l ∷ []) x) (slice_get ls i) → Some m ≡ excluding (drop i ls) x
+  is_this m e = ap (λ (o : Option Limit). option_or o (excluding (drop (i + 1) ls) x)) e ∙ by_this (slice_get ls i) refl
 
-pub excluded_last : (inner : List Limit) (outermost : Limit) (z : ℤ) → None ≡ excluding inner z → excluding (outermost ∷ []) z ≡ excluding (inner ++ outermost ∷ []) z
-excluded_last inner outermost z e = ap (λ (o : Option Limit). option_or o (excluding (outermost ∷ []) z)) e ∙ sym (last_one inner outermost z)
+left_by_both : (parts : List Part) (front back : List Limit) → left_after parts (front ++ back) ≡ left_after (left_after parts front) back
+left_by_both parts [] back = refl
+left_by_both parts (l ∷ front) back = left_by_both (left_within parts l.test) front back
 
-first_one : (l : Limit) (rest : List Limit) (z : ℤ) → excluding (l ∷ rest) z ≡ option_or (excluding (l ∷ []) z) (excluding rest z)
-first_one l rest z = find-append (λ (m : Limit). not (holds m.parts z)) (l ∷ []) rest
+module _ (parts : List Part) (ls : List Limit) (i : ℕ) where
+  abbrev before : List Part
+  before = left_after parts (take i ls)
 
-module _ (ls : List Limit) (i : ℕ) (z : ℤ) where
-  by_this : (o : Option Limit) → o ≡ slice_get ls i → option_or (option_and_then (λ (l : Limit). excluding (l ∷ []) z) o) (excluding (drop (i + 1) ls) z) ≡ excluding (drop i ls) z
-  by_this None e = ap (λ (ms : List Limit). excluding ms z) (past ls i e)
-  by_this (Some l) e = sym (first_one l (drop (i + 1) ls) z) ∙ sym (ap (λ (ms : List Limit). excluding ms z) (here ls i l e))
+  of_test : (test : Test) → left_within before test ≡ unwrap_or (numbers_in test) before
+  of_test (within fewer) = refl
+  of_test (matching expression inverted) = refl
 
-  pub not_this : None ≡ option_and_then (λ (l : Limit). excluding (l ∷ []) z) (slice_get ls i) → excluding (drop (i + 1) ls) z ≡ excluding (drop i ls) z
-  not_this e = ap (λ (o : Option Limit). option_or o (excluding (drop (i + 1) ls) z)) e ∙ by_this (slice_get ls i) refl
+  of_last : (o : Option Limit) → left_after before (option_to_list o) ≡ unwrap_or (option_and_then (λ (l : Limit). numbers_in l.test) o) before
+  of_last None = refl
+  of_last (Some l) = of_test l.test
 
-  pub is_this : (m : Limit) → Some m ≡ option_and_then (λ (l : Limit). excluding (l ∷ []) z) (slice_get ls i) → Some m ≡ excluding (drop i ls) z
-  is_this m e = ap (λ (o : Option Limit). option_or o (excluding (drop (i + 1) ls) z)) e ∙ by_this (slice_get ls i) refl
+  pub left_by_last : (found : Option (List Part)) → found ≡ option_and_then (λ (l : Limit). numbers_in l.test) (slice_get ls i)
+      → left_after parts (take (i + 1) ls) ≡ unwrap_or found before
+  left_by_last found e =
+      let o = slice_get ls i in
+      ap (left_after parts) (taken_next ls i o refl) ∙ (left_by_both parts (take i ls) (option_to_list o)
+      ∙ (of_last o ∙ ap (λ (f : Option (List Part)). unwrap_or f before) (sym e)))

@@ -1,16 +1,16 @@
 //! Types that are no unions: a built-in type with its restrictions.
 
-ghost use Rattle.std.specs.Prelude.{◌≡◌, ◌++◌, ◌∷◌, [], option_and_then, slice_get, ok_or, ◌≤◌, IfOk, IfSome};
+ghost use Rattle.std.specs.Prelude.{◌≡◌, ◌∷◌, [], option_and_then, option_to_list, slice_get, ok_or, ◌≤◌, IfOk, IfSome};
 ghost use Rattle.std.specs.Option.{ForSome};
 ghost use Rattle.std.specs.String.{string_bytes};
-ghost use Rattle.yspec.specs.types.Ranges.{holds};
-ghost use Rattle.yspec.specs.types.Types.{excluding, limited, simple_taken, simple_excluding, simple_error, simple_in};
+ghost use Rattle.yspec.specs.types.Types.{is_taken_text, passes, excluding, limited, simple_taken, simple_excluding, simple_error, simple_in};
 ghost use Rattle.yspec.specs.types.Values.{simple_read, content_text};
-ghost use Rattle.yspec.specs.types.Restriction.{left_by, limited_by, with_limit, range_base, length_base, narrowed_simple};
+ghost use Rattle.yspec.specs.types.Restriction.{left_after, left_by, limited_by, with_limit, range_base, length_base, may_match, pattern, narrowed_simple};
 ghost use Rattle.ytype_numbers.specs.View.{text_of, restriction_of};
 ghost use Rattle.yspec.specs.Results.{Gives};
 ghost use Rattle.ytype_numbers.specs.Words.{narrow_refusal, same};
-ghost use Rattle.ytype_simple.specs.View.{raw_of, base_of, content_of};
+ghost use Rattle.ytype_simple.specs.View.{raw_of, base_of, content_of, found_of};
+ghost use Rattle.ytype_simple.specs.Limits.{numbers_in, test_of};
 ghost use Rattle.ytype_simple.specs.Identities.{is_identity, module_names_view};
 ghost use Rattle.ytype_simple.specs.Founds.{founds, contents, now_of};
 
@@ -24,21 +24,98 @@ use std::marker::Model;
 use std::rc::Rc;
 use std::slice;
 use ybase_row::Row;
-use ytype_numbers::{ErrorText, NarrowFault, Part, Range, Restriction, Span, restricted};
+use ytype_numbers::{
+    ErrorText, Expression, NarrowFault, Part, Range, Restriction, Span, restricted,
+};
 
-/// A range or length, with what it says of other values.
+/// What a restriction asks of a value.
+#[derive(Debug, Drop)]
+pub(crate) enum Test {
+    /// That it, or how many characters it has, is one of these numbers.
+    Within(Range),
+    /// That it is a text which the expression describes, or any other.
+    Matching {
+        expression: Rc<Expression>,
+        inverted: bool,
+    },
+}
+
+impl Clone for Test {
+    ghost use Rattle.std.specs.Prelude.{◌≡◌};
+    ghost use Rattle.ytype_simple.specs.Limits.{test_of};
+
+    ghost is_clone = { λ test copy. test_of copy ≡ test_of test };
+
+    fn clone(&self) -> Result<Test, AllocError>
+        ensures { IfOk result (λ copy. test_of copy ≡ test_of self.now) }
+    {
+        match self {
+            Test::Within(range) => Ok(Test::Within(range.clone()?)),
+            Test::Matching {
+                expression,
+                inverted,
+            } => Ok(Test::Matching {
+                expression: expression.clone()?,
+                inverted: *inverted,
+            }),
+        }
+    }
+}
+
+fn is_taken_text(
+    alloc: Global,
+    expression: &Rc<Expression>,
+    inverted: bool,
+    text: &str,
+) -> Result<bool, AllocError>
+    ensures { IfOk result (λ b. b ≡ is_taken_text expression.now.value inverted text.now) }
+{
+    let matches = expression.matches(alloc, text)?;
+    if inverted { Ok(!matches) } else { Ok(matches) }
+}
+
+impl Test {
+    /// Whether a value has what it asks.
+    fn passes(&self, alloc: Global, found: &Found<'_>) -> Result<bool, AllocError>
+        ensures { IfOk result (λ b. b ≡ passes (test_of self.now) (found_of found.now)) }
+    {
+        match self {
+            Test::Within(range) => Ok(range.holds(found.measure())),
+            Test::Matching {
+                expression,
+                inverted,
+            } => match found {
+                Found::Text(text) => is_taken_text(alloc, expression, *inverted, text),
+                _ => Ok(true),
+            },
+        }
+    }
+
+    /// The numbers of which it asks that a value be one.
+    fn numbers(&self) -> Option<&[Part]>
+        ensures { now_of result ≡ numbers_in (test_of self.now) }
+    {
+        match self {
+            Test::Within(range) => Some(range.parts()),
+            Test::Matching { .. } => None,
+        }
+    }
+}
+
+/// A restriction, with what it says of other values.
 #[derive(Debug, Drop)]
 pub(crate) struct Limit {
-    range: Range,
+    test: Test,
     error: ErrorText,
 }
 
 impl Model for Limit {
     ghost use Rattle.yspec.specs.types.Ranges as ranges;
+    ghost use Rattle.ytype_simple.specs.Limits.{test_of};
 
     ghost Value = { ranges.Limit };
 
-    ghost view = { λ l. record { parts = l.range; error = l.error } };
+    ghost view = { λ l. record { test = test_of l.test; error = l.error } };
 }
 
 impl Clone for Limit {
@@ -50,7 +127,7 @@ impl Clone for Limit {
         ensures { IfOk result (λ copy. copy ≡ self.now) }
     {
         Ok(Limit {
-            range: self.range.clone()?,
+            test: self.test.clone()?,
             error: self.error.clone()?,
         })
     }
@@ -63,59 +140,94 @@ impl Limit {
         &self.error
     }
 
-    fn parts(&self) -> &[Part]
-        ensures { result.now ≡ self.now.parts }
+    fn numbers(&self) -> Option<&[Part]>
+        ensures { now_of result ≡ numbers_in self.now.test }
     {
-        self.range.parts()
+        self.test.numbers()
     }
 
-    fn excluding(&self, number: i128) -> Option<&Limit>
-        ensures { now_of result ≡ excluding (self.now ∷ []) number }
+    fn excluding(&self, alloc: Global, found: &Found<'_>) -> Result<Option<&Limit>, AllocError>
+        ensures { IfOk result (λ limit. now_of limit
+            ≡ excluding (self.now ∷ []) (found_of found.now)) }
     {
-        if self.range.holds(number) {
-            None
+        if self.test.passes(alloc, found)? {
+            Ok(None)
         } else {
-            Some(self)
+            Ok(Some(self))
         }
     }
 }
 
-fn excluding_at(limits: &Row<Limit>, index: usize, number: i128) -> Option<&Limit>
-    ensures { now_of result
-        ≡ option_and_then (λ l. excluding (l ∷ []) number) (slice_get limits.now index) }
+fn excluding_at<'a>(
+    alloc: Global,
+    limits: &'a Row<Limit>,
+    index: usize,
+    found: &Found<'_>,
+) -> Result<Option<&'a Limit>, AllocError>
+    ensures { IfOk result (λ limit. now_of limit
+        ≡ option_and_then (λ l. excluding (l ∷ []) (found_of found.now))
+        (slice_get limits.now index)) }
 {
-    limits.get(index)?.excluding(number)
+    match limits.get(index) {
+        None => Ok(None),
+        Some(limit) => limit.excluding(alloc, found),
+    }
 }
 
-fn excluding(limits: &Row<Limit>, number: i128) -> Option<&Limit>
-    ensures { now_of result ≡ excluding limits.now number }
+fn excluding<'a>(
+    alloc: Global,
+    limits: &'a Row<Limit>,
+    found: &Found<'_>,
+) -> Result<Option<&'a Limit>, AllocError>
+    ensures { IfOk result (λ limit. now_of limit
+        ≡ excluding limits.now (found_of found.now)) }
 {
     'limits: for index in 0..limits.len() {
-        match excluding_at(limits, index, number) {
+        match excluding_at(alloc, limits, index, found)? {
             None => {}
-            Some(limit) => return Some(limit),
+            Some(limit) => return Ok(Some(limit)),
         }
     }
-    None
+    Ok(None)
+}
+
+fn numbers_at<'a>(limits: &'a Row<Limit>, index: usize) -> Option<&'a [Part]>
+    ensures { now_of result
+        ≡ option_and_then (λ l. numbers_in l.test) (slice_get limits.now index) }
+{
+    limits.get(index)?.numbers()
+}
+
+/// The numbers that the outermost restriction by numbers leaves, or these where there is none.
+fn left_after<'a>(limits: &'a Row<Limit>, parts: &'a [Part]) -> &'a [Part]
+    ensures { result.now ≡ left_after parts.now limits.now }
+{
+    let mut count = limits.len();
+    while count > 0 {
+        count -= 1;
+        match numbers_at(limits, count) {
+            None => {}
+            Some(numbers) => return numbers,
+        }
+    }
+    parts
 }
 
 /// A built-in type with restrictions, which stand from the built-in type outwards.
 #[derive(Debug, Drop)]
 struct LimitedType {
     base: Base,
-    inner: Row<Limit>,
-    outermost: Rc<Limit>,
+    limits: Row<Limit>,
 }
 
 impl Model for LimitedType {
-    ghost use Rattle.std.specs.Prelude.{◌++◌, ◌∷◌, []};
     ghost use Rattle.yspec.specs.types.Types as types;
 
     ghost Value = { types.SimpleType };
 
     ghost use Rattle.ytype_simple.specs.View.{base_of};
 
-    ghost view = { λ l. record { base = base_of l.base; limits = l.inner ++ l.outermost.value ∷ [] } };
+    ghost view = { λ l. record { base = base_of l.base; limits = l.limits } };
 }
 
 impl LimitedType {
@@ -125,13 +237,11 @@ impl LimitedType {
         &self.base
     }
 
-    fn excluding(&self, number: i128) -> Option<&Limit>
-        ensures { now_of result ≡ excluding self.now.limits number }
+    fn excluding(&self, alloc: Global, found: &Found<'_>) -> Result<Option<&Limit>, AllocError>
+        ensures { IfOk result (λ limit. now_of limit
+            ≡ excluding self.now.limits (found_of found.now)) }
     {
-        match excluding(&self.inner, number) {
-            Some(limit) => Some(limit),
-            None => self.outermost.excluding(number),
-        }
+        excluding(alloc, &self.limits, found)
     }
 
     fn of_module(&self, home: &Rc<String>) -> Result<LimitedType, AllocError>
@@ -139,22 +249,20 @@ impl LimitedType {
     {
         Ok(LimitedType {
             base: self.base.of_module(home)?,
-            inner: self.inner.clone()?,
-            outermost: self.outermost.clone()?,
+            limits: self.limits.clone()?,
         })
     }
 
-    fn left(&self) -> &[Part]
-        ensures { (numbers : _) → result.now ≡ left_by numbers self.now.limits }
+    fn left<'a>(&'a self, numbers: &'a Part) -> &'a [Part]
+        ensures { result.now ≡ left_by numbers.now self.now.limits }
     {
-        self.outermost.parts()
+        left_after(&self.limits, slice::from_ref(numbers))
     }
 
-    fn limits(&self, alloc: Global) -> Result<Row<Limit>, AllocError>
+    fn limits(&self) -> Result<Row<Limit>, AllocError>
         ensures { IfOk result (λ limits. limits ≡ self.now.limits) }
     {
-        let outermost = Row::one(self.outermost.clone()?);
-        Row::joined(alloc, &self.inner, &outermost)
+        self.limits.clone()
     }
 }
 
@@ -216,12 +324,13 @@ impl SimpleType {
         }
     }
 
-    fn excluding(&self, number: i128) -> Option<&Limit>
-        ensures { now_of result ≡ excluding self.now.limits number }
+    fn excluding(&self, alloc: Global, found: &Found<'_>) -> Result<Option<&Limit>, AllocError>
+        ensures { IfOk result (λ limit. now_of limit
+            ≡ excluding self.now.limits (found_of found.now)) }
     {
         match &self.form {
-            Form::Plain(_) => None,
-            Form::Limited(limited) => limited.excluding(number),
+            Form::Plain(_) => Ok(None),
+            Form::Limited(limited) => limited.excluding(alloc, found),
         }
     }
 
@@ -231,7 +340,7 @@ impl SimpleType {
     {
         match found {
             None => Ok(None),
-            Some(found) => match self.excluding(found.measure()) {
+            Some(found) => match self.excluding(alloc, &found)? {
                 Some(_) => Ok(None),
                 None => Ok(Some(found.into_content(alloc)?)),
             },
@@ -301,7 +410,7 @@ impl SimpleType {
     {
         match self.base().taken(alloc, raw)? {
             None => Ok(None),
-            Some(found) => Ok(self.excluding(found.measure())),
+            Some(found) => self.excluding(alloc, &found),
         }
     }
 
@@ -341,12 +450,12 @@ impl SimpleType {
         }
     }
 
-    fn limits(&self, alloc: Global) -> Result<Row<Limit>, AllocError>
+    fn limits(&self) -> Result<Row<Limit>, AllocError>
         ensures { IfOk result (λ limits. limits ≡ self.now.limits) }
     {
         match &self.form {
             Form::Plain(_) => Ok(Row::new()),
-            Form::Limited(limited) => limited.limits(alloc),
+            Form::Limited(limited) => limited.limits(),
         }
     }
 
@@ -356,7 +465,7 @@ impl SimpleType {
     {
         match &self.form {
             Form::Plain(_) => slice::from_ref(numbers),
-            Form::Limited(limited) => limited.left(),
+            Form::Limited(limited) => limited.left(numbers),
         }
     }
 
@@ -373,23 +482,23 @@ impl SimpleType {
     {
         match restricted(alloc, self.left(&bounds.0), bounds.1, spans) {
             Err(fault) => Err(fault),
-            Ok(range) => Ok(self.with_limit(alloc, range, error)?),
+            Ok(range) => Ok(self.with_limit(alloc, Test::Within(range), error)?),
         }
     }
 
     fn with_limit(
         &self,
         alloc: Global,
-        range: Range,
+        test: Test,
         error: &ErrorText,
     ) -> Result<SimpleType, AllocError>
-        ensures { IfOk result (λ type. type ≡ with_limit self.now error.now range) }
+        ensures { IfOk result (λ type. type ≡ with_limit self.now error.now (test_of test)) }
     {
         let error = error.clone()?;
+        let outermost = Row::one(Rc::new(alloc, Limit { test, error })?);
         let limited = LimitedType {
             base: self.base().clone()?,
-            inner: self.limits(alloc)?,
-            outermost: Rc::new(alloc, Limit { range, error })?,
+            limits: Row::joined(alloc, &self.limits()?, &outermost)?,
         };
         Ok(SimpleType {
             form: Form::Limited(Rc::new(alloc, limited)?),
@@ -414,7 +523,34 @@ impl SimpleType {
         }
     }
 
-    /// The type that a range or length makes of it.
+    fn may_match(&self) -> bool
+        ensures { result ≡ may_match self.now.base }
+    {
+        matches!(self.base(), Base::Text)
+    }
+
+    fn matching(
+        &self,
+        alloc: Global,
+        expression: &Rc<Expression>,
+        inverted: bool,
+        error: &ErrorText,
+    ) -> Result<SimpleType, NarrowFault>
+        ensures { Gives same narrow_refusal result
+            (ok_or (narrowed_simple self.now (pattern expression.now.value inverted error.now)) tt) }
+    {
+        if !self.may_match() {
+            return Err(NarrowFault::Refused);
+        }
+        let expression = expression.clone()?;
+        let test = Test::Matching {
+            expression,
+            inverted,
+        };
+        Ok(self.with_limit(alloc, test, error)?)
+    }
+
+    /// The type that a range, a length or a pattern makes of it.
     pub fn narrow(
         &self,
         alloc: Global,
@@ -430,6 +566,11 @@ impl SimpleType {
             Restriction::Length { spans, error } => {
                 self.limited_where(alloc, spans, error, self.length_bounds())
             }
+            Restriction::Pattern {
+                expression,
+                inverted,
+                error,
+            } => self.matching(alloc, expression, *inverted, error),
             Restriction::RequireInstance(_) => Err(NarrowFault::Refused),
         }
     }

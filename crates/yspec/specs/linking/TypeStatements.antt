@@ -1,12 +1,12 @@
 -- The types that `type` statements mean, and where one breaks a rule of its own (RFC 7950, 7.3, 7.4 and 9).
 use Rattle.std.specs.Prelude.{ℕ, ℤ, pos, ◌&&◌, Bool, true, false, List, [], ◌∷◌, codes, Option, Some, None, option_map, option_and_then, unwrap_or, nat_lt, if◌then◌else◌}
-use Rattle.std.specs.List.{list_all}
+use Rattle.std.specs.List.{list_any, list_all}
 use Rattle.std.specs.Option.{option_map_or}
 use Rattle.yspec.specs.Forest.{Forest, end, node, row}
 use Rattle.yspec.specs.text.Text.{Text, is_text}
 use Rattle.yspec.specs.types.Ranges.{ErrorText, Span}
 use Rattle.yspec.specs.types.Names.{Naming, Assigned, enum_names, bit_names}
-use Rattle.yspec.specs.types.Restriction.{Restriction, range, length, narrowed, member_count, union_type}
+use Rattle.yspec.specs.types.Restriction.{Restriction, range, length, pattern, narrowed, member_count, union_type}
 use Rattle.yspec.specs.types.Types.{Base, decimal_base, boolean_base, empty_base, enumeration_base, bits_base, YangType, plain, integer_type, string_type}
 use Rattle.yspec.specs.linking.Keyword.{Keyword}
 use Rattle.yspec.specs.linking.Keyword as word
@@ -46,6 +46,16 @@ pub data Verdict : Type 0 where
   -- it rests on a type that breaks one
   unjudged : Verdict
 
+-- ---- patterns
+
+-- A `pattern` and a `modifier` are told by their texts, since the core's table has neither.
+abbrev pub is_pattern_statement : Source → Bool
+is_pattern_statement s = is_text s.statement.keyword (codes "pattern")
+
+-- the only modifier is `invert-match` (RFC 7950, 9.4.6)
+abbrev pub is_inverted : Forest Source → Bool
+is_inverted below = list_any (λ s. is_text s.statement.keyword (codes "modifier")) (row below)
+
 -- ---- restrictions
 
 -- the substatements that a built-in type may bear
@@ -62,8 +72,15 @@ may_bear leafref word.require_instance_word = true
 may_bear identityref word.base_word = true
 may_bear _ _ = false
 
+abbrev pub may_bear_patterns : BuiltIn → Bool
+may_bear_patterns string = true
+may_bear_patterns _ = false
+
+abbrev pub is_in_place : BuiltIn → Source → Bool
+is_in_place type s = if is_pattern_statement s then may_bear_patterns type else may_bear type s.keyword
+
 abbrev pub are_in_place : BuiltIn → Forest Source → Bool
-are_in_place type below = list_all (λ s. may_bear type s.keyword) (row below)
+are_in_place type below = list_all (is_in_place type) (row below)
 
 -- what the statements of a row say of a value that isn't taken (RFC 7950, 7.5.4.1 and 7.5.4.2)
 abbrev pub error_text_in : Forest Source → ErrorText
@@ -75,6 +92,15 @@ stated_by restriction s = restriction (unwrap_or (spans_of (argument_in s.0)) []
 
 abbrev pub stated : Keyword → (List Span → ErrorText → Restriction) → Forest Source → Option Restriction
 stated k restriction below = option_map (stated_by restriction) (found_with k below)
+
+abbrev pub pattern_stated : Source → Forest Source → Restriction
+pattern_stated s below = pattern (argument_in s) (is_inverted below) (error_text_in below)
+
+-- what the patterns of a row make of a type, in their order (RFC 7950, 9.4.5)
+unfoldable pub matched_in : Forest Source → YangType → Option YangType
+matched_in end type = Some type
+matched_in (node s below after) type = if is_pattern_statement s
+    then option_and_then (matched_in after) (narrowed type (pattern_stated s below)) else matched_in after type
 
 abbrev pub limited : Option Restriction → YangType → Option YangType
 limited None type = Some type
@@ -106,7 +132,7 @@ abbrev pub single_type : BuiltIn → Forest Source → Option YangType
 single_type (integer i) below = limited_range below (integer_type i)
 single_type decimal64 below = option_and_then (λ digits. limited_range below (plain (decimal_base digits)))
     (option_and_then fraction_digits_of (argument_with word.fraction_digits_word below))
-single_type string below = limited (stated word.length_word length below) string_type
+single_type string below = option_and_then (matched_in below) (limited (stated word.length_word length below) string_type)
 single_type boolean below = Some (plain boolean_base)
 single_type empty below = Some (plain empty_base)
 single_type enumeration below = of_names enumeration_base enum_names (namings word.enum_word value_stated below)
@@ -156,16 +182,24 @@ verdict_in_place modules is_member s type below members = option_map_or (λ t. m
 
 -- ---- by way of a typedef
 
--- what a substatement makes of what the typedef means: each is a restriction that a derived type may bear
+-- what a substatement makes of what the typedef means: each is a restriction that a derived type may bear; patterns come
+-- behind the others
+abbrev pub narrowed_by : Source → Forest Source → YangType → Option YangType
+narrowed_by s below type = if is_source_of word.range_word s then narrowed type (stated_by range (s, below))
+    else (if is_source_of word.length_word s then narrowed type (stated_by length (s, below)) else None)
+
 abbrev pub restricted_by : Source → Forest Source → Meant → Option Meant
-restricted_by s below (own type) = option_map own (if is_source_of word.range_word s then narrowed type (stated_by range (s, below))
-    else (if is_source_of word.length_word s then narrowed type (stated_by length (s, below)) else None))
+restricted_by s below (own type) = option_map own (if is_pattern_statement s then Some type else narrowed_by s below type)
 restricted_by s below (of_target home steps required) = if is_source_of word.require_instance_word s
     then Some (of_target home steps (is_text (argument_in s) (codes "true"))) else None
 
 unfoldable pub restricted_in : Forest Source → Meant → Option Meant
 restricted_in end m = Some m
 restricted_in (node s below after) m = option_and_then (restricted_in after) (restricted_by s below m)
+
+abbrev pub matched_meant : Forest Source → Meant → Option Meant
+matched_meant below (own type) = option_map own (matched_in below type)
+matched_meant below (of_target home steps required) = Some (of_target home steps required)
 
 abbrev pub is_reference : Meant → Bool
 is_reference (own type) = false
@@ -174,7 +208,7 @@ is_reference (of_target home steps required) = true
 -- of a `type` statement that names a typedef, given the verdict on the typedef's own; a member of a union is no leafref
 abbrev pub derived : Bool → Forest Source → Verdict → Verdict
 derived is_member below (means m) = if is_member && is_reference m then wrong
-    else option_map_or means (restricted_in below m) wrong
+    else option_map_or means (option_and_then (matched_meant below) (restricted_in below m)) wrong
 derived is_member below _ = unjudged
 
 -- ---- `named` is the verdict on the typedef that the statement of a number names

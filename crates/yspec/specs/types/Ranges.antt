@@ -1,4 +1,5 @@
--- Ranges and lengths: sets of whole numbers, and how a restriction cuts one down (RFC 7950, 9.2.4, 9.3.4, 9.4.4).
+-- Restrictions of values: ranges and lengths, which are sets of whole numbers, and how one is cut down by another (RFC 7950,
+-- 9.2.4, 9.3.4, 9.4.4); patterns (9.4.5).
 use Rattle.std.specs.Prelude.{ℕ, ◌-◌, ◌^◌, ℤ, pos, negsuc, ◌+ℤ◌, ◌*ℤ◌, int_le, int_lt, Bool, true, false, ◌&&◌, ◌||◌, List, [], ◌∷◌, Option, Some, None, option_map, option_and_then, if◌then◌else◌, nat_le}
 use Rattle.std.specs.List.{list_any, list_all}
 use Rattle.yspec.specs.text.Text.{Text}
@@ -13,9 +14,15 @@ pub record ErrorText : Type 0 where
   pub message : Option Text
   pub app_tag : Option Text
 
--- a range or length
+-- what a restriction asks of a value
+pub data Test : Type 0 where
+  -- a range or length
+  within : List Part → Test
+  -- a pattern, as it is written, and whether `invert-match` takes the other texts (RFC 7950, 9.4.6)
+  matching : Text → Bool → Test
+
 pub record Limit : Type 0 where
-  pub parts : List Part
+  pub test : Test
   pub error : ErrorText
 
 abbrev pub lies_in : ℤ → Part → Bool

@@ -1,12 +1,15 @@
--- Derived types: what a restriction makes of a type (RFC 7950, 9.2.4, 9.3.4, 9.4.4 and 9.9.3).
-use Rattle.std.specs.Prelude.{ℕ, ◌-◌, ◌^◌, pos, Bool, true, List, [], ◌∷◌, ◌++◌, Option, Some, None, option_map, option_and_then}
+-- Derived types: what a restriction makes of a type (RFC 7950, 9.2.4, 9.3.4, 9.4.4, 9.4.5 and 9.9.3).
+use Rattle.std.specs.Prelude.{ℕ, ◌-◌, ◌^◌, pos, Bool, true, false, List, [], ◌∷◌, ◌++◌, Option, Some, None, option_map, option_and_then, if◌then◌else◌}
 use Rattle.std.specs.Prelude as prelude
-use Rattle.yspec.specs.types.Ranges.{Part, ErrorText, Limit, Span, restricted}
+use Rattle.yspec.specs.text.Text.{Text}
+use Rattle.yspec.specs.types.Ranges.{Part, ErrorText, Test, within, matching, Limit, Span, restricted}
 use Rattle.yspec.specs.types.Types.{Base, integer_base, decimal_base, string_base, SimpleType, Shape, single, union, YangType, numbers_of, int64}
 
 pub data Restriction : Type 0 where
   range : List Span → ErrorText → Restriction
   length : List Span → ErrorText → Restriction
+  -- as it is written, and whether `invert-match` stands below it
+  pattern : Text → Bool → ErrorText → Restriction
   require_instance : Bool → Restriction
 
 -- a length runs from 0 to the greatest number of 64 bits
@@ -23,21 +26,30 @@ abbrev pub length_base : Base → Option (Part × ℕ)
 length_base string_base = Some (lengths, 0)
 length_base _ = None
 
+-- patterns stand on strings (RFC 7950, 9.4.5)
+abbrev pub may_match : Base → Bool
+may_match string_base = true
+may_match _ = false
+
+abbrev pub left_within : List Part → Test → List Part
+left_within parts (within fewer) = fewer
+left_within parts (matching expression inverted) = parts
+
 abbrev pub left_after : List Part → List Limit → List Part
 left_after parts [] = parts
-left_after parts (l ∷ ls) = left_after l.parts ls
+left_after parts (l ∷ ls) = left_after (left_within parts l.test) ls
 
--- the numbers that the restrictions of a type leave: those of the outermost one, which lies within all others
+-- the numbers that the ranges or lengths of a type leave: those of the outermost one, which lies within all others
 abbrev pub left_by : Part → List Limit → List Part
 left_by numbers limits = left_after (numbers ∷ []) limits
 
-abbrev pub with_limit : SimpleType → ErrorText → List Part → SimpleType
-with_limit type error parts =
-    record type { limits = type.limits ++ record { parts = parts; error = error } ∷ [] }
+abbrev pub with_limit : SimpleType → ErrorText → Test → SimpleType
+with_limit type error test =
+    record type { limits = type.limits ++ record { test = test; error = error } ∷ [] }
 
 abbrev pub limited_by : SimpleType → List Span → ErrorText → Part × ℕ → Option SimpleType
 limited_by type spans error bounds =
-    option_map (with_limit type error) (restricted (left_by bounds.0 type.limits) bounds.1 spans)
+    option_map (λ parts. with_limit type error (within parts)) (restricted (left_by bounds.0 type.limits) bounds.1 spans)
 
 abbrev with_shape : SimpleType → YangType
 with_shape s = record { shape = single s; requires_instance = None }
@@ -45,6 +57,8 @@ with_shape s = record { shape = single s; requires_instance = None }
 abbrev pub narrowed_simple : SimpleType → Restriction → Option SimpleType
 narrowed_simple s (range spans error) = option_and_then (limited_by s spans error) (range_base s.base)
 narrowed_simple s (length spans error) = option_and_then (limited_by s spans error) (length_base s.base)
+narrowed_simple s (pattern expression inverted error) =
+    if may_match s.base then Some (with_limit s error (matching expression inverted)) else None
 narrowed_simple s (require_instance b) = None
 
 abbrev narrowed_shape : Shape → Restriction → Option YangType

@@ -1,11 +1,11 @@
 -- Worked examples of types: built-in types and restrictions whose values are known from the standard's rules.
-use Rattle.std.specs.Prelude.{ℕ, ℤ, pos, Bool, false, List, [], ◌∷◌, codes, Option, Some, None, is_some, option_map, option_and_then}
+use Rattle.std.specs.Prelude.{ℕ, ℤ, pos, Bool, true, false, List, [], ◌∷◌, codes, Option, Some, None, is_some, option_map, option_and_then}
 use Rattle.std.specs.Option.{option_map_or}
 use Rattle.yspec.specs.text.Text.{Text}
 use Rattle.yspec.specs.types.Ranges.{Bound, least, greatest, number, Span, ErrorText}
 use Rattle.yspec.specs.types.Names.{Naming, Assigned, enum_names, bit_names}
-use Rattle.yspec.specs.types.Types.{Raw, text, Val, number_value, Integer, YangType, plain, integer_type, decimal_base, enumeration_base, bits_base, identity_base, taken, value}
-use Rattle.yspec.specs.types.Restriction.{Restriction, range, length, narrowed}
+use Rattle.yspec.specs.types.Types.{Raw, text, Val, number_value, Integer, YangType, plain, integer_type, string_type, decimal_base, enumeration_base, bits_base, identity_base, taken, value, app_tag_of}
+use Rattle.yspec.specs.types.Restriction.{Restriction, range, length, pattern, narrowed}
 use Rattle.yspec.specs.types.Identities.{ModuleNames}
 use Rattle.yspec.specs.types.Values.{value_of_text, canonical}
 
@@ -55,6 +55,27 @@ gaps = untagged (record { first = least; last = at (pos 5) } ∷ one (pos 7) ∷
 abbrev pub twice_narrowed : YangType → Restriction → Restriction → Option YangType
 twice_narrowed type inner outer = option_and_then (λ t. narrowed t outer) (narrowed type inner)
 
+-- a type with restrictions, from the innermost outwards
+abbrev pub all_narrowed : YangType → List Restriction → Option YangType
+all_narrowed type [] = Some type
+all_narrowed type (r ∷ rs) = option_and_then (λ t. all_narrowed t rs) (narrowed type r)
+
+abbrev pub with_tag : Text → ErrorText
+with_tag t = record { message = None; app_tag = Some t }
+
+abbrev pub matched : Text → Restriction
+matched expression = pattern expression false silent
+
+-- at most four digits (RFC 7950, 9.4.7)
+abbrev pub hex_digits : Option YangType
+hex_digits = all_narrowed string_type (measured (from_to (pos 0) (pos 4) ∷ []) ∷ matched (codes "[0-9a-fA-F]*") ∷ [])
+
+-- names that don't begin as `xml` does (RFC 7950, 9.4.7), with a tag each
+abbrev pub no_xml_name : Option YangType
+no_xml_name = all_narrowed string_type (length (record { first = at (pos 1); last = greatest } ∷ []) (with_tag (codes "short"))
+    ∷ pattern (codes "[a-zA-Z_][a-zA-Z0-9\\-_.]*") false (with_tag (codes "name"))
+    ∷ pattern (codes "[xX][mM][lL].*") true (with_tag (codes "xml")) ∷ [])
+
 abbrev pub is_taken : Option YangType → Raw → Bool
 is_taken type raw = option_map_or (λ t. is_some (taken t raw)) type false
 
@@ -81,6 +102,10 @@ three_bits = numbered (codes "x") (pos 3) ∷ named (codes "y") ∷ numbered (co
 
 abbrev pub taken_by : Option YangType → Text → Option Val
 taken_by type t = option_and_then (λ y. taken y (text t)) type
+
+-- the tag that it tells of a text
+abbrev pub tag_by : Option YangType → Text → Option Text
+tag_by type t = option_and_then (λ y. app_tag_of y (text t)) type
 
 abbrev pub shown_by : Option YangType → Text → Option Text
 shown_by type t = option_and_then (λ y. shown y t) type

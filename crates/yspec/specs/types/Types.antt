@@ -1,10 +1,13 @@
 -- Types, and the values that they take (RFC 7950, 9; the forms of JSON by RFC 7951, 6).
 use Rattle.std.specs.Prelude.{ℕ, ◌+◌, ◌-◌, ◌^◌, ℤ, pos, negsuc, Bool, true, false, not, ◌||◌, ◌==◌, List, [], ◌∷◌, length, map, Option, Some, None, is_some, option_map, option_and_then, find, if◌then◌else◌}
 use Rattle.std.specs.List.{list_all, list_any}
+use Rattle.std.specs.Option.{option_map_or}
 use Rattle.std.specs.Ordering.{int_eq}
 use Rattle.std.specs.Str.{chars}
+use Rattle.yspec_patterns.specs.Pattern.{accepts}
+use Rattle.yspec_patterns.specs.Reading.{pattern_of}
 use Rattle.yspec.specs.text.Text.{Text, is_text, is_yang_char, carriage_return}
-use Rattle.yspec.specs.types.Ranges.{Part, ErrorText, Limit, holds, lies_in}
+use Rattle.yspec.specs.types.Ranges.{Part, ErrorText, Test, within, matching, Limit, holds, lies_in}
 use Rattle.yspec.specs.types.Numerals.{integer_of, decimal_of}
 use Rattle.yspec.specs.types.Names.{Assigned, words_of, are_bit_names, named_by, positions_of}
 use Rattle.yspec.specs.types.Identities.{name_within}
@@ -74,7 +77,7 @@ pub data Base : Type 0 where
   -- of the leaf.
   identity_base : Text → List Assigned → List ℤ → Base
 
--- a type that is no union: its ranges or lengths stand from the built-in type outwards
+-- a type that is no union: its restrictions stand from the built-in type outwards
 pub record SimpleType : Type 0 where
   pub base : Base
   pub limits : List Limit
@@ -207,18 +210,35 @@ measure (text_value t) = pos (length (chars t))
 measure (number_value z) = z
 measure _ = pos 0
 
--- the first restriction that excludes a number
-abbrev pub excluding : List Limit → ℤ → Option Limit
-excluding limits z = find (λ l. not (holds l.parts z)) limits
+-- whether a text spells a pattern
+unfoldable pub is_pattern : Text → Bool
+is_pattern t = is_some (pattern_of (chars t))
+
+-- whether the whole of a text is one of the pattern that another spells (RFC 7950, 9.4.5)
+unfoldable pub is_match : Text → Text → Bool
+is_match pattern t = option_map_or (λ p. accepts p (chars t)) (pattern_of (chars pattern)) false
+
+abbrev pub is_taken_text : Text → Bool → Text → Bool
+is_taken_text pattern inverted t = if inverted then not (is_match pattern t) else is_match pattern t
+
+-- patterns judge texts alone
+abbrev pub passes : Test → Content → Bool
+passes (within parts) c = holds parts (measure c)
+passes (matching pattern inverted) (text_value t) = is_taken_text pattern inverted t
+passes (matching pattern inverted) _ = true
+
+-- the first restriction that excludes a value
+abbrev pub excluding : List Limit → Content → Option Limit
+excluding limits c = find (λ l. not (passes l.test c)) limits
 
 abbrev pub limited : List Limit → Content → Option Content
-limited limits c = if is_some (excluding limits (measure c)) then None else Some c
+limited limits c = if is_some (excluding limits c) then None else Some c
 
 abbrev pub simple_taken : SimpleType → Raw → Option Content
 simple_taken type raw = option_and_then (limited type.limits) (base_taken type.base raw)
 
 abbrev pub simple_excluding : SimpleType → Raw → Option Limit
-simple_excluding type raw = option_and_then (λ c. excluding type.limits (measure c)) (base_taken type.base raw)
+simple_excluding type raw = option_and_then (excluding type.limits) (base_taken type.base raw)
 
 abbrev error_of_limit : Limit → ErrorText
 error_of_limit l = l.error

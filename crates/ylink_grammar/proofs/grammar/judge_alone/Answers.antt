@@ -1,4 +1,4 @@
-use Rattle.std.proofs.Common.{[], ◌∷◌, ◌++◌, map, ap, ap₂, sym, not, false, ◌∙◌}
+use Rattle.std.proofs.Common.{[], ◌∷◌, ◌++◌, ap, ap₂, not, false, ◌∙◌}
 use Rattle.yspec.specs.schema.Breaks.{broken, least_from, when}
 use Rattle.std.specs.List.{list_any}
 use Rattle.std.specs.Option.{option_map_or}
@@ -8,10 +8,9 @@ use Rattle.ytext.specs.View.{view}
 use Rattle.ylink_conditions.specs.View.{version_view}
 use Rattle.ylink_grammar.specs.BreakView.{break_view, seen}
 use Rattle.ylink_grammar.specs.LanguageView.{language_view}
-use Rattle.ylink_grammar.specs.TableView.{allowed_views}
 use Rattle.ylink_grammar.specs.WordView.{word_view}
 use Rattle.ylink_grammar.proofs.JudgeLemmas.{judged_alone, unbroken}
-use Rattle.ylink_grammar.proofs.WordLemmas.{rows_alike, type_alike, version_alike}
+use Rattle.ylink_grammar.proofs.WordLemmas.{type_alike, version_alike}
 use Rattle.ylink_grammar.proofs.grammar.judge_alone.Goals as goal
 
 pub returns-then-not-miscounted : goal.returns-then-not-miscounted
@@ -22,12 +21,9 @@ returns-then-not-miscounted c =
     let w = word_view c.args.word in
     let s = (view c.args.statement.now).0 in
     let below = (view c.args.statement.now).1 in
-    let rule = c.rule_in-rule.result in
     let form = ap (λ r. r.form) c.rule_in-rule.ensures.rule in
     let fitting = c.in_ok-unfitting.ensures ∙ ap (λ f. option_map_or (fits_in v f) s.argument false) form in
-    let counted = c.is_miscounted-miscounted.ensures
-    ∙ (sym (rows_alike l below (map word_view rule.ahead.now) (allowed_views rule.substatements.now) (map word_view rule.behind.now))
-    ∙ ap (λ r. list_any (is_miscounted l below) r.substatements) c.rule_in-rule.ensures.rule) in
+    let counted = c.is_miscounted-miscounted.ensures ∙ ap (λ r. list_any (is_miscounted l below) r.substatements) c.rule_in-rule.ensures.rule in
     let told = seen c.args.told.now in
     unbroken told _ _ _ _ (broken 3 m s.line) (broken 1 m s.line) (broken 4 m s.line) (broken 2 m s.line) c.if-not-miscounted.true
     ∙ ap (least_from told) (ap₂ (λ x y. x ++ y) (ap (λ b. when (not b) (broken 3 m s.line)) fitting)
@@ -43,12 +39,9 @@ returns c =
     let w = word_view c.args.word in
     let s = (view c.args.statement.now).0 in
     let below = (view c.args.statement.now).1 in
-    let rule = c.rule_in-rule.result in
     let form = ap (λ r. r.form) c.rule_in-rule.ensures.rule in
     let fitting = c.in_ok-unfitting.ensures ∙ ap (λ f. option_map_or (fits_in v f) s.argument false) form in
-    let counted = c.is_miscounted-miscounted.ensures
-    ∙ (sym (rows_alike l below (map word_view rule.ahead.now) (allowed_views rule.substatements.now) (map word_view rule.behind.now))
-    ∙ ap (λ r. list_any (is_miscounted l below) r.substatements) c.rule_in-rule.ensures.rule) in
+    let counted = c.is_miscounted-miscounted.ensures ∙ ap (λ r. list_any (is_miscounted l below) r.substatements) c.rule_in-rule.ensures.rule in
     judged_alone (seen c.args.told.now) (seen c.least_when-first.result) (seen c.least_when-first-2.result) (seen c.least_when-first-3.result)
     (seen c.least_when.result) (when _ (break_view c.broken.result ∷ [])) (when _ (break_view c.broken-2.result ∷ []))
     (when _ (break_view c.broken-3.result ∷ [])) (when _ (break_view c.broken-4.result ∷ []))

@@ -7,7 +7,7 @@ pub loop-at-init : goal.loop-at-init
 loop-at-init c = record {
   forward = omega arith;
   within = omega (arith, c.requires.within);
-  same = λ width left line text. plain_first width left line text c.args.raw.now c.args.from c.requires.within c.requires.plain;
+  same = λ is_yang_1 width left line text. plain_first is_yang_1 width left line text c.args.raw.now c.args.from c.requires.within c.requires.plain;
 }
 
 pub loop-at-preserved : goal.loop-at-preserved
@@ -19,5 +19,5 @@ loop-at-preserved c =
     record {
       forward = omega (arith, before.forward);
       within = omega (arith, c.loop-at-test.true, c.as_bytes-bytes.ensures.len);
-      same = λ width left line text. before.same width left line text ∙ plain_next width line text raw c.args.from at (omega (arith, before.forward)) (omega (arith, c.loop-at-test.true, c.as_bytes-bytes.ensures.len)) test;
+      same = λ is_yang_1 width left line text. before.same is_yang_1 width left line text ∙ plain_next is_yang_1 width line text raw c.args.from at (omega (arith, before.forward)) (omega (arith, c.loop-at-test.true, c.as_bytes-bytes.ensures.len)) test;
     }

@@ -13,6 +13,6 @@ loop-place-init c = record {
 pub returns : goal.returns
 returns c =
     let width : ℕ = c.strip_width-width.result in
-    sym (c.strip_width-width.ensures c.args.line (string_bytes c.args.text.now))
+    sym (c.strip_width-width.ensures c.args.is_yang_1 c.args.line (string_bytes c.args.text.now))
     ∙ sym c.loop-place.invariant.rest
-    ∙ reading_done width c.loop-place.place.left c.loop-place.place.line (string_bytes c.loop-place.text) c.args.raw.now c.loop-place.place.at (omega (arith, c.loop-place-test.false))
+    ∙ reading_done c.args.is_yang_1 width c.loop-place.place.left c.loop-place.place.line (string_bytes c.loop-place.text) c.args.raw.now c.loop-place.place.at (omega (arith, c.loop-place-test.false))

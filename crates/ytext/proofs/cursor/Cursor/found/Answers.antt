@@ -1,7 +1,7 @@
 use Rattle.std.proofs.Common.{sym, ◌∙◌, refl, ap, arith, length}
 use Rattle.ytext.proofs.CursorLemmas.{left_by_front, piece_met, last_met, end_met}
-use Rattle.ytext.specs.declared.cursor.Lexeme.TheVariants.{End}
-use Rattle.ytext.specs.declared.cursor.Front.TheVariants.{Gap, Token, Last}
+use Rattle.ytext.specs.declared.lexeme.Lexeme.TheVariants.{End}
+use Rattle.ytext.specs.declared.lexeme.Front.TheVariants.{Gap, Token, Last}
 use Rattle.ytext.proofs.cursor.Cursor.found.Goals as goal
 
 pub loop-cursor-preserved : goal.loop-cursor-preserved

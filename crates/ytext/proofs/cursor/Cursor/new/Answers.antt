@@ -1,6 +1,6 @@
 use Rattle.std.proofs.Common.{arith}
 use Rattle.std.proofs.lemmas.Str.{IsCharBoundary-start}
-use Rattle.yspec.proofs.TextProofs.ScanningLemmas.{same_tokens}
+use Rattle.ytext.proofs.VersionLemmas.{tokens_first, pieces_first}
 use Rattle.ytext.proofs.cursor.Cursor.new.Goals as goal
 
 pub invariant_of-result : goal.invariant_of-result
@@ -11,4 +11,7 @@ invariant_of-result c = record {
 }
 
 pub returns-clause-start : goal.returns-clause-start
-returns-clause-start c = same_tokens 0 0 1 1 c.args.text.now
+returns-clause-start c = tokens_first c.args.is_yang_1 c.first.result c.args.text.now c.first.ensures
+
+pub returns-clause-pieces : goal.returns-clause-pieces
+returns-clause-pieces c = pieces_first c.args.is_yang_1 c.first.result c.args.text.now c.first.ensures

@@ -1,6 +1,6 @@
 use Rattle.std.proofs.Common.{◌≡◌, ◌+◌, ◌-◌, ◌≤◌, drop, length}
 use Rattle.std.specs.Str.{IsCharBoundary}
-use Rattle.yspec.specs.text.Scanning.{pieces_from}
+use Rattle.ytext.specs.Versions.{pieces_by}
 use Rattle.ytext.specs.Left.{pieces_left, column_at}
 use Rattle.ytext.proofs.cursor.Cursor.past_white.Given as goal
 
@@ -10,7 +10,7 @@ invariant-loop-at l = record {
   line : l.line ≤ l.at + 1;
   begun : l.line_start ≤ l.at;
   place : IsCharBoundary l.self.text.now l.at;
-  pieces : pieces_left l.self ≡ pieces_from 0 l.at l.line (column_at l.self.text.now l.line_start l.at) (drop l.at l.self.text.now);
+  pieces : pieces_left l.self ≡ pieces_by l.self.standing 0 l.at l.line (column_at l.self.text.now l.line_start l.at) (drop l.at l.self.text.now);
 }
 
 abbrev pub decreases-loop-at : goal.decreases-loop-at
