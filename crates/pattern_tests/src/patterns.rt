@@ -1,7 +1,7 @@
 //! Which texts a pattern takes, and which spell none.
 
 use std::alloc::Global;
-use ytype_patterns::{Pattern, PatternFault};
+use ytype_patterns::Pattern;
 
 // Whether a pattern takes a text.
 fn takes(alloc: Global, pattern: &str, text: &str) -> Option<bool> {
@@ -237,9 +237,10 @@ fn copies(alloc: Global, text: &str, count: usize) -> Option<String> {
     Some(copies)
 }
 
-// Why it isn't known what so many of a text spell.
-fn fault(alloc: Global, text: &str, count: usize) -> Option<PatternFault> {
-    Pattern::parse(alloc, &copies(alloc, text, count)?).err()
+// Whether so many of a text spell a pattern.
+fn is_read(alloc: Global, text: &str, count: usize) -> Option<bool> {
+    let spelled = Pattern::parse(alloc, &copies(alloc, text, count)?).ok()?;
+    Some(spelled.is_some())
 }
 
 #[test]
@@ -248,14 +249,47 @@ fn too_large(rt: HostRuntime) {
         ("a{4294967296}", 1),
         ("a{1,4294967296}", 1),
         ("a{99999999999999999999}", 1),
+        ("(a{500001}){0}", 1),
         ("((a{1000}){1000}){1000}", 1),
+        ("((a{60000})*)*", 1),
+        ("aaa{50001}", 1),
         ("(", 201),
-        ("\\d", 1_001),
+        ("\\d", 2_501),
     ] {
-        let fault = fault(rt.alloc(), text, count);
-        assert!(rt;
-            fault == Some(PatternFault::TooLarge),
-            "{count} of {text}: {fault:?}"
-        );
+        let is_read = is_read(rt.alloc(), text, count);
+        assert!(rt; is_read == Some(false), "{count} of {text}: {is_read:?}");
+    }
+}
+
+// Patterns at the limit: the engine takes each of them.
+#[test]
+fn largest(rt: HostRuntime) {
+    for (text, count) in [
+        ("aaa{50000}", 1),
+        ("(a{500000}){0}", 1),
+        (".{45454}", 1),
+        ("\u{1D4B3}{62500}", 1),
+        ("(|){50000}", 1),
+        ("(a|b|c|d|e|f|g|h|i|j){17857}", 1),
+        ("((((((a|b)*)*)*)*)*){624}", 1),
+        ("\\d", 2_500),
+    ] {
+        let is_read = is_read(rt.alloc(), text, count);
+        assert!(rt; is_read == Some(true), "{count} of {text}: {is_read:?}");
+    }
+}
+
+// The same, of sets with many ranges.
+#[test]
+fn widest(rt: HostRuntime) {
+    for text in [
+        "\\W{2427}",
+        "\\C{2427}",
+        "\\P{L}{2427}",
+        "[\\i\\c\\p{L}]{823}",
+        "[\\C\\P{Mn}-[\\p{S}]]{819}",
+    ] {
+        let is_read = is_read(rt.alloc(), text, 1);
+        assert!(rt; is_read == Some(true), "{text}: {is_read:?}");
     }
 }

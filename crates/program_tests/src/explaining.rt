@@ -182,7 +182,7 @@ yanglive tree --explain u unread.yang
 2 5
 unread.yang:4: C1
   | pattern x;
-  pattern is YANG 1.1, and this program doesn't read it.
+  pattern is YANG 1.1, and isn't read here.
   with --profile rfc this is read.
   A statement or a built-in type isn't known, may not stand there, or isn't read by this program. Correct its name, or move it; README says what of YANG is read.
 ==
@@ -190,7 +190,7 @@ yanglive validate --explain empty.json p.yang binary.yang
 2 4
 binary.yang:2: C1
   | leaf a { type binary; }
-  the type binary is YANG 1.1, and this program doesn't read it.
+  the type binary is YANG 1.1, and isn't read here.
   A statement or a built-in type isn't known, may not stand there, or isn't read by this program. Correct its name, or move it; README says what of YANG is read.
 ==
 yanglive compile --explain placed.yang

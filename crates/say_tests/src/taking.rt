@@ -4,7 +4,8 @@ use crate::explaining::all_explained;
 use std::alloc::Global;
 use ycheck::faults;
 use yinst_tree::read;
-use yschema::compile;
+use ylink_grammar::Language;
+use yschema::compile_in;
 use yschema_model::Schema;
 use ytext::parse;
 
@@ -34,20 +35,20 @@ const OTHER: &str = "module u {
 }
 ";
 
-// The schema with a leaf of this type.
-fn schema_of(alloc: Global, type_text: &str) -> Option<Schema> {
+// The schema with a leaf of this type, in a language.
+fn schema_of(alloc: Global, language: &Language, type_text: &str) -> Option<Schema> {
     let text = [FRONT, type_text, BACK].concat(alloc).ok()?;
     let mut modules = Vec::new(alloc);
     modules.push(parse(alloc, text.as_bytes()).ok()?).ok()?;
     modules.push(parse(alloc, OTHER.as_bytes()).ok()?).ok()?;
-    compile(alloc, &modules).ok()
+    compile_in(alloc, &modules, language).ok()
 }
 
 // `type => value => what is said`, the value as JSON.
-fn is_told(alloc: Global, row: &str) -> Option<bool> {
+fn is_told(alloc: Global, language: &Language, row: &str) -> Option<bool> {
     let (type_text, told) = row.split_once(" => ")?;
     let (value, sentence) = told.split_once(" => ")?;
-    let schema = schema_of(alloc, type_text)?;
+    let schema = schema_of(alloc, language, type_text)?;
     let document = ["{\"t:v\":", value, "}"].concat(alloc).ok()?;
     match read(alloc, &schema, document.as_bytes()) {
         Ok(tree) => {
@@ -112,6 +113,24 @@ union { type uint8; type identityref { base shape; } type identityref { base odd
 #[test]
 fn values_of_types(rt: HostRuntime) {
     for row in ROWS.lines() {
-        assert!(rt; is_told(rt.alloc(), row) == Some(true), "{row}");
+        assert!(rt;
+            is_told(rt.alloc(), &Language::Core, row) == Some(true),
+            "{row}"
+        );
+    }
+}
+
+const EXPRESSIONS: &str =
+    r#"string { pattern "[a-z]+"; } => "A" => "A" isn't a value of string: it takes a text in quotes that matches "[a-z]+".
+string { length "1..3"; pattern "[a-z]+"; pattern "xml.*" { modifier invert-match; } } => "xml" => "xml" isn't a value of string: it takes a text in quotes of length 1..3 that matches "[a-z]+" and doesn't match "xml.*". It matches "xml.*".
+string { pattern "[a-z]+"; pattern "..?" { error-message "Up to two."; } } => "abc" => "abc" isn't a value of string: it takes a text in quotes that matches "[a-z]+" and matches "..?". It doesn't match "..?". Its module says: Up to two.
+union { type string { pattern "[a-z]+"; pattern "..?"; } type empty; } => "abc" => "abc" isn't a value of union: it takes a text in quotes that matches "[a-z]+" and matches "..?" or [null].
+"#;
+
+#[test]
+fn texts_with_expressions(rt: HostRuntime) {
+    let language = Language::Rfc(Vec::new(rt.alloc()));
+    for row in EXPRESSIONS.lines() {
+        assert!(rt; is_told(rt.alloc(), &language, row) == Some(true), "{row}");
     }
 }

@@ -160,15 +160,15 @@ fn is_said(alloc: Global, row: &str) -> Option<bool> {
 fn sentences(rt: HostRuntime) {
     let rows = "1|module can't stand here.
 2|no statement is called contaner; near it: container.
-3|pattern is YANG 1.1, and this program doesn't read it.
+3|pattern is YANG 1.1, and isn't read here.
 4|leaf can't stand here.
-5|the type binary is YANG 1.1, and this program doesn't read it.
+5|the type binary is YANG 1.1, and isn't read here.
 6|no statement is called interface.
 7|
 8|x:y can't stand here.
 9|no statement is called leef; near it: leaf.
 10|
-11|the type instance-identifier is YANG 1.1, and this program doesn't read it.
+11|the type instance-identifier is YANG 1.1, and isn't read here.
 12|identity can't stand here.
 13|no statement is called bases; near it: base.
 14|

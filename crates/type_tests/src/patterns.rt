@@ -28,7 +28,9 @@ a+|b/ab/no
 ^a$/^a$/yes
 [a/a/none
 a{3,2}/aa/none
-(a/a/none";
+(a/a/none
+aaa{50000}/a/no
+aaa{50001}/a/none";
     for row in rows.lines() {
         assert!(rt; holds(rt.alloc(), row) == Some(true), "{row:?}");
     }

@@ -20,6 +20,10 @@ pub fn in_order(alloc: Global, count: usize, edges: &[Edge]) -> Result<Vec<usize
         → is_on_circle (map edge_view edges.now) (record { source = a; target = b }) ≡ false
         → StandsBefore nodes.items b a) }
 {
+    // Where nothing leads anywhere any order is one.
+    if edges.is_empty() {
+        return numbers(alloc, count);
+    }
     let rows = targets(alloc, count, edges)?;
     let ranks = ranks(alloc, rows.as_slice())?;
     by_rank(alloc, ranks.as_slice())

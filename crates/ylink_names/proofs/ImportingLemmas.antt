@@ -5,6 +5,7 @@ use Rattle.std.specs.List.{filter_map, flat_map, cons_option}
 use Rattle.std.specs.Option.{option_map_or}
 use Rattle.std.proofs.lemmas.Grind.{flat_map-append}
 use Rattle.std.proofs.lemmas.List.{append-nil, at_drop_all, map-append}
+use Rattle.yspec.proofs.LinkingProofs.PlacedLemmas.{flat_placed}
 use Rattle.yspec.specs.Forest.{Forest, end, node, preorder}
 use Rattle.yspec.specs.linking.Circles.{import_edge, import_edges, import_circle, import_circles, circle_break, is_circular}
 use Rattle.yspec.specs.linking.Graph as spec
@@ -41,16 +42,6 @@ sources_placed f ancestors (node s below after) =
     ap (λ l. f s ∷ l) (map-append (λ (p : Placed). f p.source) under (placed ancestors after)
     ∙ (ap₂ (λ a b. a ++ b) (sources_placed f ((s, below) ∷ ancestors) below) (sources_placed f ancestors after)
     ∙ sym (map-append f (preorder below) (preorder after))))
-
-flat_placed : {B : Type 0} (g : Source → List B) (ancestors : List (Source × Forest Source)) (f : Forest Source)
-    → flat_map (λ (p : Placed). g p.source) (placed ancestors f) ≡ flat_map g (preorder f)
-unfolding placed
-flat_placed g ancestors end = refl
-flat_placed g ancestors (node s below after) =
-    let under = placed ((s, below) ∷ ancestors) below in
-    ap (λ l. g s ++ l) (flat_map-append (λ (p : Placed). g p.source) under (placed ancestors after)
-    ∙ (ap₂ (λ a b. a ++ b) (flat_placed g ((s, below) ∷ ancestors) below) (flat_placed g ancestors after)
-    ∙ sym (flat_map-append g (preorder below) (preorder after))))
 
 module _ (modules : Forest Source) where
   abbrev pub flag_of : Placed → Bool

@@ -18,7 +18,7 @@ use crate::definitions::has_any_definition;
 use crate::references::{edges_by_number, present};
 use std::alloc::{AllocError, Global};
 use ybase_graph::{Edge, on_circles};
-use ylink_grammar::{BrokenRule, CompileCode, Source, Sources, broken, least_when};
+use ylink_grammar::{BrokenRule, CompileCode, Source, Sources, broken, least};
 
 /// What some flags say of the statement of a number.
 fn flag_at(circular: &[bool], number: usize) -> bool
@@ -65,11 +65,14 @@ fn judge_circle(
     ensures { (number : ℕ) → seen result ≡ least_from (seen so_far)
         (circle_by (source_view number statement.now) is_circular) }
 {
-    least_when(
-        is_circular,
-        so_far,
-        broken(CompileCode::C9, statement.home, statement.statement),
-    )
+    if is_circular {
+        least(
+            so_far,
+            broken(CompileCode::C9, statement.home, statement.statement),
+        )
+    } else {
+        so_far
+    }
 }
 
 /// The lesser of one so far and of the statements that lie on circles, by module and line.

@@ -10,7 +10,7 @@ ghost use Rattle.ylink_names.specs.MeaningView.{meaning_at, is_lost_by, lost_by,
 
 use crate::taken::is_built_in;
 use ybase_words::Keyword;
-use ylink_grammar::{BrokenRule, CompileCode, Source, Sources, broken, least_when};
+use ylink_grammar::{BrokenRule, CompileCode, Source, Sources, broken, least};
 
 /// What a table of meanings holds of the statement of a number.
 pub fn meaning_at(meanings: &[Option<u32>], number: usize) -> Option<u32>
@@ -42,11 +42,14 @@ fn judge_lost(
     ensures { (number : ℕ) → seen result ≡ least_from (seen so_far)
         (lost_by (source_view number statement.now) meaning) }
 {
-    least_when(
-        is_lost(statement, meaning),
-        so_far,
-        broken(CompileCode::C8, statement.home, statement.statement),
-    )
+    if is_lost(statement, meaning) {
+        least(
+            so_far,
+            broken(CompileCode::C8, statement.home, statement.statement),
+        )
+    } else {
+        so_far
+    }
 }
 
 /// The lesser of one so far and of the names of types, groupings and identities that mean nothing, by module and line.

@@ -4,6 +4,7 @@ ghost use Rattle.std.specs.Prelude.{◌≡◌, ◌==◌, List, IfOk, false, not}
 ghost use Rattle.std.specs.List.{flat_map};
 ghost use Rattle.std.specs.Option.{option_map_or};
 ghost use Rattle.yspec.specs.Forest.{Forest};
+ghost use Rattle.yspec.specs.schema.Breaks as told_spec;
 ghost use Rattle.yspec.specs.schema.Breaks.{least_from};
 ghost use Rattle.yspec.specs.linking.Source as sources;
 ghost use Rattle.yspec.specs.linking.StatementBreaks as breaks;
@@ -22,7 +23,7 @@ use crate::definitions::{DefinitionKind, Definitions, Scope, has_any_definition}
 use std::alloc::{AllocError, Global};
 use ybase_preorder::{Node, Siblings};
 use ybase_words::Keyword;
-use ylink_grammar::{BrokenRule, CompileCode, Source, Sources, broken, least_when};
+use ylink_grammar::{BrokenRule, CompileCode, Source, Sources, broken, least};
 
 /// Whether it is the name of a built-in type that isn't compiled.
 fn is_type_outside(name: &str) -> bool
@@ -66,6 +67,25 @@ fn is_taken(scope: &Scope<'_, '_>, number: u32, statement: &Source<'_>) -> bool
     }
 }
 
+/// The lesser of one so far and of the rule that a definition breaks whose name is taken.
+fn judge_taken(
+    statement: &Source<'_>,
+    is_taken: bool,
+    so_far: Option<BrokenRule>,
+) -> Option<BrokenRule>
+    ensures { seen result ≡ least_from (seen so_far) (told_spec.when is_taken
+        (told_spec.broken 7 statement.now.home (text.view statement.now.statement.now).0.line)) }
+{
+    if is_taken {
+        least(
+            so_far,
+            broken(CompileCode::C7, statement.home, statement.statement),
+        )
+    } else {
+        so_far
+    }
+}
+
 /// The least of one so far and of the definitions of a row, and below it, whose names are taken.
 fn broken_taken_rule_in<'t>(
     alloc: Global,
@@ -81,11 +101,7 @@ fn broken_taken_rule_in<'t>(
     for statement in statements {
         let source = statement.label();
         let taken = is_taken(scope, statement.number(), source);
-        told = least_when(
-            taken,
-            told,
-            broken(CompileCode::C7, source.home, source.statement),
-        );
+        told = judge_taken(source, taken, told);
         let row = Definitions::within(alloc, statement.children())?;
         let inner = (&*scope).inside(&row);
         told = broken_taken_rule_in(alloc, &inner, statement.children(), told)?;

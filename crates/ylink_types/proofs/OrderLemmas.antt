@@ -7,7 +7,6 @@ use Rattle.std.specs.Global.{Box}
 use Rattle.std.specs.Option.{option_map_or}
 use Rattle.std.proofs.lemmas.Bool.{and_parts}
 use Rattle.std.proofs.lemmas.Bool.Decides.{Decides-eqb}
-use Rattle.std.proofs.lemmas.List.{length-map}
 use Rattle.std.proofs.lemmas.List.FromFn.{length-range_with_len, get_or-range_with_len}
 use Rattle.std.proofs.lemmas.List.Sorted.{All-permutation, Contains-permutation, length_permutation}
 use Rattle.yspec.specs.Forest.{Forest, size}
@@ -21,15 +20,12 @@ use Rattle.yspec.specs.linking.Source.{Source}
 use Rattle.yspec.proofs.LinkingProofs.BreakLemmas.{none_first, none_second, unbroken}
 use Rattle.ybase_graph.specs.Reaching.{leads, has_edge, HasEdge, StandsBefore}
 use Rattle.ybase_preorder.specs.Layout.{numbered_by}
-use Rattle.ybase_preorder.specs.View.{row_by}
 use Rattle.ybase_preorder.proofs.LabelLemmas.{size-by}
-use Rattle.ybase_preorder.specs.declared.siblings.Siblings.{Siblings}
 use Rattle.ylink_grammar.specs.declared.source.Source as held
 use Rattle.ylink_grammar.specs.SourceView.{source_view}
 use Rattle.ylink_names.specs.MeaningView.{meaning_at, AreMeanings}
 use Rattle.ylink_names.specs.Ordered.{IsNamed, AreInOrder}
-use Rattle.ylink_names.proofs.NumberedLemmas.{length_placed}
-use Rattle.ylink_types.specs.TypedefView.{known_at, known_held, row_at, AreRows}
+use Rattle.ylink_types.specs.TypedefView.{known_at, known_held}
 use Rattle.ylink_types.specs.declared.typedefs.Known as known_in_code
 use Rattle.ylink_types.proofs.KnownLemmas.{same_known_of}
 use Rattle.ylink_names.proofs.OrderedLemmas.{edge_named, place_of}
@@ -215,13 +211,6 @@ no_circle edges h a b (p ∷ ps) none e =
 pub straight : (modules : Forest Source) → definition_circles modules ≡ [] → (a b : ℕ) → HasEdge (definition_edges modules) a b
     → is_on_circle (definition_edges modules) (record { source = a; target = b }) ≡ false
 straight modules none a b edge = no_circle (definition_edges modules) (definition_edge modules) a b (statements_of modules) none edge
-
--- as many rows as statements
-pub rows_count : (f : Forest held.Source) (rows : List (Option (Siblings held.Source))) → AreRows rows (numbered_by source_view 0 f)
-    → length rows ≡ size (numbered_by source_view 0 f)
-rows_count f rows are =
-    let statements = statements_of (numbered_by source_view 0 f) in
-    sym (length-map rows (option_map (row_by source_view))) ∙ (ap length are ∙ (length-map statements row_at ∙ (length_placed source_view [] 0 f ∙ sym (size-by source_view 0 f))))
 
 -- ---- a table in which what is known of one typedef is set
 

@@ -1,18 +1,14 @@
 -- What is known of typedefs, as the specification's.
-use Rattle.std.specs.Prelude.{◌≡◌, ℕ, Bool, List, Option, Some, None, option_map, option_and_then, slice_get, if◌then◌else◌, map}
+use Rattle.std.specs.Prelude.{◌≡◌, ℕ, Bool, List, Option, Some, None, option_map, option_and_then, slice_get}
 use Rattle.std.specs.Global.{Box}
 use Rattle.std.specs.Option.{option_map_or}
 use Rattle.yspec.specs.Forest.{Forest}
-use Rattle.yspec.specs.linking.Keyword.{typedef_word}
-use Rattle.yspec.specs.linking.Source.{Source, is_source_of}
-use Rattle.yspec.specs.linking.Scopes.{Placed, statements_of, number_named}
+use Rattle.yspec.specs.linking.Source.{Source}
+use Rattle.yspec.specs.linking.Scopes.{number_named}
 use Rattle.yspec.specs.linking.TypeStatements.{Verdict}
 use Rattle.yspec.specs.linking.DerivedTypes as spec
 use Rattle.yspec_wide.specs.Types.{known_named_of}
-use Rattle.ybase_preorder.specs.View.{row_by}
-use Rattle.ybase_preorder.specs.declared.siblings.Siblings.{Siblings}
-use Rattle.ylink_grammar.specs.SourceView.{source_view, stated_view}
-use Rattle.ylink_grammar.specs.declared.source.Source as held
+use Rattle.ylink_grammar.specs.SourceView.{stated_view}
 use Rattle.ylink_names.specs.MeaningView.{meaning_at}
 use Rattle.ylink_types.specs.IdentityView as identity
 use Rattle.ylink_types.specs.TypeView.{verdict_view}
@@ -52,16 +48,3 @@ IsOf t modules = (number : ℕ) → names_in t number ≡ spec.known_named modul
 pub record RestsOn (kept : Forest Source → Bool) (t : Typedefs) (modules : Forest Source) : Type 0 where
   pub named : (number : ℕ) → number_named modules number ≡ meaning_at t.meanings.items number
   pub identities : identity.IsOf kept t.identities modules
-
--- ---- their rows
-
--- the row below a statement that is a typedef
-abbrev pub row_at : Placed → Option (Forest Source)
-row_at p = if is_source_of typedef_word p.source then Some p.below else None
-
-abbrev pub rows_view : List (Option (Siblings held.Source)) → List (Option (Forest Source))
-rows_view rows = map (option_map (row_by source_view)) rows
-
--- the table holds the row below each statement of a set that is a typedef
-abbrev pub AreRows : List (Option (Siblings held.Source)) → Forest Source → Type 0
-AreRows rows modules = rows_view rows ≡ map row_at (statements_of modules)

@@ -1,11 +1,10 @@
 //! What typedefs mean, each made once (RFC 7950, 7.3).
 
-ghost use Rattle.std.specs.Prelude.{◌≡◌, ◌++◌, List, IfOk, OnOk, length, map, option_map, option_and_then, slice_get};
-ghost use Rattle.yspec.specs.linking.Scopes.{placed};
-ghost use Rattle.ybase_preorder.specs.View.{row_by, label_by};
+ghost use Rattle.std.specs.Prelude.{◌≡◌, IfOk, length, option_map};
+ghost use Rattle.yspec.specs.linking.DerivedTypes as spec;
+ghost use Rattle.ybase_preorder.specs.View.{row_by};
 ghost use Rattle.ylink_grammar.specs.LinkView.{view};
 ghost use Rattle.ylink_grammar.specs.SourceView.{source_view};
-ghost use Rattle.ylink_types.specs.TypedefView.{row_at, rows_view, AreRows};
 
 use crate::identities::Identities;
 use crate::types::{Verdict, verdict_on};
@@ -36,60 +35,16 @@ pub struct Typedefs<'t> {
     identities: Identities,
 }
 
-/// The row below a statement, where it is a typedef.
-fn typedef_row<'a, 't>(statement: Node<'a, Source<'t>>) -> Option<Siblings<'a, Source<'t>>>
-    ensures { (ancestors : List _) → option_map (row_by source_view) result ≡ row_at (record {
-      source = label_by source_view statement.entry;
-      below = row_by source_view statement.entry.children;
-      ancestors = ancestors;
-    }) }
+/// The row below the typedef of a number, where there is one.
+fn typedef_row<'a, 't>(sources: &'a Sources<'t>, number: usize) -> Option<Siblings<'a, Source<'t>>>
+    ensures { option_map (row_by source_view) result
+        ≡ spec.typedef_row (view sources.entry.now) number }
 {
-    if Keyword::Typedef.is(statement.label().keyword) {
-        Some(statement.children())
-    } else {
-        None
+    let slot = sources.slots().get(number)?;
+    if !Keyword::Typedef.is(slot.label.keyword) {
+        return None;
     }
-}
-
-/// Adds the rows below the typedefs among the statements of a row, and below it.
-fn add_typedef_rows<'a, 't>(
-    statements: Siblings<'a, Source<'t>>,
-    made: &mut Vec<Option<Siblings<'a, Source<'t>>>>,
-) -> Result<(), AllocError>
-    ensures { (ancestors : List _) → OnOk result (rows_view made.new.items
-        ≡ rows_view made.old.items
-        ++ map row_at (placed ancestors (row_by source_view statements.entry))) }
-{
-    for statement in statements {
-        made.push(typedef_row(statement))?;
-        add_typedef_rows(statement.children(), made)?;
-    }
-    Ok(())
-}
-
-/// Of each statement of a set, by its number, the row below it where it is a typedef.
-fn typedef_rows<'a, 't>(
-    alloc: Global,
-    sources: &'a Sources<'t>,
-) -> Result<Vec<Option<Siblings<'a, Source<'t>>>>, AllocError>
-    ensures { IfOk result (λ rows. AreRows rows.items (view sources.entry.now)) }
-{
-    let mut made = Vec::new(alloc);
-    add_typedef_rows(sources.modules(), &mut made)?;
-    Ok(made)
-}
-
-/// What a table of rows holds of the statement of a number.
-fn row_of<'a, 't>(
-    rows: &[Option<Siblings<'a, Source<'t>>>],
-    number: usize,
-) -> Option<Siblings<'a, Source<'t>>>
-    ensures { result ≡ option_and_then (λ row. row) (slice_get rows.now number) }
-{
-    match rows.get(number) {
-        Some(row) => *row,
-        None => None,
-    }
+    Some(sources.below(number as u32))
 }
 
 /// So many typedefs of which nothing is known.
@@ -283,15 +238,15 @@ impl<'t> Typedefs<'t> {
         ensures rests { IfOk result (λ typedefs.
             RestsOn (kept_view kept.entry) typedefs (view sources.now)) }
     {
-        let rows = typedef_rows(alloc, sources)?;
-        let known = none_known(alloc, rows.len())?;
+        let known = none_known(alloc, sources.slots().len())?;
         let mut typedefs = Typedefs {
             meanings,
             known,
             identities,
         };
         for number in order {
-            typedefs.learn(alloc, sources, kept, *number, row_of(&rows, *number))?;
+            let row = typedef_row(sources, *number);
+            typedefs.learn(alloc, sources, kept, *number, row)?;
         }
         Ok(typedefs)
     }

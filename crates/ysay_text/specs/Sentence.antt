@@ -18,7 +18,7 @@ unknown_word word None = codes "no statement is called " ++ (shown word ++ codes
 unknown_word word (Some near) = codes "no statement is called " ++ (shown word ++ (codes "; near it: " ++ (near ++ codes ".")))
 
 abbrev pub unread_word : Text → Text
-unread_word word = word ++ codes " is YANG 1.1, and this program doesn't read it."
+unread_word word = word ++ codes " is YANG 1.1, and isn't read here."
 
 abbrev pub misplaced_word : Text → Text
 misplaced_word word = shown word ++ codes " can't stand here."

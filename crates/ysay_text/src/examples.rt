@@ -38,7 +38,7 @@ pub fn words()
         ≡ codes "no statement is called contaner; near it: container." }
     ensures far { of_word (codes "interface") ≡ codes "no statement is called interface." }
     ensures unread { of_word (codes "pattern")
-        ≡ codes "pattern is YANG 1.1, and this program doesn't read it." }
+        ≡ codes "pattern is YANG 1.1, and isn't read here." }
     ensures near_unread { of_word (codes "patern")
         ≡ codes "no statement is called patern; near it: pattern." }
     ensures control { of_word (codes "le" ++ (194 ∷ 155 ∷ codes "af"))
@@ -50,7 +50,7 @@ pub fn words()
 pub fn statements()
     ensures misplaced { said 2 (codes "leaf") None ≡ codes "leaf can't stand here." }
     ensures foreign_type { said 2 (codes "type") (Some (codes "binary"))
-        ≡ codes "the type binary is YANG 1.1, and this program doesn't read it." }
+        ≡ codes "the type binary is YANG 1.1, and isn't read here." }
     ensures prefixed_control { said 2 (codes "x:" ++ (127 ∷ [])) None
         ≡ codes "x:\\x7f can't stand here." }
     ensures prefixed { said 2 (codes "x:leaf") None ≡ codes "x:leaf can't stand here." }

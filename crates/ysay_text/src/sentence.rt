@@ -19,12 +19,7 @@ use ytext::{Module, Stmt, offset_of};
 fn unread_word(alloc: Global, before: &str, word: &str) -> Result<String, AllocError>
     ensures { IfOk result (λ text. string_bytes text ≡ spec.unread_word (before.now ++ word.now)) }
 {
-    [
-        before,
-        word,
-        " is YANG 1.1, and this program doesn't read it.",
-    ]
-    .concat(alloc)
+    [before, word, " is YANG 1.1, and isn't read here."].concat(alloc)
 }
 
 fn unknown_near(alloc: Global, word: &str, near: &str) -> Result<String, AllocError>

@@ -8,6 +8,7 @@ use Rattle.yspec.specs.types.Identities.{cut_at_colon, name_within}
 use Rattle.yspec.specs.types.Types.{Raw, text, Base, identity_base, is_numbered, SimpleType, YangType}
 use Rattle.yspec.specs.types.Restriction.{members_of}
 use Rattle.ysay_text.specs.Near.{nearest}
+use Rattle.ysay_value.specs.ExpressionWords.{broken_among, broken_words}
 use Rattle.ysay_value.specs.Joining.{joined}
 use Rattle.ysay_value.specs.NearWords.{near_words}
 
@@ -80,7 +81,15 @@ abbrev pub hint_among : List SimpleType → Text → Text
 hint_among [] t = codes "."
 hint_among (type ∷ members) t = option_map_or (λ base. identity_hint base t) (identities_in type.base) (hint_among members t)
 
+abbrev pub name_hint : List SimpleType → Raw → Text
+name_hint members (text t) = hint_among members t
+name_hint members _ = codes "."
+
+-- of what the only one of some types has several expressions for, which of them it breaks
+abbrev pub hint_by : List SimpleType → Raw → Text
+hint_by members raw = option_map_or broken_words (broken_among members raw) (name_hint members raw)
+
 -- behind what a type takes
 abbrev pub hint_words : YangType → Option Raw → Text
-hint_words type (Some (text t)) = hint_among (members_of type.shape) t
-hint_words type _ = codes "."
+hint_words type None = codes "."
+hint_words type (Some raw) = hint_by (members_of type.shape) raw

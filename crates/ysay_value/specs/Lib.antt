@@ -1,6 +1,8 @@
 pub mod Values
+pub mod Samples
 pub mod Joining
 pub mod NearWords
+pub mod ExpressionWords
 pub mod IdentityWords
 pub mod TakenWords
 pub mod Messages

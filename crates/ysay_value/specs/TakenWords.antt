@@ -11,7 +11,9 @@ use Rattle.yspec.specs.types.Ranges.{Part}
 use Rattle.yspec.specs.types.Restriction.{lengths, left_by, members_of}
 use Rattle.yspec.specs.types.Types.{Integer, numbers_of, int64, is_written_as_text, Base, integer_base, decimal_base, string_base, boolean_base, empty_base, enumeration_base, bits_base, identity_base, SimpleType, YangType}
 use Rattle.ysay_value.specs.Joining.{joined}
+use Rattle.ytype.specs.Patterns.{expressions_in}
 use Rattle.ysay_value.specs.IdentityWords.{names_taken, identity_words}
+use Rattle.ysay_value.specs.ExpressionWords.{expressions_words}
 
 -- ---- the numbers that restrictions leave
 
@@ -70,7 +72,8 @@ bits_words names = codes "names in quotes, parted by spaces and each once, of: "
 abbrev pub base_words : Base → SimpleType → Text
 base_words (integer_base i) type = integer_words i (left_by (numbers_of i) type.limits)
 base_words (decimal_base digits) type = decimal_words digits (left_by (numbers_of int64) type.limits)
-base_words string_base type = codes "a text in quotes" ++ lengths_words (left_by lengths type.limits)
+base_words string_base type = codes "a text in quotes"
+    ++ (lengths_words (left_by lengths type.limits) ++ expressions_words (expressions_in type.limits))
 base_words boolean_base type = codes "true or false without quotes"
 base_words empty_base type = codes "[null]"
 base_words (enumeration_base names) type = enum_words names

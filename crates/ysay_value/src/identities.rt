@@ -12,6 +12,7 @@ ghost use Rattle.ysay_value.specs.IdentityWords as spec;
 ghost use Rattle.ysay_value.specs.Joining as joining;
 ghost use Rattle.ysay_value.specs.NearWords.{near_words};
 
+use crate::expressions::{broken_among, broken_words};
 use crate::joining::joined;
 use crate::near::said_of;
 use crate::values::json_text;
@@ -247,6 +248,27 @@ fn hint_among(alloc: Global, members: &[SimpleType], text: &str) -> Result<Strin
     String::from_str(alloc, ".")
 }
 
+fn name_hint(alloc: Global, members: &[SimpleType], raw: &Raw) -> Result<String, AllocError>
+    ensures { IfOk result (λ said. string_bytes said
+        ≡ spec.name_hint members.now (held.raw_of raw.now)) }
+{
+    match raw {
+        Raw::Text(text) => hint_among(alloc, members, text.as_str()),
+        Raw::Int(_) | Raw::Bool(_) | Raw::Empty => String::from_str(alloc, "."),
+    }
+}
+
+/// Of what the only one of some types has several expressions for, which of them it breaks.
+fn hint_by(alloc: Global, members: &[SimpleType], raw: &Raw) -> Result<String, AllocError>
+    ensures { IfOk result (λ said. string_bytes said
+        ≡ spec.hint_by members.now (held.raw_of raw.now)) }
+{
+    match broken_among(alloc, members, raw)? {
+        Some(expression) => broken_words(alloc, expression),
+        None => name_hint(alloc, members, raw),
+    }
+}
+
 /// What is said, behind what a type takes, of a value that it doesn't take.
 pub fn hint_words(
     alloc: Global,
@@ -257,7 +279,7 @@ pub fn hint_words(
         ≡ spec.hint_words value_type.now (option_map (λ r. held.raw_of r.now) raw.entry)) }
 {
     match raw {
-        Some(Raw::Text(text)) => hint_among(alloc, &value_type.members(alloc)?, text.as_str()),
-        _ => String::from_str(alloc, "."),
+        Some(raw) => hint_by(alloc, &value_type.members(alloc)?, raw),
+        None => String::from_str(alloc, "."),
     }
 }

@@ -2,6 +2,8 @@
 //! module says itself, and the values of keys and `unique`s.
 #![tactic(auto)]
 
+mod examples;
+mod expressions;
 mod identities;
 mod joining;
 mod messages;
@@ -10,6 +12,7 @@ mod taken;
 mod tuples;
 mod values;
 
+pub use examples::{broken_texts, taken_texts};
 pub use identities::hint_words;
 pub use messages::{message_at, message_words, type_at};
 pub use near::near_words;

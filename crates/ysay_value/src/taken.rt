@@ -6,6 +6,7 @@ ghost use Rattle.yspec.specs.types.Types.{decimal_base, string_base};
 ghost use Rattle.ytype.specs.View.{base_of, integer_of};
 ghost use Rattle.ysay_value.specs.TakenWords as spec;
 
+use crate::expressions::expressions_words;
 use crate::identities::taken_identities;
 use crate::joining::joined;
 use crate::values::json_text;
@@ -201,7 +202,9 @@ fn text_words(alloc: Global, simple: &SimpleType) -> Result<String, AllocError>
 {
     let lengths = Part::new(0, GREATEST_LENGTH);
     let restricted = lengths_words(alloc, simple.left(&lengths))?;
-    ["a text in quotes", restricted.as_str()].concat(alloc)
+    let expressions = simple.expressions(alloc)?;
+    let matched = expressions_words(alloc, &expressions)?;
+    ["a text in quotes", restricted.as_str(), matched.as_str()].concat(alloc)
 }
 
 /// What a type that is no union takes.

@@ -15,3 +15,4 @@ pub mod StepLemmas
 pub mod RefineLemmas
 pub mod GroupingLemmas
 pub mod NumberedLemmas
+pub mod PlacedLemmas

@@ -195,7 +195,7 @@ pub fn reasons()
         ≡ failed 2 (codes "m.yang:3: C1\n  | contaner c;\n  no statement is called contaner; near it: container.\n  A statement or a built-in type isn't known, may not stand there, or isn't read by this program. Correct its name, or move it; README says what of YANG is read.") }
     ensures of_a_keyword { printed true (outcome (compile core (codes "m.yang" ∷ []))
         (Some (codes "module m {\n  yang-version 1.1; namespace n; prefix m;\n  leaf c { type string { pattern x; } }\n}\n") ∷ []))
-        ≡ failed 2 (codes "m.yang:3: C1\n  | leaf c { type string { pattern x; } }\n  pattern is YANG 1.1, and this program doesn't read it.\n  with --profile rfc this is read.\n  A statement or a built-in type isn't known, may not stand there, or isn't read by this program. Correct its name, or move it; README says what of YANG is read.") }
+        ≡ failed 2 (codes "m.yang:3: C1\n  | leaf c { type string { pattern x; } }\n  pattern is YANG 1.1, and isn't read here.\n  with --profile rfc this is read.\n  A statement or a built-in type isn't known, may not stand there, or isn't read by this program. Correct its name, or move it; README says what of YANG is read.") }
     ensures of_a_place { printed true (outcome (compile core (codes "m.yang" ∷ []))
         (Some (codes "module m {\n  yang-version 1.1; namespace n; prefix m;\n  key c;\n}\n") ∷ []))
         ≡ failed 2 (codes "m.yang:3: C1\n  | key c;\n  key can't stand here.\n  A statement or a built-in type isn't known, may not stand there, or isn't read by this program. Correct its name, or move it; README says what of YANG is read.") }

@@ -2,6 +2,8 @@ pub mod Sets
 pub mod Pattern
 pub mod Escapes
 pub mod Classes
+pub mod Limits
 pub mod Quantities
+pub mod Sizes
 pub mod Reading
 pub mod Samples

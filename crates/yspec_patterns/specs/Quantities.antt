@@ -2,6 +2,7 @@
 -- part 2, appendix F).
 use Rattle.std.specs.Prelude.{ℕ, ◌+◌, ◌-◌, ◌*◌, ◌==◌, ◌&&◌, List, [], ◌∷◌, Option, Some, None, nat_le, option_map, if◌then◌else◌}
 use Rattle.yspec_patterns.specs.Sets.{Set, just, wildcard}
+use Rattle.yspec_patterns.specs.Limits.{bounded}
 use Rattle.yspec_patterns.specs.Escapes.{goes_on}
 use Rattle.yspec_patterns.specs.Classes.{Item, sign_item, set_item}
 
@@ -101,14 +102,19 @@ sign_step before misplaced = None
 abbrev pub waiting : Counting → PartStep
 waiting c = Some (None, c)
 
+-- with a number that isn't too large
+abbrev pub counted : (ℕ → Counting) → Option ℕ → PartStep
+counted state None = None
+counted state (Some n) = waiting (state n)
+
 abbrev pub mark_step : Counting → Mark → PartStep
 mark_step (least_due t) (digit d) = waiting (least t d)
-mark_step (least t n) (digit d) = waiting (least t (10 * n + d))
+mark_step (least t n) (digit d) = counted (least t) (bounded (10 * n + d))
 mark_step (least t n) comma = waiting (most_due t n)
 mark_step (least t n) close_brace = repeated t (n, Some 0)
 mark_step (most_due t n) (digit d) = waiting (most t n d)
 mark_step (most_due t n) close_brace = repeated t (n, None)
-mark_step (most t n m) (digit d) = waiting (most t n (10 * m + d))
+mark_step (most t n m) (digit d) = counted (most t n) (bounded (10 * m + d))
 mark_step (most t n m) close_brace = if nat_le n m then repeated t (n, Some (m - n)) else None
 mark_step _ _ = None
 

@@ -2,9 +2,11 @@
 -- parenthesis has branches of its own (XML Schema, part 2, appendix F).
 use Rattle.std.specs.Prelude.{ℕ, ◌+◌, Bool, List, [], ◌∷◌, ◌++◌, Option, Some, None, option_map, option_and_then}
 use Rattle.yspec_patterns.specs.Pattern.{Pattern, nothing, nil, one, both, either, repeat, accepts}
+use Rattle.yspec_patterns.specs.Sets.{Set}
 use Rattle.yspec_patterns.specs.Escapes.{symbols_of}
 use Rattle.yspec_patterns.specs.Classes.{items_of}
 use Rattle.yspec_patterns.specs.Quantities.{Times, open_group, close_group, bar, atom, Part, parts_of}
+use Rattle.yspec_patterns.specs.Sizes.{Spelled, both_of, copies_of, size_of, light}
 
 -- what has been read of a group: its branches, and the pieces of the branch at hand
 pub record Level (A : Type 0) : Type 0 where
@@ -51,6 +53,15 @@ module _ {X A : Type 0} (by : Building X A) where
   abbrev pub built : List (Part X) → Option A
   built parts = built_from parts no_level []
 
+-- what characters spell, with its size
+module _ {A : Type 0} (by : Building Set A) where
+  abbrev pub built_often : List (Part Set) → Option (A × ℕ)
+  built_often parts = both_of (built by parts) (copies_of parts)
+
+  abbrev pub spelled : List ℕ → Option (Spelled A)
+  spelled cs = option_and_then
+      (λ ss. both_of (option_and_then built_often (option_and_then parts_of (items_of ss))) (size_of ss)) (symbols_of cs)
+
 -- one after another
 abbrev pub all_of : List Pattern → Pattern
 all_of [] = nil
@@ -63,9 +74,9 @@ one_of (p ∷ ps) = either p (one_of ps)
 abbrev pub patterns : Building (ℕ → Bool) Pattern
 patterns = record { single = one; sequence = all_of; choice = one_of; times = λ t p. repeat t.0 (option_map (λ more. t.0 + more) t.1) p }
 
--- the pattern that characters spell
+-- the pattern that characters spell, if they spell one that isn't too large
 abbrev pub pattern_of : List ℕ → Option Pattern
-pattern_of cs = option_and_then (built patterns) (option_and_then parts_of (option_and_then items_of (symbols_of cs)))
+pattern_of cs = option_and_then light (spelled patterns cs)
 
 -- whether a pattern takes a text; none where it is no pattern
 abbrev pub taken_by : List ℕ → List ℕ → Option Bool

@@ -1,5 +1,5 @@
 -- Patterns of published modules, and what patterns take.
-use Rattle.std.specs.Prelude.{ℕ, Bool, List, [], ◌∷◌, codes, ◌++◌, map, Option, is_some}
+use Rattle.std.specs.Prelude.{ℕ, zero, suc, Bool, List, [], ◌∷◌, codes, ◌++◌, map, Option, is_some}
 use Rattle.yspec_patterns.specs.Reading.{pattern_of, taken_by}
 
 abbrev pub octet : List ℕ
@@ -70,6 +70,11 @@ all_taken pattern texts = map (taken_by pattern) texts
 -- of each text whether it is a pattern
 abbrev pub all_read : List (List ℕ) → List Bool
 all_read patterns = map (λ pattern. is_some (pattern_of pattern)) patterns
+
+-- so many groups in one another
+abbrev pub nested : ℕ → List ℕ
+nested zero = []
+nested (suc n) = codes "(" ++ (nested n ++ codes ")")
 
 -- whether a character is of the category with a name
 abbrev pub is_of : List ℕ → ℕ → Option Bool

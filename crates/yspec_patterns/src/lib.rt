@@ -7,3 +7,4 @@ pub mod escapes;
 pub mod laws;
 pub mod pieces;
 pub mod published;
+pub mod sizes;

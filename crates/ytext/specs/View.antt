@@ -1,5 +1,5 @@
 -- What the code's tokens and statements are as values of the definitions.
-use Rattle.std.specs.Prelude.{ℕ, ◌+◌, ◌-◌, ◌<◌, ◌≤◌, length, ◌≡◌, Bool, true, false, List, [], ◌∷◌, map, option_map, string_bytes}
+use Rattle.std.specs.Prelude.{ℕ, ◌+◌, ◌-◌, ◌<◌, ◌≤◌, length, ◌≡◌, Bool, codes, true, false, List, [], ◌∷◌, map, option_map, string_bytes}
 use Rattle.std.specs.Str.{IsCharBoundary}
 use Rattle.yspec.specs.text.Token as token
 use Rattle.ytext.specs.Versions.{raw_in}
@@ -9,6 +9,10 @@ use Rattle.ytext.specs.declared.lexeme.Front.{Front}
 use Rattle.ytext.specs.declared.lexeme.Front.TheVariants as front
 use Rattle.yspec.specs.Forest.{Forest, end, node}
 use Rattle.yspec.specs.text.Statement.{Statement}
+use Rattle.ytext.specs.declared.statement.FrequentKeyword.{FrequentKeyword}
+use Rattle.ytext.specs.declared.statement.FrequentKeyword.TheVariants as frequent
+use Rattle.ytext.specs.declared.statement.KeywordText.{KeywordText}
+use Rattle.ytext.specs.declared.statement.KeywordText.TheVariants.{Frequent, Other}
 use Rattle.ytext.specs.declared.statement.Stmt.{Stmt, fold-Stmt}
 use Rattle.ytext.specs.declared.statement.Stmt.TheOpen.{Stmt-F}
 use Rattle.ytext.specs.declared.statement.Module.{Module}
@@ -87,10 +91,35 @@ abbrev pub row_of : List Labelled → Forest Statement
 row_of [] = end
 row_of (s ∷ ss) = node s.0 s.1 (row_of ss)
 
+abbrev pub frequent_text : FrequentKeyword → List ℕ
+frequent_text frequent.Leaf = codes "leaf"
+frequent_text frequent.Type = codes "type"
+frequent_text frequent.Enum = codes "enum"
+frequent_text frequent.List = codes "list"
+frequent_text frequent.Uses = codes "uses"
+frequent_text frequent.Path = codes "path"
+frequent_text frequent.Case = codes "case"
+frequent_text frequent.Key = codes "key"
+frequent_text frequent.Value = codes "value"
+frequent_text frequent.Range = codes "range"
+frequent_text frequent.Config = codes "config"
+frequent_text frequent.Length = codes "length"
+frequent_text frequent.Default = codes "default"
+frequent_text frequent.Container = codes "container"
+frequent_text frequent.LeafList = codes "leaf-list"
+frequent_text frequent.Mandatory = codes "mandatory"
+frequent_text frequent.Description = codes "description"
+frequent_text frequent.FractionDigits = codes "fraction-digits"
+
+-- the text of a keyword
+abbrev pub keyword_bytes : KeywordText → List ℕ
+keyword_bytes (Frequent keyword) = frequent_text keyword
+keyword_bytes (Other text) = string_bytes text
+
 -- one level, with what stands below already seen
 abbrev pub view_step : Stmt-F Labelled → Labelled
 view_step s = (
-  record { keyword = string_bytes s.keyword; argument = option_map string_bytes s.arg; line = s.line },
+  record { keyword = keyword_bytes s.keyword; argument = option_map string_bytes s.arg; line = s.line },
   row_of s.subs.items,
 )
 

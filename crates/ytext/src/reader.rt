@@ -6,7 +6,7 @@ use crate::cursor::{Cursor, Lexed};
 use crate::fault::{TextCode, TextFault};
 use crate::lexeme::Lexeme;
 use crate::quoted::{push_double, push_single};
-use crate::statement::{Module, Stmt};
+use crate::statement::{KeywordText, Module, Stmt};
 use std::alloc::Global;
 use ybase_names::is_name;
 
@@ -238,7 +238,7 @@ impl<'a> Reader<'a> {
         if !is_name(word) {
             return Err(TextFault::refused(TextCode::L8, line));
         }
-        let keyword = String::from_str(self.alloc, word)?;
+        let keyword = KeywordText::of(self.alloc, word)?;
         self.step();
         let arg = self.argument()?;
         let subs = self.body(level)?;
@@ -257,7 +257,8 @@ impl<'a> Reader<'a> {
         ensures rows { Gives (λ subs. (row_view subs.items, tokens_ahead self.new)) told_by result
             (rows level (tokens_ahead self.old)) }
     {
-        let mut subs = Vec::new(self.alloc);
+        // Most rows are of one statement.
+        let mut subs = Vec::with_capacity(self.alloc, 1)?;
         while let Lexeme::Word(word) = self.token.lexeme {
             match self.statement(word, level) {
                 Ok(sub) => subs.push(sub)?,

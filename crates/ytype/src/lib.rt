@@ -14,5 +14,5 @@ pub use ytype_numbers::{
     Restriction, Span,
 };
 pub use ytype_simple::{
-    Base, Identities, Integer, ModuleNames, Raw, SimpleType, cut_at_colon, identity_name,
+    Base, Identities, Integer, Matching, ModuleNames, Raw, SimpleType, cut_at_colon, identity_name,
 };

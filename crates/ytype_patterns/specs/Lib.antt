@@ -5,4 +5,5 @@ pub mod SymbolView
 pub mod ClassView
 pub mod PartView
 pub mod BuildingView
+pub mod CopiesView
 pub mod ReadingView

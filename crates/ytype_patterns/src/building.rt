@@ -9,15 +9,11 @@ ghost use Rattle.ytype_patterns.specs.Engine.{engine};
 ghost use Rattle.ytype_patterns.specs.BuildingView.{around_of, closed_in, ended_in, level_of, level_view, pair_of, part_built, times_given};
 ghost use Rattle.ytype_patterns.specs.PartView.{part_view};
 
-use crate::fault::PatternFault;
 use crate::quantities::{Part, Token};
 use crate::times::Times;
 use regex_class::Class;
 use regex_hir::Hir;
 use std::alloc::{AllocError, Global};
-
-/// How many groups may stand in one another.
-const DEEPEST: usize = 200;
 
 /// What has been read of a group: its branches, and the pieces of the branch at hand.
 #[derive(Drop)]
@@ -107,14 +103,11 @@ fn with_piece(level: Level, tree: Hir) -> Result<Level, AllocError>
 }
 
 /// Into a group.
-fn opened(alloc: Global, groups: Groups) -> Result<Groups, PatternFault>
+fn opened(alloc: Global, groups: Groups) -> Result<Groups, AllocError>
     ensures level { IfOk result (λ opened. level_of opened ≡ spec.no_level) }
     ensures around { IfOk result (λ opened. around_of opened ≡ level_of groups ∷ around_of groups) }
 {
     let Groups { level, around } = groups;
-    if around.len() >= DEEPEST {
-        return Err(PatternFault::TooLarge);
-    }
     let mut around = around;
     around.push(level)?;
     Ok(Groups {
@@ -124,11 +117,7 @@ fn opened(alloc: Global, groups: Groups) -> Result<Groups, PatternFault>
 }
 
 /// Out of the group at hand, which is a piece of the one around it; none where there is no group around.
-fn closed(
-    alloc: Global,
-    groups: Groups,
-    times: Option<Times>,
-) -> Result<Option<Groups>, PatternFault>
+fn closed(alloc: Global, groups: Groups, times: Option<Times>) -> Result<Option<Groups>, AllocError>
     ensures { IfOk result (λ closed. option_map pair_of closed ≡ closed_in (level_of groups) (around_of groups) (times_given times)) }
 {
     let Groups { level, around } = groups;
@@ -155,7 +144,7 @@ fn with_atom(
     groups: Groups,
     class: Class,
     times: Option<Times>,
-) -> Result<Groups, PatternFault>
+) -> Result<Groups, AllocError>
     ensures level { IfOk result (λ with_it. level_of with_it ≡ spec.with_piece engine (level_of groups)
         (spec.quantified engine (engine.single (in_ranges class.ranges.items)) (times_given times))) }
     ensures around { IfOk result (λ with_it. around_of with_it ≡ around_of groups) }
@@ -181,7 +170,7 @@ fn behind_bar(alloc: Global, groups: Groups) -> Result<Groups, AllocError>
 }
 
 /// The groups behind a part; none where it can't stand there.
-pub fn built_step(alloc: Global, groups: Groups, part: Part) -> Result<Option<Groups>, PatternFault>
+pub fn built_step(alloc: Global, groups: Groups, part: Part) -> Result<Option<Groups>, AllocError>
     ensures { IfOk result (λ step. option_map pair_of step ≡ part_built (part_view part) (level_of groups) (around_of groups)) }
 {
     let Part { token, times } = part;
@@ -194,7 +183,7 @@ pub fn built_step(alloc: Global, groups: Groups, part: Part) -> Result<Option<Gr
 }
 
 /// The tree of what was read, where no group is open.
-pub fn built(groups: Groups) -> Result<Option<Hir>, PatternFault>
+pub fn built(groups: Groups) -> Result<Option<Hir>, AllocError>
     ensures { IfOk result (λ made. option_map meaning made ≡ ended_in (level_of groups) (around_of groups)) }
 {
     let Groups { level, around } = groups;

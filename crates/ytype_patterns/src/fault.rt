@@ -9,7 +9,7 @@ use thiserror::Error;
 /// Why it isn't known what a text spells.
 #[derive(Clone, Copy, Debug, PartialEq, Eq, Error)]
 pub enum PatternFault {
-    /// A number of repetitions, groups in groups, named sets, or the automaton would be too large.
+    /// The automaton would be too large.
     #[error("pattern too large")]
     TooLarge,
     #[error("memory")]

@@ -3,8 +3,10 @@
 
 mod building;
 mod classes;
+mod copies;
 mod fault;
 pub mod laws;
+mod limits;
 mod pattern;
 mod quantities;
 mod reading;

@@ -2,13 +2,14 @@
 
 ghost use Rattle.std.specs.Prelude.{◌≡◌, ◌+◌, ◌*◌, ◌≤◌, IfOk, IfSome, Some, None, option_map};
 ghost use Rattle.regex_class.specs.Ranges.{in_ranges};
+ghost use Rattle.yspec_patterns.specs.Limits as limits;
 ghost use Rattle.yspec_patterns.specs.Quantities as spec;
 ghost use Rattle.yspec_patterns.specs.Sets as sets;
 ghost use Rattle.ytype_patterns.specs.ClassView.{item_view};
 ghost use Rattle.ytype_patterns.specs.PartView.{before_view, counting_view, made_part, mark_view, once_view, sign_view, times_view, token_view};
 
 use crate::classes::Item;
-use crate::fault::PatternFault;
+use crate::limits::bounded;
 use crate::sets::{wildcard, within};
 use crate::times::Times;
 use regex_class::Class;
@@ -153,66 +154,56 @@ fn sign_step(before: Option<Token>, sign: Sign) -> Option<(Option<Part>, Countin
     }
 }
 
-/// A number with a digit behind it.
-fn with_digit(number: u32, digit: u32) -> Result<u32, PatternFault>
-    ensures { IfOk result (λ n. n ≡ 10 * number + digit) }
+/// A number with a digit behind it, where it isn't too large.
+fn with_digit(number: u32, digit: u32) -> Option<u32>
+    ensures { result ≡ limits.bounded (10 * number + digit) }
 {
-    let tens = number.checked_mul(10).ok_or(PatternFault::TooLarge)?;
-    tens.checked_add(digit).ok_or(PatternFault::TooLarge)
+    bounded(10 * u64::from(number) + u64::from(digit))
 }
 
-fn least_step(
-    token: Token,
-    least: u32,
-    mark: Mark,
-) -> Result<Option<(Option<Part>, Counting)>, PatternFault>
-    ensures { IfOk result (λ step. option_map made_part step
-        ≡ spec.mark_step (spec.least (token_view token) least) (mark_view mark)) }
+fn least_step(token: Token, least: u32, mark: Mark) -> Option<(Option<Part>, Counting)>
+    ensures { option_map made_part result
+        ≡ spec.mark_step (spec.least (token_view token) least) (mark_view mark) }
 {
     match mark {
         Mark::Digit(digit) => {
             let least = with_digit(least, digit)?;
-            Ok(Some((None, Counting::Least { token, least })))
+            Some((None, Counting::Least { token, least }))
         }
-        Mark::Comma => Ok(Some((None, Counting::MostDue { token, least }))),
-        Mark::CloseBrace => Ok(Some(repeated(token, least, Some(least)))),
-        Mark::Other => Ok(None),
+        Mark::Comma => Some((None, Counting::MostDue { token, least })),
+        Mark::CloseBrace => Some(repeated(token, least, Some(least))),
+        Mark::Other => None,
     }
 }
 
-fn most_step(
-    token: Token,
-    least: u32,
-    most: u32,
-    mark: Mark,
-) -> Result<Option<(Option<Part>, Counting)>, PatternFault>
-    ensures { IfOk result (λ step. option_map made_part step
-        ≡ spec.mark_step (spec.most (token_view token) least most) (mark_view mark)) }
+fn most_step(token: Token, least: u32, most: u32, mark: Mark) -> Option<(Option<Part>, Counting)>
+    ensures { option_map made_part result
+        ≡ spec.mark_step (spec.most (token_view token) least most) (mark_view mark) }
 {
     match mark {
         Mark::Digit(digit) => {
             let most = with_digit(most, digit)?;
-            Ok(Some((None, Counting::Most { token, least, most })))
+            Some((None, Counting::Most { token, least, most }))
         }
-        Mark::CloseBrace if least <= most => Ok(Some(repeated(token, least, Some(most)))),
-        Mark::CloseBrace | Mark::Comma | Mark::Other => Ok(None),
+        Mark::CloseBrace if least <= most => Some(repeated(token, least, Some(most))),
+        Mark::CloseBrace | Mark::Comma | Mark::Other => None,
     }
 }
 
-fn mark_step(state: Counting, mark: Mark) -> Result<Option<(Option<Part>, Counting)>, PatternFault>
-    ensures { IfOk result (λ step. option_map made_part step ≡ spec.mark_step (counting_view state) (mark_view mark)) }
+fn mark_step(state: Counting, mark: Mark) -> Option<(Option<Part>, Counting)>
+    ensures { option_map made_part result ≡ spec.mark_step (counting_view state) (mark_view mark) }
 {
     match state {
-        Counting::Behind(_) => Ok(None),
+        Counting::Behind(_) => None,
         Counting::LeastDue(token) => match mark {
-            Mark::Digit(least) => Ok(Some((None, Counting::Least { token, least }))),
-            Mark::Comma | Mark::CloseBrace | Mark::Other => Ok(None),
+            Mark::Digit(least) => Some((None, Counting::Least { token, least })),
+            Mark::Comma | Mark::CloseBrace | Mark::Other => None,
         },
         Counting::Least { token, least } => least_step(token, least, mark),
         Counting::MostDue { token, least } => match mark {
-            Mark::Digit(most) => Ok(Some((None, Counting::Most { token, least, most }))),
-            Mark::CloseBrace => Ok(Some(repeated(token, least, None))),
-            Mark::Comma | Mark::Other => Ok(None),
+            Mark::Digit(most) => Some((None, Counting::Most { token, least, most })),
+            Mark::CloseBrace => Some(repeated(token, least, None)),
+            Mark::Comma | Mark::Other => None,
         },
         Counting::Most { token, least, most } => most_step(token, least, most, mark),
     }
@@ -223,7 +214,7 @@ pub fn part_step(
     alloc: Global,
     state: Counting,
     item: Item,
-) -> Result<Option<(Option<Part>, Counting)>, PatternFault>
+) -> Result<Option<(Option<Part>, Counting)>, AllocError>
     ensures { IfOk result (λ step. option_map made_part step ≡ spec.part_step (counting_view state) (item_view item)) }
 {
     match state {
@@ -231,6 +222,6 @@ pub fn part_step(
         Counting::LeastDue(_)
         | Counting::Least { .. }
         | Counting::MostDue { .. }
-        | Counting::Most { .. } => mark_step(state, mark_of(&item)),
+        | Counting::Most { .. } => Ok(mark_step(state, mark_of(&item))),
     }
 }

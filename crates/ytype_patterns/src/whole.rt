@@ -9,8 +9,8 @@ use regex_nfa::Nfa;
 use regex_vm::PikeVm;
 use std::alloc::{AllocError, Global};
 
-/// How large the automaton of a pattern may be, in bytes.
-const SIZE_LIMIT: usize = 10_485_760;
+/// How large the automaton of a pattern may be, in bytes: more than what is read as a pattern takes.
+const SIZE_LIMIT: usize = 41_943_040;
 
 /// A pattern that has to match to the end of a text, with the automaton that finds its matches. It never changes.
 #[derive(Drop)]

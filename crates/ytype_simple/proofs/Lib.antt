@@ -1,3 +1,4 @@
 pub mod RowLemmas
 pub mod LimitLemmas
 pub mod IdentityLemmas
+mod ExpressionLemmas

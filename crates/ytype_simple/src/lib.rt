@@ -5,11 +5,13 @@ mod base;
 mod canonical;
 mod content;
 mod identity;
+mod matching;
 mod raw;
 mod simple;
 
 pub use base::{Base, Integer};
 pub use content::Content;
 pub use identity::{Identities, ModuleNames, cut_at_colon, identity_name};
+pub use matching::Matching;
 pub use raw::Raw;
 pub use simple::SimpleType;

@@ -1,6 +1,6 @@
 //! Types that are no unions: a built-in type with its restrictions.
 
-ghost use Rattle.std.specs.Prelude.{◌≡◌, ◌∷◌, [], option_and_then, option_to_list, slice_get, ok_or, ◌≤◌, IfOk, IfSome};
+ghost use Rattle.std.specs.Prelude.{◌≡◌, ◌++◌, ◌∷◌, [], map, option_map, option_and_then, option_to_list, slice_get, ok_or, ◌≤◌, IfOk, IfSome, OnOk};
 ghost use Rattle.std.specs.Option.{ForSome};
 ghost use Rattle.std.specs.String.{string_bytes};
 ghost use Rattle.yspec.specs.types.Types.{is_taken_text, passes, excluding, limited, simple_taken, simple_excluding, simple_error, simple_in};
@@ -11,6 +11,7 @@ ghost use Rattle.yspec.specs.Results.{Gives};
 ghost use Rattle.ytype_numbers.specs.Words.{narrow_refusal, same};
 ghost use Rattle.ytype_simple.specs.View.{raw_of, base_of, content_of, found_of};
 ghost use Rattle.ytype_simple.specs.Limits.{numbers_in, test_of};
+ghost use Rattle.ytype_simple.specs.Patterns.{expression_of, expressions_in, matching_view, unmatched_by};
 ghost use Rattle.ytype_simple.specs.Identities.{is_identity, module_names_view};
 ghost use Rattle.ytype_simple.specs.Founds.{founds, contents, now_of};
 
@@ -18,6 +19,7 @@ use crate::base::{Base, Found, Integer};
 use crate::canonical::content_text;
 use crate::content::Content;
 use crate::identity::ModuleNames;
+use crate::matching::Matching;
 use crate::raw::Raw;
 use std::alloc::{AllocError, Global};
 use std::marker::Model;
@@ -100,6 +102,21 @@ impl Test {
             Test::Matching { .. } => None,
         }
     }
+
+    fn expression(&self) -> Option<Matching<'_>>
+        ensures { option_map matching_view result ≡ expression_of (test_of self.now) }
+    {
+        match self {
+            Test::Within(_) => None,
+            Test::Matching {
+                expression,
+                inverted,
+            } => Some(Matching {
+                expression: expression.text(),
+                inverted: *inverted,
+            }),
+        }
+    }
 }
 
 /// A restriction, with what it says of other values.
@@ -144,6 +161,12 @@ impl Limit {
         ensures { now_of result ≡ numbers_in self.now.test }
     {
         self.test.numbers()
+    }
+
+    fn expression(&self) -> Option<Matching<'_>>
+        ensures { option_map matching_view result ≡ expression_of self.now.test }
+    {
+        self.test.expression()
     }
 
     fn excluding(&self, alloc: Global, found: &Found<'_>) -> Result<Option<&Limit>, AllocError>
@@ -213,6 +236,45 @@ fn left_after<'a>(limits: &'a Row<Limit>, parts: &'a [Part]) -> &'a [Part]
     parts
 }
 
+/// Adds the expression of a restriction, where it has one.
+fn add_expression<'a>(limit: &'a Limit, found: &mut Vec<Matching<'a>>) -> Result<(), AllocError>
+    ensures { OnOk result (map matching_view found.new.items
+        ≡ map matching_view found.old.items ++ option_to_list (expression_of limit.now.test)) }
+{
+    if let Some(expression) = limit.expression() {
+        found.push(expression)?;
+    }
+    Ok(())
+}
+
+fn add_expression_at<'a>(
+    limits: &'a Row<Limit>,
+    index: usize,
+    found: &mut Vec<Matching<'a>>,
+) -> Result<(), AllocError>
+    ensures { OnOk result (map matching_view found.new.items
+        ≡ map matching_view found.old.items
+        ++ expressions_in (option_to_list (slice_get limits.now index))) }
+{
+    match limits.get(index) {
+        None => Ok(()),
+        Some(limit) => add_expression(limit, found),
+    }
+}
+
+fn expressions_in<'a>(
+    alloc: Global,
+    limits: &'a Row<Limit>,
+) -> Result<Vec<Matching<'a>>, AllocError>
+    ensures { IfOk result (λ found. map matching_view found.items ≡ expressions_in limits.now) }
+{
+    let mut found = Vec::new(alloc);
+    'limits: for index in 0..limits.len() {
+        add_expression_at(limits, index, &mut found)?;
+    }
+    Ok(found)
+}
+
 /// A built-in type with restrictions, which stand from the built-in type outwards.
 #[derive(Debug, Drop)]
 struct LimitedType {
@@ -263,6 +325,13 @@ impl LimitedType {
         ensures { IfOk result (λ limits. limits ≡ self.now.limits) }
     {
         self.limits.clone()
+    }
+
+    fn expressions(&self, alloc: Global) -> Result<Vec<Matching<'_>>, AllocError>
+        ensures { IfOk result (λ found. map matching_view found.items
+            ≡ expressions_in self.now.limits) }
+    {
+        expressions_in(alloc, &self.limits)
     }
 }
 
@@ -422,6 +491,28 @@ impl SimpleType {
         match self.excluding_value(alloc, raw)? {
             None => Ok(None),
             Some(limit) => Ok(Some(limit.error())),
+        }
+    }
+
+    /// The expression for which the first restriction excludes what a document has, where it does so for one.
+    pub fn unmatched(&self, alloc: Global, raw: &Raw) -> Result<Option<Matching<'_>>, AllocError>
+        ensures { IfOk result (λ expression. option_map matching_view expression
+            ≡ unmatched_by self.now (raw_of raw.now)) }
+    {
+        match self.excluding_value(alloc, raw)? {
+            None => Ok(None),
+            Some(limit) => Ok(limit.expression()),
+        }
+    }
+
+    /// The expressions that its texts match, or don't match, from the built-in type outwards.
+    pub fn expressions(&self, alloc: Global) -> Result<Vec<Matching<'_>>, AllocError>
+        ensures { IfOk result (λ found. map matching_view found.items
+            ≡ expressions_in self.now.limits) }
+    {
+        match &self.form {
+            Form::Plain(_) => Ok(Vec::new(alloc)),
+            Form::Limited(limited) => limited.expressions(alloc),
         }
     }
 }

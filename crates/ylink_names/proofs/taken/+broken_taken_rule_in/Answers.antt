@@ -6,7 +6,7 @@ use Rattle.yspec.specs.schema.Breaks.{least_from, when, broken}
 use Rattle.ytext.specs.View as text
 use Rattle.ybase_preorder.specs.View.{row_by, label_by}
 use Rattle.ybase_preorder.proofs.RowLemmas.{takes_by, takes_none_by}
-use Rattle.ylink_grammar.specs.BreakView.{seen, break_view}
+use Rattle.ylink_grammar.specs.BreakView.{seen}
 use Rattle.ylink_grammar.specs.SourceView.{source_view}
 use Rattle.ylink_names.specs.DefinitionView.{AreIn}
 use Rattle.ylink_names.specs.ScopeView.{placed_at}
@@ -23,7 +23,7 @@ loop-statement-preserved-in_ok-told t c =
     let sized = ap size taken.0 in
     let first = takes_by source_view before c.next.new.self c.in-Some.statement taken in
     let so_far = seen c.loop-statement.told in
-    let mid = seen c.least_when-told.result in
+    let mid = seen c.judge_taken-told.result in
     let own : AreIn c.in_ok-row.row below = λ kind name. c.in_ok-row.ensures kind name ∙ cc in
     record {
       more = tt;
@@ -38,10 +38,9 @@ loop-statement-preserved-in_ok-told t c =
           ∙ (ap (λ n. is_taken (placed_at (source_view n label) below ancestors)) c.number.ensures
           ∙ ap (λ l. is_taken (placed_at (source_view c.in-Some.statement.number l) below ancestors)) c.label-source.ensures) in
           let here : mid ≡ least_from so_far (taken_break p) =
-          c.least_when-told.ensures
-          ∙ (ap (λ w. least_from so_far (when w (break_view c.broken.result ∷ []))) judged
-          ∙ (ap (λ b. least_from so_far (when (is_taken p) (break_view b ∷ []))) c.broken.ensures
-          ∙ ap (λ l. least_from so_far (when (is_taken p) (broken 7 l.home (text.view l.statement.now).0.line))) c.label-source.ensures)) in
+          c.judge_taken-told.ensures
+          ∙ (ap (λ w. least_from so_far (when w (broken 7 label.home (text.view label.statement.now).0.line))) judged
+          ∙ ap (λ l. least_from so_far (when (is_taken p) (broken 7 l.home (text.view l.statement.now).0.line))) c.label-source.ensures) in
           let inner : seen c.in_ok-told.told ≡ least_from mid (flat_map taken_break (placed inside below)) =
           c.in_ok-told.ensures inside (c.inside-inner.ensures s below ancestors own around)
           ∙ ap (λ n. least_from mid (flat_map taken_break (placed inside (row_by source_view n)))) c.children-in-loop-statement.ensures in
@@ -59,7 +58,7 @@ loop-statement-preserved t c =
     let sized = ap size taken.0 in
     let first = takes_by source_view before c.next.new.self c.in-Some.statement taken in
     let so_far = seen c.loop-statement.told in
-    let mid = seen c.least_when-told.result in
+    let mid = seen c.judge_taken-told.result in
     let own : AreIn c.in_ok-row.row below = λ kind name. c.in_ok-row.ensures kind name ∙ cc in
     record {
       more = tt;
@@ -74,10 +73,9 @@ loop-statement-preserved t c =
           ∙ (ap (λ n. is_taken (placed_at (source_view n label) below ancestors)) c.number.ensures
           ∙ ap (λ l. is_taken (placed_at (source_view c.in-Some.statement.number l) below ancestors)) c.label-source.ensures) in
           let here : mid ≡ least_from so_far (taken_break p) =
-          c.least_when-told.ensures
-          ∙ (ap (λ w. least_from so_far (when w (break_view c.broken.result ∷ []))) judged
-          ∙ (ap (λ b. least_from so_far (when (is_taken p) (break_view b ∷ []))) c.broken.ensures
-          ∙ ap (λ l. least_from so_far (when (is_taken p) (broken 7 l.home (text.view l.statement.now).0.line))) c.label-source.ensures)) in
+          c.judge_taken-told.ensures
+          ∙ (ap (λ w. least_from so_far (when w (broken 7 label.home (text.view label.statement.now).0.line))) judged
+          ∙ ap (λ l. least_from so_far (when (is_taken p) (broken 7 l.home (text.view l.statement.now).0.line))) c.label-source.ensures) in
           let inner : seen c.in_ok-told.told ≡ least_from mid (flat_map taken_break (placed inside below)) =
           c.in_ok-told.ensures inside (c.inside-inner.ensures s below ancestors own around)
           ∙ ap (λ n. least_from mid (flat_map taken_break (placed inside (row_by source_view n)))) c.children-in-loop-statement.ensures in

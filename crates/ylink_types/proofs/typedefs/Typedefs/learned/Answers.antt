@@ -1,10 +1,12 @@
 use Rattle.std.proofs.Common.{◌≡◌, ◌<◌, ◌≤◌, rules, length, get_or, sym, ap, ap₂, subst, ◌∙◌, arith}
-use Rattle.std.specs.Prelude.{◌==◌, option_map, option_and_then, slice_get, if◌then◌else◌}
+use Rattle.std.specs.Prelude.{◌==◌, option_map, if◌then◌else◌}
 use Rattle.std.specs.Option.{option_map_or}
 use mathlib.Core.Path.{fun_ext}
 use Rattle.yspec.specs.linking.DerivedTypes.{unknown, named, typedef_row}
 use Rattle.yspec_wide.specs.Types.{known_in_row_of}
-use Rattle.ybase_preorder.specs.View.{forest_in, row_by}
+use Rattle.ybase_preorder.specs.View.{forest_in, row_by, slots_in}
+use Rattle.ybase_preorder.proofs.LabelLemmas.{size-by}
+use Rattle.ybase_preorder.proofs.RowLemmas.{size_forest}
 use Rattle.ylink_grammar.specs.LinkView.{view}
 use Rattle.ylink_grammar.specs.SourceView.{source_view}
 use Rattle.ylink_names.proofs.PlacedLemmas.{number_named_at}
@@ -12,8 +14,7 @@ use Rattle.ylink_names.specs.MeaningView.{meaning_at}
 use Rattle.ylink_types.specs.IdentityView as identity
 use Rattle.ylink_values.specs.KeptView.{kept_view}
 use Rattle.ylink_types.specs.TypedefView.{known_at, names_in}
-use Rattle.ylink_types.proofs.OrderLemmas.{learned_next, learned_all, rows_count}
-use Rattle.ylink_types.proofs.RowLemmas.{row_found}
+use Rattle.ylink_types.proofs.OrderLemmas.{learned_next, learned_all}
 use Rattle.ylink_types.proofs.typedefs.Typedefs.learned.Goals as goal
 
 pub loop-number-init : goal.loop-number-init
@@ -22,7 +23,7 @@ loop-number-init c =
     record {
       meant = c.requires.meant;
       rests = record { named = number_named_at f c.args.meanings.items c.requires.meant; identities = c.requires.identities };
-      count = c.in_ok-known.ensures ∙ (c.len.ensures ∙ (c.in_ok-rows.rows.ok.0 ∙ rows_count f c.in_ok-rows.rows.items c.in_ok-rows.ensures));
+      count = c.in_ok-known.ensures ∙ (ap length c.slots.ensures ∙ (sym (size_forest (slots_in c.args.sources.now.table)) ∙ sym (size-by source_view 0 f)));
       known = λ j before within. absurd (omega (arith, before));
     }
 
@@ -38,9 +39,7 @@ loop-number-preserved c =
     let within : i < length nodes = first_of (search rules, omega arith) in
     let names : names_in typedefs ≡ named set table =
     fun_ext (λ n. ap (λ o. option_map_or table o unknown) (sym (number_named_at f typedefs.meanings.items c.loop-number.invariant.meant n))) in
-    let row : option_map (row_by source_view) c.row_of.result ≡ typedef_row set number =
-    ap (option_map (row_by source_view)) (c.row_of.ensures ∙ ap (λ rows. option_and_then (λ r. r) (slice_get rows number)) c.deref.ensures.value)
-    ∙ row_found f c.in_ok-rows.rows.items c.in_ok-rows.ensures number in
+    let row : option_map (row_by source_view) c.typedef_row-row.result ≡ typedef_row set number = c.typedef_row-row.ensures in
     let inside : number < length typedefs.known.items =
     let below = c.requires.ordered.within i within in let long = c.loop-number.invariant.count in omega (arith, below, long) in
     record {

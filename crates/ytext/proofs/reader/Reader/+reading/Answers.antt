@@ -15,7 +15,7 @@ statements-loop-self-init t c =
     let read = rows c.args.level (tokens_ahead c.args.self.now) in
     record {
       ahead = omega arith;
-      rest = ap (λ (ss : List Stmt). with_front (row_view ss) read) c.new-subs.ensures.items ∙ front_nothing read;
+      rest = ap (λ (ss : List Stmt). with_front (row_view ss) read) c.in_ok-subs.ensures.items ∙ front_nothing read;
     }
 
 pub statements-loop-self-preserved : goal.statements-loop-self-preserved

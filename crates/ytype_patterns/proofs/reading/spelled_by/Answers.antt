@@ -6,7 +6,7 @@ use Rattle.std.specs.Str.{chars}
 use Rattle.ytype_patterns.specs.ReadingView.{Read, left_behind, nothing_read, reader_view}
 use Rattle.ytype_patterns.proofs.ReadingLemmas.{one_read, none_left}
 use Rattle.ytype_patterns.proofs.SetLemmas.{if_ok}
-use Rattle.ytype_patterns.proofs.reading.tree_of.Goals as goal
+use Rattle.ytype_patterns.proofs.reading.spelled_by.Goals as goal
 
 pub loop-c-init : goal.loop-c-init
 loop-c-init c = ap (λ (s : Read). left_behind s (chars c.args.text.now)) c.nothing_read-reader.ensures
