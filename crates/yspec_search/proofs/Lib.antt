@@ -1,0 +1,2 @@
+pub mod SearchLiterals
+pub mod SearchLemmas

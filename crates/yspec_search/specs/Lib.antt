@@ -1,0 +1,3 @@
+-- Modules that are looked for in folders.
+pub mod Search
+pub mod Samples
