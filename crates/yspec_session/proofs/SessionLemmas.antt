@@ -1,0 +1,208 @@
+-- What holds of every session.
+use Rattle.std.proofs.Common.{◌≡◌, ℕ, zero, suc, ◌+◌, Bool, true, false, ◌||◌, List, [], ◌∷◌, length, Option, Some, None, Result, Ok, Err, map, refl, sym, ap, ◌∙◌, ◌≤◌, arith}
+use Rattle.std.specs.Prelude.{if◌then◌else◌, take, option_map, unwrap_or}
+use Rattle.std.specs.Option.{option_map_or}
+use Rattle.std.specs.List.{list_any, list_all}
+use Rattle.std.proofs.lemmas.Bool.{and_parts}
+use Rattle.yspec.specs.schema.Schema.{Schema}
+use Rattle.yspec.specs.document.Document.{Tree}
+use Rattle.yspec.specs.document.Fault.{Fault}
+use Rattle.yspec.specs.edit.EditText.{Edit}
+use Rattle.yspec.specs.edit.Editing.{EditRefusal, applied, tree_or, decision, after, decisions}
+use Rattle.yspec_session.specs.Carrying.{Turn, Difference, same_fault, fault_behind, without_one, with_gone, difference}
+use Rattle.yspec_session.specs.Session.{Turns, Earlier, Begun, Session, Request, Why, change, faults, below, value, undo, document, save, begin, commit, back, refused, turns_of, with_turns, without_turns, with_remembered, change_answered, undone, begun_with, committed, fallen, answered, behind_all, undos, accepted_among, accepted, is_inside}
+
+-- ---- how many
+
+one_less : (f : Fault) (gs : List Fault) → list_any (same_fault f) gs ≡ true → length gs ≡ suc (length (without_one f gs))
+one_less f [] e = absurd cc
+one_less f (g ∷ gs) e = by (same_fault f g) e (one_less f gs)
+  where
+    by : (b : Bool) → (b || list_any (same_fault f) gs) ≡ true → (list_any (same_fault f) gs ≡ true → length gs ≡ suc (length (without_one f gs)))
+        → length (g ∷ gs) ≡ suc (length (if b then gs else (g ∷ without_one f gs)))
+    by true e others = refl
+    by false e others = omega (arith, others e)
+
+pub as_many : (turns : List Turn) (earlier later : List Fault)
+    → length earlier + length (difference turns earlier later).told ≡ length later + length (difference turns earlier later).gone
+as_many turns [] later = omega (arith)
+as_many turns (f ∷ fs) later = by (fault_behind turns f) (as_many turns fs later) (λ g. as_many turns fs (without_one g later))
+  where
+    -- both lists of a difference make up for each other
+    Even : ℕ → List Fault → Difference → Type 0
+    Even count later d = count + length d.told ≡ length later + length d.gone
+
+    more : (g : Fault) → Even (length fs) later (difference turns fs later) → Even (length (f ∷ fs)) later (with_gone g (difference turns fs later))
+    more g even = omega (arith, even)
+
+    found : (g : Fault) (b : Bool) → list_any (same_fault g) later ≡ b → Even (length fs) later (difference turns fs later)
+        → Even (length fs) (without_one g later) (difference turns fs (without_one g later))
+        → Even (length (f ∷ fs)) later (if b then difference turns fs (without_one g later) else with_gone g (difference turns fs later))
+    found g true e even less = omega (arith, one_less g later e, less)
+    found g false e even less = more g even
+
+    by : (o : Option Fault) → Even (length fs) later (difference turns fs later)
+        → ((g : Fault) → Even (length fs) (without_one g later) (difference turns fs (without_one g later)))
+        → Even (length (f ∷ fs)) later (option_map_or (λ g. if list_any (same_fault g) later
+        then difference turns fs (without_one g later) else with_gone g (difference turns fs later)) o (with_gone f (difference turns fs later)))
+    by None even less = more f even
+    by (Some g) even less = found g (list_any (same_fault g) later) refl even (less g)
+
+-- ---- what is refused
+
+change_left : (schema : Schema) (limit : ℕ) (s : Session) (turns : Turns) (r : Result Tree EditRefusal) (why : Why)
+    → (change_answered schema limit s turns r).0 ≡ refused why → (change_answered schema limit s turns r).1 ≡ s
+change_left schema limit s turns (Err e) why is = refl
+change_left schema limit s turns (Ok later) why is = absurd cc
+
+undo_left : (schema : Schema) (s : Session) (es : List Earlier) (why : Why) → (undone schema s es).0 ≡ refused why → (undone schema s es).1 ≡ s
+undo_left schema s [] why is = refl
+undo_left schema s (e ∷ es) why is = absurd cc
+
+begin_left : (s : Session) (o : Option Begun) (why : Why) → (begun_with s o).0 ≡ refused why → (begun_with s o).1 ≡ s
+begin_left s None why is = absurd cc
+begin_left s (Some b) why is = refl
+
+commit_left : (limit : ℕ) (s : Session) (o : Option Begun) (why : Why) → (committed limit s o).0 ≡ refused why → (committed limit s o).1 ≡ s
+commit_left limit s None why is = refl
+commit_left limit s (Some b) why is = absurd cc
+
+back_left : (schema : Schema) (s : Session) (o : Option Begun) (why : Why) → (fallen schema s o).0 ≡ refused why → (fallen schema s o).1 ≡ s
+back_left schema s None why is = refl
+back_left schema s (Some b) why is = absurd cc
+
+pub left : (schema : Schema) (limit : ℕ) (s : Session) (r : Request) (why : Why) → (answered schema limit s r).0 ≡ refused why → (answered schema limit s r).1 ≡ s
+left schema limit s (change e) why is = change_left schema limit s (turns_of schema s.tree e) (applied schema s.tree e) why is
+left schema limit s (faults behind count) why is = refl
+left schema limit s (below path) why is = refl
+left schema limit s (value path) why is = refl
+left schema limit s undo why is = undo_left schema s s.remembered why is
+left schema limit s document why is = refl
+left schema limit s (save file) why is = refl
+left schema limit s begin why is = begin_left s s.begun why is
+left schema limit s commit why is = commit_left limit s s.begun why is
+left schema limit s back why is = back_left schema s s.begun why is
+
+-- ---- documents
+
+changed_tree : (schema : Schema) (limit : ℕ) (s : Session) (turns : Turns) (r : Result Tree EditRefusal)
+    → (change_answered schema limit s turns r).1.tree ≡ tree_or r s.tree
+changed_tree schema limit s turns (Err e) = refl
+changed_tree schema limit s turns (Ok later) = refl
+
+pub documents : (schema : Schema) (limit : ℕ) (s : Session) (edits : List Edit)
+    → (behind_all schema limit s (map change edits)).tree ≡ after schema s.tree edits
+documents schema limit s [] = refl
+documents schema limit s (e ∷ edits) = documents schema limit (answered schema limit s (change e)).1 edits
+    ∙ ap (λ tree. after schema tree edits) (changed_tree schema limit s (turns_of schema s.tree e) (applied schema s.tree e))
+
+-- ---- what is taken back
+
+take_whole : {A : Type 0} (n : ℕ) (xs : List A) → length xs ≤ n → take n xs ≡ xs
+take_whole zero [] le = refl
+take_whole (suc n) [] le = refl
+take_whole zero (x ∷ xs) le = absurd (omega (arith, le))
+take_whole (suc n) (x ∷ xs) le = ap (λ ys. x ∷ ys) (take_whole n xs (omega (arith, le)))
+
+same_begun : (turns : List Turn) (o : Option Begun) → option_map without_turns (option_map (with_turns turns) o) ≡ o
+same_begun turns None = refl
+same_begun turns (Some b) = refl
+
+one_undone : (schema : Schema) (limit : ℕ) (turns : List Turn) (later : Tree) (s : Session) → length s.remembered + 1 ≤ limit
+    → (answered schema limit (with_remembered limit turns later s) undo).1 ≡ s
+one_undone schema limit turns later s le =
+    ap (λ es. (undone schema (with_remembered limit turns later s) es).1)
+    (take_whole limit (record { tree = s.tree; turns = turns } ∷ s.remembered) (omega (arith, le)))
+    ∙ ap (λ o. record { tree = s.tree; remembered = s.remembered; begun = o }) (same_begun turns s.begun)
+
+last_undone : (schema : Schema) (limit : ℕ) (s : Session) (n : ℕ)
+    → behind_all schema limit s (undos (suc n)) ≡ (answered schema limit (behind_all schema limit s (undos n)) undo).1
+last_undone schema limit s zero = refl
+last_undone schema limit s (suc n) = last_undone schema limit (answered schema limit s undo).1 n
+
+no_longer : {A : Type 0} (n : ℕ) (xs : List A) → length (take n xs) ≤ length xs
+no_longer zero [] = omega (arith)
+no_longer zero (x ∷ xs) = omega (arith)
+no_longer (suc n) [] = omega (arith)
+no_longer (suc n) (x ∷ xs) = omega (arith, no_longer n xs)
+
+pub all_undone : (schema : Schema) (limit : ℕ) (s : Session) (edits : List Edit) → length s.remembered + length edits ≤ limit
+    → behind_all schema limit (behind_all schema limit s (map change edits)) (undos (accepted schema s.tree edits)) ≡ s
+all_undone schema limit s [] le = refl
+all_undone schema limit s (e ∷ edits) le = by (applied schema s.tree e) (λ t le. all_undone schema limit t edits le)
+  where
+    turns : Turns
+    turns = turns_of schema s.tree e
+
+    count : Tree → ℕ
+    count tree = accepted schema tree edits
+
+    by : (r : Result Tree EditRefusal)
+        → ((t : Session) → length t.remembered + length edits ≤ limit → behind_all schema limit (behind_all schema limit t (map change edits)) (undos (count t.tree)) ≡ t)
+        → behind_all schema limit (behind_all schema limit (change_answered schema limit s turns r).1 (map change edits))
+        (undos (accepted_among (decision r ∷ decisions schema (tree_or r s.tree) edits))) ≡ s
+    by (Err refusal) others = others s (omega (arith, le))
+    by (Ok later) others = let next = with_remembered limit turns.back later s in
+        last_undone schema limit (behind_all schema limit next (map change edits)) (count later)
+        ∙ (ap (λ t. (answered schema limit t undo).1) (others next (omega (arith, le, no_longer limit (record { tree = s.tree; turns = turns.back } ∷ s.remembered))))
+        ∙ one_undone schema limit turns.back later s (omega (arith, le)))
+
+-- ---- what falls
+
+-- what edits together began with
+abbrev ground : Option Begun → Option (Tree × List Earlier)
+ground o = option_map (λ b. (b.tree, b.remembered)) o
+
+with_ground : (turns : List Turn) (o : Option Begun) → ground (option_map (with_turns turns) o) ≡ ground o
+with_ground turns None = refl
+with_ground turns (Some b) = refl
+
+without_ground : (o : Option Begun) → ground (option_map without_turns o) ≡ ground o
+without_ground None = refl
+without_ground (Some b) = refl
+
+change_grounded : (schema : Schema) (limit : ℕ) (s : Session) (turns : Turns) (r : Result Tree EditRefusal)
+    → ground (change_answered schema limit s turns r).1.begun ≡ ground s.begun
+change_grounded schema limit s turns (Err e) = refl
+change_grounded schema limit s turns (Ok later) = with_ground turns.back s.begun
+
+undo_grounded : (schema : Schema) (s : Session) (es : List Earlier) → ground (undone schema s es).1.begun ≡ ground s.begun
+undo_grounded schema s [] = refl
+undo_grounded schema s (e ∷ es) = without_ground s.begun
+
+begin_grounded : (s : Session) (o : Option Begun) (g : Tree × List Earlier) → s.begun ≡ o → ground o ≡ Some g → ground (begun_with s o).1.begun ≡ Some g
+begin_grounded s None g is e = absurd cc
+begin_grounded s (Some b) g is e = ap ground is ∙ e
+
+grounded : (schema : Schema) (limit : ℕ) (s : Session) (g : Tree × List Earlier) (r : Request) → is_inside r ≡ true
+    → ground s.begun ≡ Some g → ground (answered schema limit s r).1.begun ≡ Some g
+grounded schema limit s g (change e) inside is = change_grounded schema limit s (turns_of schema s.tree e) (applied schema s.tree e) ∙ is
+grounded schema limit s g (faults behind count) inside is = is
+grounded schema limit s g (below path) inside is = is
+grounded schema limit s g (value path) inside is = is
+grounded schema limit s g undo inside is = undo_grounded schema s s.remembered ∙ is
+grounded schema limit s g document inside is = is
+grounded schema limit s g (save file) inside is = is
+grounded schema limit s g begin inside is = begin_grounded s s.begun g refl is
+grounded schema limit s g commit inside is = absurd cc
+grounded schema limit s g back inside is = absurd cc
+
+all_grounded : (schema : Schema) (limit : ℕ) (s : Session) (g : Tree × List Earlier) (requests : List Request) → list_all is_inside requests ≡ true
+    → ground s.begun ≡ Some g → ground (behind_all schema limit s requests).begun ≡ Some g
+all_grounded schema limit s g [] inside is = is
+all_grounded schema limit s g (r ∷ requests) inside is = let parts = and_parts (is_inside r) (list_all is_inside requests) inside in
+    all_grounded schema limit (answered schema limit s r).1 g requests parts.1 (grounded schema limit s g r parts.0 is)
+
+fallen_to : (schema : Schema) (s : Session) (g : Tree × List Earlier) (o : Option Begun) → ground o ≡ Some g
+    → (fallen schema s o).1 ≡ record { tree = g.0; remembered = g.1; begun = None }
+fallen_to schema s g None e = absurd cc
+fallen_to schema s g (Some b) e = ap (λ o. record { tree = (unwrap_or o g).0; remembered = (unwrap_or o g).1; begun = None }) e
+
+pub all_fallen : (schema : Schema) (limit : ℕ) (s : Session) (requests : List Request) → s.begun ≡ None → list_all is_inside requests ≡ true
+    → (answered schema limit (behind_all schema limit (answered schema limit s begin).1 requests) back).1 ≡ s
+all_fallen schema limit s requests none inside =
+    let inner = behind_all schema limit (answered schema limit s begin).1 requests in
+    fallen_to schema inner (s.tree, s.remembered) inner.begun
+    (all_grounded schema limit (answered schema limit s begin).1 (s.tree, s.remembered) requests inside
+    (ap (λ o. ground (begun_with s o).1.begun) none))
+    ∙ ap (λ o. record { tree = s.tree; remembered = s.remembered; begun = o }) (sym none)

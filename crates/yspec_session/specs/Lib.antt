@@ -1,0 +1,5 @@
+-- Sessions over a live document.
+pub mod Carrying
+pub mod Session
+pub mod Requests
+pub mod Samples

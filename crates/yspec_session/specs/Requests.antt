@@ -1,0 +1,56 @@
+-- The lines of a session.
+use Rattle.std.specs.Prelude.{ℕ, ◌-◌, List, [], ◌∷◌, codes, Option, Some, None, option_map, option_and_then, if◌then◌else◌}
+use Rattle.yspec.specs.text.Text.{Text, is_text, space}
+use Rattle.yspec.specs.schema.Schema.{Schema}
+use Rattle.yspec.specs.edit.EditText.{Path, cut_at, operands, position_of, position_alone, path_of, edit_of}
+use Rattle.yspec_session.specs.Session.{Session, Request, Answer, change, faults, below, value, undo, document, save, begin, commit, back, not_understood, answered}
+
+-- of one word
+abbrev pub bare_request : Text → Option Request
+bare_request t = if is_text t (codes "undo") then Some undo
+    else (if is_text t (codes "document") then Some document
+    else (if is_text t (codes "begin") then Some begin
+    else (if is_text t (codes "commit") then Some commit
+    else (if is_text t (codes "back") then Some back
+    else (if is_text t (codes "faults") then Some (faults 0 None) else None)))))
+
+-- from a fault on, counted from 1, and perhaps how many
+abbrev pub page_asked : Text × Text → Option Request
+page_asked (first, []) = option_map (λ n. faults (n - 1) None) (position_of first)
+page_asked (first, x ∷ xs) =
+    option_and_then (λ n. option_map (λ count. faults (n - 1) (Some count)) (position_alone (x ∷ xs))) (position_of first)
+
+abbrev pub path_alone : Text × Text → Option Path
+path_alone (t, []) = path_of t
+path_alone (t, x ∷ xs) = None
+
+-- a name may have spaces
+abbrev pub file_named : Text → Option Request
+file_named [] = None
+file_named (x ∷ xs) = Some (save (x ∷ xs))
+
+abbrev pub request_with : Text × Text → Option Request
+request_with (verb, rest) = if is_text verb (codes "faults") then page_asked (operands rest)
+    else (if is_text verb (codes "below") then option_map below (path_alone (operands rest))
+    else (if is_text verb (codes "value") then option_map value (path_alone (operands rest))
+    else (if is_text verb (codes "save") then file_named rest else None)))
+
+abbrev pub or_else : {A : Type 0} → Option A → Option A → Option A
+or_else None other = other
+or_else (Some x) other = Some x
+
+-- edits are spelled as in scripts
+abbrev pub request_of : Text → Option Request
+request_of t = or_else (bare_request t) (or_else (option_and_then request_with (cut_at space None t)) (option_map change (edit_of t)))
+
+-- ---- a session's lines
+
+abbrev pub answer_and_rest : Schema → ℕ → (Session → List Answer) → Session → Option Request → List Answer
+answer_and_rest schema limit rest s None = not_understood ∷ rest s
+answer_and_rest schema limit rest s (Some r) = let a = answered schema limit s r in a.0 ∷ rest a.1
+
+-- one answer to each line; with `end` nothing more is read
+abbrev pub replies : Schema → ℕ → Session → List Text → List Answer
+replies schema limit s [] = []
+replies schema limit s (t ∷ lines) = if is_text t (codes "end") then []
+    else answer_and_rest schema limit (λ s. replies schema limit s lines) s (request_of t)

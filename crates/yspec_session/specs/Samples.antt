@@ -1,0 +1,34 @@
+-- Worked examples: a document of three entries, the second of which lacks its number, and what lines are answered.
+use Rattle.std.specs.Prelude.{ℕ, List, [], ◌∷◌, codes, Option, None, option_map, option_and_then}
+use Rattle.std.specs.Result.{result_ok}
+use Rattle.yspec.specs.text.Text.{Text}
+use Rattle.yspec.specs.text.Statement.{module_of}
+use Rattle.yspec.specs.linking.Compiling.{schema_of}
+use Rattle.yspec.specs.document.Document.{step_to, step_at}
+use Rattle.yspec.specs.document.Reading.{document_of}
+use Rattle.yspec.specs.document.FaultCode.{V3}
+use Rattle.yspec.specs.document.Fault.{Fault, plain_fault}
+use Rattle.yspec.specs.edit.Examples.{module_text}
+use Rattle.yspec_session.specs.Session.{Answer, changed, refused, edit_refused, opened}
+use Rattle.yspec_session.specs.Requests.{replies}
+
+abbrev pub module_l : Text
+module_l = module_text (codes "p") (codes "  list l {\n    key k;\n    leaf k { type string; }\n    leaf m { type uint8; mandatory true; }\n  }\n  container c {\n    leaf y { type uint8; }\n  }\n")
+
+abbrev pub three_entries : Text
+three_entries = codes "{\"p:l\":[{\"k\":\"a\",\"m\":1},{\"k\":\"b\"},{\"k\":\"c\",\"m\":3}]}"
+
+-- the answers to lines, where two edits can be taken back
+abbrev pub talk : List Text → Option (List Answer)
+talk lines = option_and_then (λ m. option_map (λ tree. replies (schema_of m) 2 (opened tree) lines)
+    (result_ok (document_of (schema_of m) three_entries))) (result_ok (module_of module_l))
+
+-- an entry at a position lacks its number
+abbrev pub lacks : ℕ → Fault
+lacks position = plain_fault V3 (step_at 0 position ∷ step_to 2 ∷ [])
+
+abbrev pub becomes : ℕ → ℕ → List Fault → List Fault → Answer
+becomes before after told gone = changed before after (record { told = told; gone = gone })
+
+abbrev pub code_refused : ℕ → Answer
+code_refused code = refused (edit_refused (record { code = code; document_code = None }))
