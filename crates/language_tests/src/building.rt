@@ -1,7 +1,7 @@
 //! The modules of a row, and the language that it says.
 
 use std::alloc::{AllocError, Global};
-use ylink_grammar::{Choosing, Language};
+use ylink_grammar::{Choosing, Language, Unjudged, Wide};
 use ytext::{Module, TextFault, parse};
 
 fn features_of(alloc: Global, names: &str) -> Result<Vec<String>, AllocError> {
@@ -14,7 +14,18 @@ fn features_of(alloc: Global, names: &str) -> Result<Vec<String>, AllocError> {
     Ok(features)
 }
 
-/// The language in which features are chosen of some modules, as `m:f,g n:` says; in `all` of none.
+// Whether one of some words is this one.
+fn has_word(words: &str, word: &str) -> bool {
+    for other in words.split(' ') {
+        if other == word {
+            return true;
+        }
+    }
+    false
+}
+
+/// The language in which features are chosen of some modules, as `m:f,g n:` says; in `all` of none. In `must` and `when` these
+/// aren't judged.
 pub(crate) fn language_of(alloc: Global, words: &str) -> Result<Language, AllocError> {
     let mut choosings = Vec::new(alloc);
     for word in words.split(' ') {
@@ -25,12 +36,18 @@ pub(crate) fn language_of(alloc: Global, words: &str) -> Result<Language, AllocE
             })?;
         }
     }
-    Ok(Language::Rfc(choosings))
+    Ok(Language::Rfc(Wide {
+        choosings,
+        unjudged: Unjudged {
+            musts: has_word(words, "must"),
+            whens: has_word(words, "when"),
+        },
+    }))
 }
 
 /// The language in which all features are chosen.
 pub(crate) fn with_all_features(alloc: Global) -> Language {
-    Language::Rfc(Vec::new(alloc))
+    Language::rfc_with(Vec::new(alloc))
 }
 
 // Statements of a row, in which `|` stands for a line feed.

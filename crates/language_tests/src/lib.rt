@@ -1,6 +1,8 @@
-//! Tests of modules that are read in a language: versions of YANG, features, and patterns.
+//! Tests of modules that are read in a language: versions of YANG, features, patterns, binaries, and conditions that aren't judged.
 #![tactic(auto)]
 
+#[cfg(test)]
+mod binaries;
 #[cfg(test)]
 mod building;
 #[cfg(test)]
@@ -12,9 +14,13 @@ mod documents;
 #[cfg(test)]
 mod features;
 #[cfg(test)]
+mod guards;
+#[cfg(test)]
 mod memory;
 #[cfg(test)]
 mod patterns;
+#[cfg(test)]
+mod restricting;
 #[cfg(test)]
 mod telling;
 #[cfg(test)]

@@ -2,6 +2,7 @@
 use Rattle.std.proofs.Common.{◌≡◌, inl, inr, Bool, false, ℕ, List, [], ◌∷◌, codes, Some, None, refl, sym, subst, ap, ◌∙◌, arith}
 use Rattle.yspec_wide.specs.Language.{core}
 use Rattle.yspec_run.specs.Output.{Besides, Outcome, Request, files_of, outcome, plainly, printed_with, validate}
+use Rattle.yspec_run.specs.Unjudged.{outcome_said}
 use Rattle.ybase_output.specs.Writing.{Side}
 use Rattle.clap.proofs.OnLiterals.{clap_on_literals}
 use Rattle.yapp_words.specs.Command.{asks_reasons, refusals, request_of}
@@ -34,13 +35,19 @@ known_answers names texts (Some a ∷ Some b ∷ []) answered none =
     ∙ ap (λ (bytes : List ℕ). Some (contents_in names texts (codes "p.yang")) ∷ Some bytes ∷ []) (sym answered.1.0)
 known_answers names texts (Some a ∷ Some b ∷ answer ∷ answers) answered none = absurd answered.1.1
 
+-- under the core nothing more is said
+all_judged : (answers : FileAnswers) → outcome_said (validate core plainly (codes "d.json") (codes "p.yang" ∷ [])) answers
+    ≡ outcome (validate core plainly (codes "d.json") (codes "p.yang" ∷ [])) answers
+unfolding outcome outcome_said
+all_judged answers = refl
+
 pub is_known : (before after : Store) (request : Request) (names : List Text) (texts : List (List ℕ)) (o : Outcome) → before.contents ≡ told_in names texts
     → after.failures ≡ before.failures → request ≡ validate core plainly (codes "d.json") (codes "p.yang" ∷ []) → IsOutcome before after request o → IsKnown names texts o
 is_known before after request names texts o tells same asked (inl came) =
     let read = subst (λ (r : Request). WereRead before after (files_of r) came.0) asked came.1 in
     let none : unread_in came.0 ≡ 0 = omega (arith, read.failures, same) in
     let answered = subst (λ (contents : Contents). Answered contents (codes "p.yang" ∷ codes "d.json" ∷ []) came.0) tells read.answered in
-    inl (came.2 ∙ ap (λ (r : Request). outcome r came.0) asked
+    inl (came.2 ∙ ap (λ (r : Request). outcome_said r came.0) asked ∙ all_judged came.0
     ∙ ap (outcome (validate core plainly (codes "d.json") (codes "p.yang" ∷ []))) (known_answers names texts came.0 answered none))
 is_known before after request names texts o tells same asked (inr none) = inr none.1
 

@@ -187,10 +187,11 @@ unread.yang:4: C1
   A statement or a built-in type isn't known, may not stand there, or isn't read by this program. Correct its name, or move it; README says what of YANG is read.
 ==
 yanglive validate --explain empty.json p.yang binary.yang
-2 4
+2 5
 binary.yang:2: C1
   | leaf a { type binary; }
   the type binary is YANG 1.1, and isn't read here.
+  with --profile rfc this is read.
   A statement or a built-in type isn't known, may not stand there, or isn't read by this program. Correct its name, or move it; README says what of YANG is read.
 ==
 yanglive compile --explain placed.yang

@@ -15,15 +15,27 @@ const FEATURE: &str = "module a {
 }
 ";
 
-/// Whether words show so of that module: the row is the words, the status, what is said on the error side, and the output.
+/// A module of YANG 1.1 with conditions.
+const CONDITIONS: &str = "module b {
+  yang-version 1.1;
+  namespace \"urn:b\";
+  prefix b;
+  leaf x { must \"../y\"; when \"../z\"; type string; mandatory true; }
+  leaf y { must \"../x\"; type string; mandatory true; }
+}
+";
+
+/// Whether words show so of these modules: the row is the words, the status, what is said on the error side, and the output.
 fn is_shown_so(alloc: Global, row: &str) -> Option<bool> {
     let (line, rest) = row.split_once('\n')?;
     let (status, rest) = rest.split_once('\n')?;
     let (errors, output) = rest.split_once("--\n")?;
     let files = [
         file("a.yang", FEATURE),
+        file("b.yang", CONDITIONS),
         file("d.json", "{}"),
         file("s.txt", "create /a:y \"v\""),
+        file("t.txt", "create /b:y \"v\""),
     ];
     let shown = shown_of(alloc, line, &files).ok()?;
     is_shown(&shown, status, errors, output)
@@ -123,6 +135,60 @@ yanglive edit --dump --profile rfc --features a: d.json s.txt a.yang
 }
 
 #[test]
+fn unjudged(rt: HostRuntime) {
+    let rows = "yanglive compile --profile rfc b.yang
+2
+b.yang:5: C1
+--
+==
+yanglive compile --profile rfc --unjudged must b.yang
+2
+b.yang:5: C1
+--
+==
+yanglive compile --profile rfc --unjudged when b.yang
+2
+b.yang:5: C1
+--
+==
+yanglive compile --profile rfc --unjudged must,when b.yang
+0
+not judged: 2 must, 1 when
+--
+2 nodes
+==
+yanglive validate --profile rfc --unjudged when,must d.json b.yang
+1
+not judged: 2 must, 1 when
+--
+V3 data-missing - /b:y -
+1 faults
+==
+yanglive edit --dump --profile rfc --unjudged must,when d.json t.txt b.yang
+0
+not judged: 2 must, 1 when
+--
+{\"b:y\":\"v\"}
+==
+yanglive tree --profile rfc --unjudged must,when b.yang
+0
+not judged: 2 must, 1 when
+--
+module: b
+  +--rw x?   string
+  +--rw y    string
+==
+yanglive validate --profile rfc --unjudged must,when --features a: d.json a.yang
+0
+--
+0 faults
+";
+    for row in rows.split("==\n") {
+        assert!(rt; is_shown_so(rt.alloc(), row) == Some(true), "{row}");
+    }
+}
+
+#[test]
 fn refused_words(rt: HostRuntime) {
     let rows = "yanglive compile --profile yang a.yang
 3
@@ -142,6 +208,21 @@ For more information, try '--help'.
 yanglive compile --features a:f a.yang
 3
 error: the profile core has no features: '--features' stands with '--profile rfc'
+
+For more information, try '--help'.
+--
+==
+yanglive compile --profile rfc --unjudged must, b.yang
+3
+error: invalid value 'must,' for '--unjudged <CONDITIONS>'
+  [possible values: must, when, must,when]
+
+For more information, try '--help'.
+--
+==
+yanglive validate --unjudged must,when d.json b.yang
+3
+error: the profile core has no conditions: '--unjudged' stands with '--profile rfc'
 
 For more information, try '--help'.
 --

@@ -14,6 +14,8 @@ const FRONT: &str = "module t {
   typedef port { type uint16 { range \"1..100\"; } }
   typedef host { type union { type port; type string { length \"1..8\"; } } }
   typedef percent { type uint8 { range \"0..100\" { error-message 'A part of \"100\".'; } } }
+  typedef colour { type enumeration { enum white; enum yellow; enum red; } }
+  typedef speed { type bits { bit half; bit fast; bit slow; } }
   identity shape; identity odd; identity round { base shape; } identity square { base shape; }
   identity any;
   identity a01 { base any; } identity a02 { base any; } identity a03 { base any; } identity a04 { base any; }
@@ -129,8 +131,38 @@ union { type string { pattern "[a-z]+"; pattern "..?"; } type empty; } => "abc" 
 
 #[test]
 fn texts_with_expressions(rt: HostRuntime) {
-    let language = Language::Rfc(Vec::new(rt.alloc()));
+    let language = Language::rfc_with(Vec::new(rt.alloc()));
     for row in EXPRESSIONS.lines() {
+        assert!(rt; is_told(rt.alloc(), &language, row) == Some(true), "{row}");
+    }
+}
+
+const OCTETS: &str =
+    r#"binary; => "Zm9" => "Zm9" isn't a value of binary: it takes base64 in quotes.
+binary { length "3"; } => "Zm8=" => "Zm8=" isn't a value of binary: it takes base64 in quotes, of 3 octets.
+binary { length "1..3 | 5..max"; } => 5 => 5 isn't a value of binary: it takes base64 in quotes, of 1..3 | 5 or more octets.
+binary { length "0..max"; } => "=" => "=" isn't a value of binary: it takes base64 in quotes.
+union { type uint8; type binary { length "3" { error-message "Three."; } } } => "Zm8=" => "Zm8=" isn't a value of union: it takes an integer without quotes in 0..255 or base64 in quotes, of 3 octets.
+binary { length "3" { error-message "Three."; } } => "Zm8=" => "Zm8=" isn't a value of binary: it takes base64 in quotes, of 3 octets. Its module says: Three.
+"#;
+
+#[test]
+fn octets(rt: HostRuntime) {
+    let language = Language::rfc_with(Vec::new(rt.alloc()));
+    for row in OCTETS.lines() {
+        assert!(rt; is_told(rt.alloc(), &language, row) == Some(true), "{row}");
+    }
+}
+
+const NAMES: &str =
+    r#"colour { enum red; enum white; } => "yellow" => "yellow" isn't a value of colour: it takes one of "white", "red".
+speed { bit slow; bit fast; } => "fast half" => "fast half" isn't a value of speed: it takes names in quotes, parted by spaces and each once, of: fast, slow.
+"#;
+
+#[test]
+fn names_that_are_left(rt: HostRuntime) {
+    let language = Language::rfc_with(Vec::new(rt.alloc()));
+    for row in NAMES.lines() {
         assert!(rt; is_told(rt.alloc(), &language, row) == Some(true), "{row}");
     }
 }

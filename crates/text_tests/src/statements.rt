@@ -2,7 +2,7 @@
 
 use crate::spelled::unmarked;
 use std::alloc::Global;
-use ylink_grammar::{BrokenRule, Language, Sources, broken_statement_rule_in};
+use ylink_grammar::{BrokenRule, Language, Sources, Unjudged, Wide, broken_statement_rule_in};
 use ytext::{Module, parse};
 
 // A module of a body, behind its version where it states one.
@@ -57,7 +57,7 @@ leaf l { type string; ¶if-feature a; } => C1 2
 // What features bring, of modules of YANG 1.1 (RFC 7950, 7.20.1, 7.20.2 and 14).
 #[test]
 fn of_yang_1_1(rt: HostRuntime) {
-    let language = Language::Rfc(Vec::new(rt.alloc()));
+    let language = Language::rfc_with(Vec::new(rt.alloc()));
     let rows = "feature a; feature b { if-feature a; status current; } => -
 feature b { if-feature \"not a\"; if-feature c; description d; } => -
 leaf l { if-feature \"a or b\"; type string; } => -
@@ -91,7 +91,7 @@ leaf l { type string; if-feature a { ¶if-feature a; } } => C1 2
 // What YANG 1 lacks of it (RFC 7950, 1.1; RFC 6020, 7.18.2 and 12).
 #[test]
 fn of_yang_1(rt: HostRuntime) {
-    let language = Language::Rfc(Vec::new(rt.alloc()));
+    let language = Language::rfc_with(Vec::new(rt.alloc()));
     let rows = "feature a; leaf l { if-feature a; type string; } => -
 import n { prefix xml; } => -
 leaf l { type string; ¶if-feature \"a or b\"; } => C3 2
@@ -119,7 +119,7 @@ leaf l { ¶type identityref { base a; base b; } } => C2 2";
 // A `yang-version` that names none, and two of it (RFC 7950, 7.1.2).
 #[test]
 fn versions(rt: HostRuntime) {
-    let language = Language::Rfc(Vec::new(rt.alloc()));
+    let language = Language::rfc_with(Vec::new(rt.alloc()));
     let rows = "¶yang-version 1.2; => C4 2
 ¶yang-version 1.0; => C4 2
 ¶yang-version 1; yang-version 1; => C2 1";
@@ -129,6 +129,54 @@ fn versions(rt: HostRuntime) {
             "{row:?}"
         );
     }
+}
+
+// The wide language, in which some conditions aren't judged.
+fn unjudging(alloc: Global, musts: bool, whens: bool) -> Language {
+    Language::Rfc(Wide {
+        choosings: Vec::new(alloc),
+        unjudged: Unjudged { musts, whens },
+    })
+}
+
+// Where conditions that aren't judged stand, how often, and what stands below them (RFC 7950, 7.5.3 and 7.21.5).
+#[test]
+fn unjudged_conditions(rt: HostRuntime) {
+    let language = unjudging(rt.alloc(), true, true);
+    let rows = "container c { must a; must b; when c; } => -
+leaf l { must a { error-message b; error-app-tag c; description d; reference e; } type string; } => -
+leaf-list l { when a { description b; reference c; } type string; } => -
+choice c { when a; case d { when b; } } => -
+uses g { when a; refine l { must b; must c; } } => -
+augment /m:c { when a; leaf l { type string; } } => -
+¶must a; => C1 2
+¶when a; => C1 2
+choice c { ¶must a; } => C1 2
+uses g { refine l { ¶when a; } } => C1 2
+¶list l { when a; when b; config false; } => C2 2
+leaf l { type string; ¶must; } => C3 2
+leaf l { type string; ¶when; } => C3 2
+leaf l { type string; ¶must a { description b; description c; } } => C2 2
+leaf l { type string; when a { ¶error-message b; } } => C1 2";
+    for row in rows.lines() {
+        for head in ["", "yang-version 1.1;"] {
+            assert!(rt;
+                holds(rt.alloc(), &language, head, row) == Some(true),
+                "{row:?}"
+            );
+        }
+    }
+}
+
+// Each is no keyword where it is to be judged.
+#[test]
+fn either_unjudged(rt: HostRuntime) {
+    let musts = unjudging(rt.alloc(), true, false);
+    let whens = unjudging(rt.alloc(), false, true);
+    let row = "leaf l { must a; type string; ¶when b; } => C1 2";
+    assert!(rt; holds(rt.alloc(), &musts, "yang-version 1.1;", row) == Some(true));
+    let row = "leaf l { when a; type string; ¶must b; } => C1 2";
+    assert!(rt; holds(rt.alloc(), &whens, "yang-version 1.1;", row) == Some(true));
 }
 
 // How many statements of a module are kept.
@@ -145,7 +193,15 @@ fn kept(alloc: Global, language: &Language, body: &str) -> Option<usize> {
 #[test]
 fn kept_statements(rt: HostRuntime) {
     let body = "feature a { if-feature b; } leaf l { if-feature a; type string; }";
-    let language = Language::Rfc(Vec::new(rt.alloc()));
+    let language = Language::rfc_with(Vec::new(rt.alloc()));
     assert!(rt; kept(rt.alloc(), &Language::Core, body) == Some(6));
     assert!(rt; kept(rt.alloc(), &language, body) == Some(9));
+}
+
+// The `when` of the leaf besides, with what stands below it, and no `must`.
+#[test]
+fn kept_conditions(rt: HostRuntime) {
+    let language = unjudging(rt.alloc(), true, true);
+    let body = "leaf l { must a; when b { description c; } type string; }";
+    assert!(rt; kept(rt.alloc(), &language, body) == Some(8));
 }

@@ -157,6 +157,7 @@ fn built_in(alloc: Global, kind: &str, rest: &str) -> Option<Narrowed> {
         "enumeration" => Some(YType::enumeration(alloc, &namings(alloc, rest)?)),
         "bits" => Some(YType::bits(alloc, &namings(alloc, rest)?)),
         "identityref" => identityref(alloc, rest),
+        "binary" => Some(YType::binary(alloc)),
         _ => integer(alloc, kind),
     }
 }
@@ -184,6 +185,8 @@ fn pattern(alloc: Global, rest: &str, inverted: bool) -> Option<Restriction> {
 
 fn restriction(alloc: Global, kind: &str, rest: &str) -> Option<Restriction> {
     match kind {
+        "enums" => Some(Restriction::Enums(namings(alloc, rest)?)),
+        "bits-left" => Some(Restriction::Bits(namings(alloc, rest)?)),
         "pattern" => pattern(alloc, rest, false),
         "unless" => pattern(alloc, rest, true),
         "range" => {
@@ -226,7 +229,7 @@ fn union_of(alloc: Global, types: &mut Vec<YType>) -> Option<Narrowed> {
 fn next(alloc: Global, types: &mut Vec<YType>, step: &str) -> Option<Narrowed> {
     let (kind, rest) = step.split_once(':').unwrap_or((step, ""));
     match kind {
-        "range" | "length" | "pattern" | "unless" | "instance" => {
+        "range" | "length" | "pattern" | "unless" | "enums" | "bits-left" | "instance" => {
             restricted(alloc, types, &restriction(alloc, kind, rest)?)
         }
         "module" => of_module(alloc, types, rest),

@@ -33,6 +33,12 @@ string > unless::a/made
 string > length:0..4 > pattern::a > length:1..4/made
 string > length:0..4 > pattern::a > length:0..5/refused
 uint8 > pattern::1/refused
+binary > length:0..18446744073709551615/made
+binary > length:0..18446744073709551616/refused
+binary > length:1..3 > length:0..3/refused
+binary > range:1..3/refused
+binary > pattern::a/refused
+binary > instance:true/refused
 enumeration:a > pattern::a/refused
 string > leafref > pattern::a/refused
 uint8 > string > union > pattern::a/refused
@@ -51,6 +57,25 @@ enumeration:a,b=0/refused
 enumeration:a,/refused
 enumeration:a,b /refused
 enumeration:a,b c/made
+enumeration:a,b=5,c > enums:a,c/made
+enumeration:a,b=5,c > enums:c,a/made
+enumeration:a,b=5,c > enums:b=5,c=6/made
+enumeration:a,b=5,c > enums:a,d/refused
+enumeration:a,b=5,c > enums:a,b=4/refused
+enumeration:a,b=5,c > enums:a,a/refused
+enumeration:a,b=5,c > enums:a,a=0/refused
+enumeration:a,b=5,c > enums:a,c > enums:c/made
+enumeration:a,b=5,c > enums:a,c > enums:b/refused
+enumeration:a,b=5,c > bits-left:a/refused
+enumeration:a,b=5,c > leafref > enums:a/refused
+enumeration:a > string > union > enums:a/refused
+bits:x=3,y,z=0 > bits-left:y,z=0/made
+bits:x=3,y,z=0 > bits-left:w/refused
+bits:x=3,y,z=0 > bits-left:y=3/refused
+bits:x=3,y,z=0 > bits-left:y,y/refused
+bits:x=3,y,z=0 > enums:y/refused
+string > enums:a/refused
+identityref:a|a:x=3|3 > enums:a:x/refused
 bits:a=4294967295,b=0/made
 bits:a=4294967295,b/refused
 bits:a=4294967296,b/refused

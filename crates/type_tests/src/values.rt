@@ -156,6 +156,79 @@ string > unless:t:[a-z]+/abc/!";
     }
 }
 
+// The vectors of RFC 4648, 10, and texts that are no base64.
+#[test]
+fn octets(rt: HostRuntime) {
+    let rows = "binary/'/
+binary/'Zg==/Zg==
+binary/'Zm8=/Zm8=
+binary/'Zm9v/Zm9v
+binary/'Zm9vYg==/Zm9vYg==
+binary/'Zm9vYmE=/Zm9vYmE=
+binary/'Zm9vYmFy/Zm9vYmFy
+binary/'+az0/+az0
+binary/'-az0/!
+binary/'_az0/!
+binary/'Z/!
+binary/'Zg/!
+binary/'Zg=/!
+binary/'Zm8/!
+binary/'Zm9vYg/!
+binary/'=/!
+binary/'====/!
+binary/'Zg===/!
+binary/'Zm9v====/!
+binary/'Zg==Zg==/!
+binary/'Z=g=/!
+binary/'Zh==/!
+binary/'Zm9=/!
+binary/' Zm9v/!
+binary/'Zm9v /!
+binary/'Zm9\u{E9}/!
+binary/5/!
+binary/null/!
+binary > length:3|5..max:octets/'Zm9v/Zm9v
+binary > length:3|5..max:octets/'Zm8=/!octets
+binary > length:3|5..max:octets/'Zm9vYg==/!octets
+binary > length:3|5..max:octets/'Zm9vYmE=/Zm9vYmE=
+binary > length:3|5..max:octets/'/!octets
+binary > length:3|5..max:octets/'Zm8/!
+binary > length:1..4:outer > length:2..3:inner/'Zg==/!inner
+binary > length:1..4:outer > length:2..3:inner/'Zm9vYmE=/!outer
+binary > leafref/'Zm8=/Zm8=
+binary > leafref/'Zm8/!
+binary > string > union/'Zm8/Zm8
+binary > uint8 > union/'Zm8/!";
+    for row in rows.lines() {
+        for way in [Way::Document, Way::Copy] {
+            assert!(rt; holds(rt.alloc(), way, row) == Some(true), "{row:?}");
+        }
+    }
+    for row in [
+        "binary/'Zm9v\nYmFy/!",
+        "binary/'Zm9v\r\nYmFy/!",
+        "binary/'Zm9vYmFy\n/!",
+    ] {
+        assert!(rt; holds(rt.alloc(), Way::Copy, row) == Some(true), "{row:?}");
+    }
+}
+
+#[test]
+fn defaults_of_octets(rt: HostRuntime) {
+    let rows = "binary//
+binary/Zm9vYg==/Zm9vYg==
+binary/Zm9vYg/!
+binary/Zm9vYh==/!
+binary > length:3/Zm9v/Zm9v
+binary > length:3/Zm8=/!";
+    for row in rows.lines() {
+        assert!(rt;
+            holds(rt.alloc(), Way::Default, row) == Some(true),
+            "{row:?}"
+        );
+    }
+}
+
 #[test]
 fn documents(rt: HostRuntime) {
     let rows = "int8/-128/-128
@@ -265,6 +338,13 @@ enumeration:a,b=5,c,d=2,e/'c/c
 enumeration:a,b=5,c,d=2,e/'d/d
 enumeration:a,b=5,c,d=2,e/'e/e
 enumeration:a,b=5,c,d=2,e/'f/!
+enumeration:a,b=5,c > enums:c,a/'c/c
+enumeration:a,b=5,c > enums:c,a/'a/a
+enumeration:a,b=5,c > enums:c,a/'b/!
+enumeration:a,b,c,d,e,f,g,h,i,j > enums:a,b,c,d,e,f,g,h,i/'i/i
+enumeration:a,b,c,d,e,f,g,h,i,j > enums:a,b,c,d,e,f,g,h,i/'j/!
+bits:x=3,y,z=0 > bits-left:y,z/'y z/z y
+bits:x=3,y,z=0 > bits-left:y,z/'x z/!
 bits:x=3,y,z=0/'y  z/z y
 bits:x=3,y,z=0/' x y z /z x y
 bits:x=3,y,z=0/'/
@@ -412,11 +492,15 @@ fn is_below(alloc: Global, row: &str) -> Option<bool> {
 fn orders(rt: HostRuntime) {
     // A number and its text are two values of a union.
     let rows = "enumeration:a,b=5,c,d=2,e/'a<'d
+enumeration:a,b=5,c,d=2,e > enums:e,d,a/'d<'e
 enumeration:a,b=5,c,d=2,e/'d<'b
 enumeration:a,b=5,c,d=2,e/'b<'c
 enumeration:a,b=5,c,d=2,e/'c<'e
 identityref:a|a:y=3,b:x=7,a:x=9|3,7,9/'y<'b:x
 identityref:a|a:y=3,b:x=7,a:x=9|3,7,9/'b:x<'x
+binary/'<'AA==
+binary/'Zg==<'Zm8=
+binary/'zw==<'0A==
 uint8 > string > union/5<'5
 boolean > uint8 > string > union > union/5<'5
 string > length:1..1 > string > length:2..2 > union > string > length:3..3 > string > union > union/'c<'bb
@@ -429,12 +513,13 @@ string > length:1..1 > string > length:2..2 > union > string > length:3..3 > str
 
 // A leafref whose target has members of several kinds.
 const OF_ALL_KINDS: &str = "uint8 > range:1..10:t1 > range:2..5:t2 > decimal64:1 > union > \
-    bits:x=3,y,z=0 > enumeration:a,b=5,c,d=2,e > union > string > length:3..4 > union > union > leafref";
+    bits:x=3,y,z=0 > enumeration:a,b=5,c,d=2,e > union > binary > length:5 > union > string > length:3..4 > union > union > leafref";
 
 // What it is given, and the outcome.
 const OF_MEMBERS: &str = "'y z/z y
 'e/e
 '+01.5/1.5
+'Zm9vYmE=/Zm9vYmE=
 'wxyz/wxyz";
 
 #[test]

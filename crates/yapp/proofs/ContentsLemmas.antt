@@ -9,18 +9,19 @@ use Rattle.yspec.specs.text.Statement.{Statement, Slip}
 use Rattle.yspec.specs.text.Text.{Text}
 use Rattle.yspec_wide.specs.Language.{Language}
 use Rattle.yspec_wide.specs.Texts.{module_in}
-use Rattle.yspec_run.specs.Output.{Outcome, Request, files_of, found_of, performed, with_files, with_module, with_modules}
+use Rattle.yspec_run.specs.Output.{Outcome, Request, files_of, with_files, with_module, with_modules}
+use Rattle.yspec_run.specs.Unjudged.{said, said_of}
 use Rattle.yspec.proofs.ForestLemmas.{join_end, join_assoc}
 use Rattle.ytext.specs.View.{view, modules_view}
 use Rattle.ytext.specs.declared.statement.Module.{Module}
-use Rattle.yapp_report.specs.Failing.{FailsWith, FromFile, LeadsTo, outcome_of, reported}
-use Rattle.yapp.specs.Files.{Answered, Contents, FileAnswers, IsFound, ReadsAll, Store, WasCut, WereRead, came_to, unread_in}
+use Rattle.yapp_report.specs.Failing.{FailsWith, FromFile, LeadsTo, outcome_of}
+use Rattle.yapp.specs.Files.{Answered, Contents, FileAnswers, IsFound, ReadsAll, Store, WasCut, WereRead, came_to, found_as, unread_in}
 use Rattle.yapp_report.specs.Unread.{IsTold, failed_reads}
 use Rattle.yapp_report.specs.declared.failure.Failure.{Failure}
 use Rattle.yapp_report.specs.declared.failure.Failure.TheVariants as failures
 use Rattle.yapp_report.specs.declared.files.FileFault.{FileFault}
 use Rattle.yapp_report.specs.declared.files.FileFault.TheVariants as faults
-use Rattle.yapp_report.specs.declared.report.Report.{Report}
+use Rattle.yapp.specs.declared.unjudged.Found.{Found}
 
 -- the names and the texts that the code holds
 abbrev pub names_in : List (Bor Text) → List Text
@@ -205,10 +206,10 @@ memory_reads see before after names (Ok x) e cut = absurd e
 memory_reads see before after names (Err f) e cut = inr (cut, e)
 
 -- what is returned is what is found, or there was no memory
-came_of_answer : (before after : Store) (request : Request) (answers : FileAnswers) (r : Result Report Failure)
-    → WereRead before after (files_of request) answers → after.failures ≡ before.failures → LeadsTo (found_of request answers) reported r
+came_of_answer : (before after : Store) (request : Request) (answers : FileAnswers) (r : Result Found Failure)
+    → WereRead before after (files_of request) answers → after.failures ≡ before.failures → LeadsTo (said_of request answers) found_as r
     → IsFound before after request (came_to r)
-came_of_answer before after request answers (Ok report) read same is = inl (answers, read, sym is)
+came_of_answer before after request answers (Ok found) read same is = inl (answers, read, sym is)
 came_of_answer before after request answers (Err (failures.Unread name cause)) read same is = inl (answers, read, sym is)
 came_of_answer before after request answers (Err (failures.Text name code line hint)) read same is = inl (answers, read, sym is)
 came_of_answer before after request answers (Err (failures.Compile name code line hint)) read same is = inl (answers, read, sym is)
@@ -221,14 +222,14 @@ came_of_answer before after request answers (Err failures.Memory) read same is =
     inr (record { failures = same; reads = omega (arith, read.reads, few) }, refl)
 
 -- a request after its files were read
-pub came_of_texts : (before after : Store) (request : Request) (files : List Text) (texts : List (List ℕ)) (r : Result Report Failure)
-    → files ≡ files_of request → WereRead before after files (map Some texts) → LeadsTo (performed request texts) reported r
+pub came_of_texts : (before after : Store) (request : Request) (files : List Text) (texts : List (List ℕ)) (r : Result Found Failure)
+    → files ≡ files_of request → WereRead before after files (map Some texts) → LeadsTo (said request texts) found_as r
     → IsFound before after request (came_to r)
 came_of_texts before after request files texts r e read is =
     let told : WereRead before after (files_of request) (map Some texts) = subst (λ ns. WereRead before after ns (map Some texts)) e read in
     let none : after.failures ≡ before.failures = omega (arith, read.failures, none_unread texts) in
-    let goes_on = with_all_read before.contents (files_of request) texts (performed request) told.answered in
-    came_of_answer before after request (map Some texts) r told none (subst (λ o. LeadsTo o reported r) (sym goes_on) is)
+    let goes_on = with_all_read before.contents (files_of request) texts (said request) told.answered in
+    came_of_answer before after request (map Some texts) r told none (subst (λ o. LeadsTo o found_as r) (sym goes_on) is)
 
 -- a request whose files couldn't all be read
 pub came_of_reading : (before after : Store) (request : Request) (files : List Text) (f : Failure) → files ≡ files_of request
@@ -236,6 +237,6 @@ pub came_of_reading : (before after : Store) (request : Request) (files : List T
 came_of_reading before after request files f e (inl read) = inl (
   read.0,
   subst (λ ns. WereRead before after ns read.0) e read.1,
-  sym (subst (λ ns. with_files ns read.0 (performed request) ≡ outcome_of f) e (read.2 (performed request))),
+  sym (subst (λ ns. with_files ns read.0 (said request) ≡ outcome_of f) e (read.2 (said request))),
 )
 came_of_reading before after request files f e (inr none) = inr (subst (WasCut before after) e none.0, ap outcome_of none.1)

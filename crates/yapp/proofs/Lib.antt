@@ -1,3 +1,4 @@
 pub mod RunningLemmas
 pub mod ContentsLemmas
 pub mod DocumentLemmas
+pub mod NotedLemmas

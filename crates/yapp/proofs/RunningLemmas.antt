@@ -1,8 +1,9 @@
 -- A run that writes to one side alone.
-use Rattle.std.proofs.Common.{◌≡◌, inl, inr, codes, ℕ, Bool, true, false, List, [], ◌++◌, ap, ap₂, sym, ◌∙◌, refl, subst, length, take}
-use Rattle.yspec_run.specs.Output.{Besides, Outcome, Printed, Request, SavedFile, as_json_of, aside_where, found_of, nothing, object_parts, outcome, printed, printed_with, told_too}
+use Rattle.std.proofs.Common.{◌≡◌, inl, inr, codes, ℕ, Bool, true, false, List, [], ◌∷◌, ◌++◌, ap, ap₂, sym, ◌∙◌, refl, string_bytes, subst, length, take}
+use Rattle.yspec_run.specs.Output.{Besides, Outcome, Printed, Request, SavedFile, as_json_of, aside_where, nothing, object_parts, printed, printed_with, told_too}
+use Rattle.yspec_run.specs.Unjudged.{note_parts, outcome_said, said_of, with_note}
 use Rattle.std.proofs.lemmas.List.{append-nil}
-use Rattle.yspec_run.specs.Part.{Part, spelled}
+use Rattle.yspec_run.specs.Part.{Part, plain, spelled, spelled_part}
 use Rattle.std.specs.Prelude.{Result, Ok, Err, IsErr, is_ok, if◌then◌else◌}
 use Rattle.ybase_output.specs.Writing.{Broke, Side, Writes, Wrote}
 use Rattle.yapp_words.specs.Running.{Brings, End, Ends, WritesBoth, broken, ended, memory_told, well, with_status, without_memory}
@@ -11,15 +12,16 @@ use Rattle.yspec_run.specs.RefusalData.{object_line}
 use Rattle.ysay_json.specs.RefusalData.{Refused, refused_text}
 use Rattle.yspec.specs.text.Text.{Text}
 use Rattle.yapp_report.specs.Failing.{besides_in, outcome_of, reported, unsaid}
-use Rattle.yapp.specs.Files.{IsFound, IsOutcome, Store, came_to, said_besides}
+use Rattle.yapp.specs.Files.{IsFound, IsOutcome, Store, came_to, found_as, said_besides}
 use Rattle.yapp.specs.Telling.{Tells, object_bytes, printed_so}
+use Rattle.yapp.specs.declared.unjudged.Found.{Found}
 use Rattle.yapp_report.specs.declared.failure.Failure.{Failure}
 use Rattle.yapp_report.specs.declared.report.Report.{Report}
 use Rattle.yapp_report.specs.declared.report.Report.TheVariants as reports
 use Rattle.yapp_report.specs.declared.failure.Failure.TheVariants as failures
 use Rattle.std.proofs.Math.Seq.{take-length}
 use Rattle.yapp_report.proofs.PartLemmas.{one_plain}
-use Rattle.ybase_output.proofs.WritingLemmas.{wrote_none, wrote_same}
+use Rattle.ybase_output.proofs.WritingLemmas.{broke_first, broke_same, broke_second, wrote_both, wrote_none, wrote_same}
 
 -- a status alone ends a run well that writes no file
 well_by : (o : Printed) (result : ℕ) → o.saved ≡ None → result ≡ o.status → with_status result ≡ well o
@@ -68,12 +70,12 @@ report_aside (reports.Diagrams schema) = refl
 report_aside (reports.Document r) = refl
 report_aside (reports.Edited e) = refl
 
--- so of reports
-pub reported_alike : (besides : Besides) (with_reasons : Bool) (output output_after errors errors_after : Side) (r : Report) (end : End)
-    → Brings output output_after errors errors_after (printed with_reasons (reported r)) end
-    → Brings output output_after errors errors_after (printed_with besides with_reasons (reported r)) end
-reported_alike besides with_reasons output output_after errors errors_after r end brings =
-    subst (λ (p : Printed). Brings output output_after errors errors_after p end) (sym (nothing_besides besides with_reasons (reported r) (report_aside r))) brings
+-- so of reports, with what is said of conditions
+pub found_alike : (besides : Besides) (with_reasons : Bool) (output output_after errors errors_after : Side) (f : Found) (end : End)
+    → Brings output output_after errors errors_after (printed with_reasons (found_as f)) end
+    → Brings output output_after errors errors_after (printed_with besides with_reasons (found_as f)) end
+found_alike besides with_reasons output output_after errors errors_after f end brings =
+    subst (λ (p : Printed). Brings output output_after errors errors_after p end) (sym (nothing_besides besides with_reasons (found_as f) (report_aside f.report))) brings
 
 -- ---- what is told
 
@@ -120,6 +122,34 @@ pub both_broken : {X E : Type 0} → (output errors errors_after : Side) (o : Pr
     → WritesBoth output output errors errors_after o r
 both_broken output errors errors_after o (Ok x) failed broken = cc
 both_broken output errors errors_after o (Err x) failed broken = inr (refl, broken)
+
+-- ---- what is said of conditions, ahead of all else
+
+plain_is : (with_reasons : Bool) (t : Text) → t ≡ spelled_part with_reasons (plain t)
+plain_is true t = sym (append-nil t)
+plain_is false t = sym (append-nil t)
+
+note_spelled : (with_reasons : Bool) (note : Text) (parts : List Part) → note ++ spelled with_reasons parts ≡ spelled with_reasons (note_parts note ++ parts)
+note_spelled with_reasons [] parts = refl
+note_spelled with_reasons (c ∷ cs) parts = ap (λ (t : Text). t ++ spelled with_reasons parts) (plain_is with_reasons (c ∷ cs))
+
+module _ (errors errors_after : Side) (with_reasons : Bool) (note : Text) (o : Outcome) where
+  -- it was written, and then what was found
+  pub noted : {X E : Type 0} → (now output output_after : Side) (r : Result X E) → Wrote errors now note
+      → WritesBoth output output_after now errors_after (printed with_reasons o) r
+      → WritesBoth output output_after errors errors_after (printed with_reasons (with_note note o)) r
+  noted now output output_after (Ok x) first w =
+      (w.0, wrote_same errors errors_after _ _ (note_spelled with_reasons note o.errors) (wrote_both errors now errors_after note (spelled with_reasons o.errors) first w.1))
+  noted now output output_after (Err e) first (inl w) =
+      inl (w.0, wrote_same errors errors_after _ _ (note_spelled with_reasons note o.errors) (wrote_both errors now errors_after note (spelled with_reasons o.errors) first w.1))
+  noted now output output_after (Err e) first (inr w) =
+      inr (w.0, broke_same errors errors_after _ _ (note_spelled with_reasons note o.errors) (broke_second errors now errors_after note (spelled with_reasons o.errors) first w.1))
+
+  -- it wasn't
+  pub not_noted : {X E : Type 0} → (output : Side) (r : Result X E) → IsErr r → Broke errors errors_after note
+      → WritesBoth output output errors errors_after (printed with_reasons (with_note note o)) r
+  not_noted output r failed broken = both_broken output errors errors_after (printed with_reasons (with_note note o)) r failed
+      (broke_same errors errors_after _ _ (note_spelled with_reasons note o.errors) (broke_first errors errors_after note (spelled with_reasons o.errors) broken))
 
 -- ---- parts
 
@@ -170,28 +200,28 @@ failure_tells with_reasons as_json output output_after errors errors_after failu
     (ap (printed_so with_reasons failure) made ∙ failure_printed with_reasons as_json failure)
     (both_end output output_after errors errors_after o end r writes (end_is o end status None r is status_is (sym (no_file failure)))))
 
--- a report has no object
-report_told : (as_json : Bool) (r : Report) → told_too as_json (reported r) ≡ reported r
-report_told false r = refl
-report_told true (reports.Explanations explanations) = refl
-report_told true (reports.Nodes count) = refl
-report_told true (reports.Diagram schema shown) = refl
-report_told true (reports.Diagrams schema) = refl
-report_told true (reports.Document r) = refl
-report_told true (reports.Edited e) = refl
+-- a report has no object, whatever is said of conditions
+report_told : (as_json : Bool) (note : Text) (r : Report) → told_too as_json (with_note note (reported r)) ≡ with_note note (reported r)
+report_told false note r = refl
+report_told true note (reports.Explanations explanations) = refl
+report_told true note (reports.Nodes count) = refl
+report_told true note (reports.Diagram schema shown) = refl
+report_told true note (reports.Diagrams schema) = refl
+report_told true note (reports.Document r) = refl
+report_told true note (reports.Edited e) = refl
 
-pub report_tells : (with_reasons as_json : Bool) (output output_after errors errors_after : Side) (besides : Besides) (r : Report) (end : End)
-    → Brings output output_after errors errors_after (printed with_reasons (reported r)) end
-    → Tells output output_after errors errors_after with_reasons as_json besides (reported r) end
-report_tells with_reasons as_json output output_after errors errors_after besides r end brings =
-    inl (subst (λ (o : Outcome). Brings output output_after errors errors_after (printed_with besides with_reasons o) end) (sym (report_told as_json r))
-    (reported_alike besides with_reasons output output_after errors errors_after r end brings))
+pub found_tells : (with_reasons as_json : Bool) (output output_after errors errors_after : Side) (besides : Besides) (f : Found) (end : End)
+    → Brings output output_after errors errors_after (printed with_reasons (found_as f)) end
+    → Tells output output_after errors errors_after with_reasons as_json besides (found_as f) end
+found_tells with_reasons as_json output output_after errors errors_after besides f end brings =
+    inl (subst (λ (o : Outcome). Brings output output_after errors errors_after (printed_with besides with_reasons o) end) (sym (report_told as_json (string_bytes f.note) f.report))
+    (found_alike besides with_reasons output output_after errors errors_after f end brings))
 
-pub told_of : (with_reasons as_json : Bool) (output output_after errors errors_after : Side) (found given : Result Report Failure) (end : End) → found ≡ given
+pub told_of : (with_reasons as_json : Bool) (output output_after errors errors_after : Side) (found given : Result Found Failure) (end : End) → found ≡ given
     → Tells output output_after errors errors_after with_reasons as_json (said_besides given) (came_to given) end
     → Tells output output_after errors errors_after with_reasons as_json (said_besides found) (came_to found) end
 told_of with_reasons as_json output output_after errors errors_after found given end is tells =
-    subst (λ (r : Result Report Failure). Tells output output_after errors errors_after with_reasons as_json (said_besides r) (came_to r) end) (sym is) tells
+    subst (λ (r : Result Found Failure). Tells output output_after errors errors_after with_reasons as_json (said_besides r) (came_to r) end) (sym is) tells
 
 -- ---- what a run comes to
 
@@ -207,11 +237,11 @@ Comes before after request output output_after errors errors_after with_reasons 
 comes_so : (before after : Store) (request : Request) (output output_after errors errors_after : Side) (with_reasons as_json : Bool) (besides : Besides) (o : Outcome) (end : End)
     → as_json ≡ as_json_of request → IsFound before after request o → Tells output output_after errors errors_after with_reasons as_json besides o end
     → Comes before after request output output_after errors errors_after with_reasons end
-unfolding outcome
+unfolding outcome_said
 comes_so before after request output output_after errors errors_after with_reasons as_json besides o end same (inl found) (inl brings) = (
   told_too as_json o,
   besides,
-  inl (found.0, found.1, ap (told_too as_json) found.2 ∙ ap (λ (b : Bool). told_too b (found_of request found.0)) same),
+  inl (found.0, found.1, ap (told_too as_json) found.2 ∙ ap (λ (b : Bool). told_too b (said_of request found.0)) same),
   brings,
 )
 comes_so before after request output output_after errors errors_after with_reasons as_json besides o end same (inr none) (inl brings) =

@@ -8,11 +8,13 @@ ghost use Rattle.ylink_grammar.specs.LanguageView.{language_view};
 ghost use Rattle.yapp_words.specs.Command.{options_view, view};
 ghost use Rattle.yapp_report.specs.Explained.{HasNoDocument, IsExplained};
 ghost use Rattle.yapp_report.specs.Failing.{LeadsTo, reported};
-ghost use Rattle.yapp.specs.Files.{IsFound, came_to, store};
+ghost use Rattle.yapp.specs.Files.{IsFound, came_to, found_as, store};
+ghost use Rattle.yspec_run.specs.Unjudged.{noted_for, said};
 
 use crate::contents::{names_of, read_files};
 use crate::document::{edit_document, read_document, report_on, report_on_edited};
 use crate::modules::compile_contents;
+use crate::unjudged::{Found, noted_in, unnoted};
 use std::alloc::Global;
 use yapp_report::{Failure, Files, Report};
 use yapp_words::{Options, Request};
@@ -207,6 +209,58 @@ fn perform<'a>(
     }
 }
 
+/// What is found of a request, with what is said of conditions that aren't judged.
+fn noted_by<'a>(
+    alloc: Global,
+    request: &Request<'a>,
+    contents: &[Vec<u8>],
+    report: Report,
+) -> Result<Found, Failure<'a>>
+    ensures leads { LeadsTo (noted_for (view request.now) (map (λ c. c.items) contents.now) (reported report)) found_as result }
+    ensures keeps { IfOk result (λ found. found.report ≡ report) }
+{
+    match request {
+        Request::Explain { .. } => Ok(unnoted(alloc, report)),
+        Request::Compile { language, modules } => {
+            noted_in(alloc, language, modules, contents, report)
+        }
+        Request::Tree {
+            language,
+            modules,
+            ..
+        } => noted_in(alloc, language, modules, contents, report),
+        Request::Trees { language, modules } => {
+            noted_in(alloc, language, modules, contents, report)
+        }
+        Request::Validate {
+            language,
+            modules,
+            ..
+        } => noted_in(alloc, language, modules, contents, report),
+        Request::Edit {
+            language,
+            modules,
+            ..
+        } => noted_in(alloc, language, modules, contents, report),
+    }
+}
+
+/// The same of what a request comes to by the contents of its files.
+fn find<'a>(
+    alloc: Global,
+    request: &Request<'a>,
+    contents: &[Vec<u8>],
+    with_reasons: bool,
+) -> Result<Found, Failure<'a>>
+    ensures leads { LeadsTo (said (view request.now) (map (λ c. c.items) contents.now)) found_as result }
+    ensures explained { IfOk result (λ found. IsExplained with_reasons found.report) }
+{
+    match perform(alloc, request, contents, with_reasons) {
+        Ok(report) => noted_by(alloc, request, contents, report),
+        Err(failure) => Err(failure),
+    }
+}
+
 /// What a request comes to. All files are read first: the modules in order, then the document, then the script. The first
 /// file that can't be read, and then the first text, module or document that is refused, ends it. Where that is wanted, the
 /// report has what is said of its faults.
@@ -215,15 +269,15 @@ pub fn answer<'a, F: Files>(
     request: &Request<'a>,
     with_reasons: bool,
     files: &mut F,
-) -> Result<Report, Failure<'a>>
+) -> Result<Found, Failure<'a>>
     ensures found { IsFound (store F.contents F.reads F.failures files.old)
         (store F.contents F.reads F.failures files.new)
         (view request.now) (came_to result) }
-    ensures explained { IfOk result (IsExplained with_reasons) }
+    ensures explained { IfOk result (λ found. IsExplained with_reasons found.report) }
 {
     match names_of(alloc, request) {
         Ok(names) => match read_files(alloc, &names, files) {
-            Ok(contents) => perform(alloc, request, &contents, with_reasons),
+            Ok(contents) => find(alloc, request, &contents, with_reasons),
             Err(failure) => Err(failure),
         },
         Err(_) => Err(Failure::Memory),

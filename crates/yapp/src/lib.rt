@@ -6,10 +6,12 @@ mod contents;
 mod document;
 mod modules;
 mod program;
+mod unjudged;
 
 pub use answering::answer;
 pub use document::{Document, edit_document};
 pub use program::{refuse, run, tell_memory};
+pub use unjudged::Found;
 pub use yapp_report::{
     DocumentReport, EditedDocument, Ended, FAILED, FAULTY, Failure, FileFault, Files, GOOD,
     MISUSED, REFUSED, Report, SavedFile, Shelf, Stop, Unreadable, Unsaved, save, tell_unwritten,

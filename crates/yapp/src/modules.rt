@@ -28,7 +28,7 @@ use yschema_model::Schema;
 use ytext::{Module, TextCode, TextFault, parse_in};
 
 /// The statements of the modules of some names, in order, up to the first whose text is refused.
-fn parse_modules<'a, 'b>(
+pub(crate) fn parse_modules<'a, 'b>(
     alloc: Global,
     language: &Language,
     names: &[&'a str],
@@ -225,7 +225,7 @@ fn is_read_in_rfc(
     if !matches!(language, Language::Core) || !is_of_language(rule.code) {
         return Ok(false);
     }
-    let wide = Language::Rfc(Vec::new(alloc));
+    let wide = Language::rfc_with(Vec::new(alloc));
     Ok(!is_told_in(alloc, &wide, modules, rule)?)
 }
 

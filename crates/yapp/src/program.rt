@@ -5,18 +5,17 @@ ghost use Rattle.yapp_report.specs.Failing.{besides_in, outcome_of};
 ghost use Rattle.yapp_report.specs.Saving.{end_of};
 ghost use Rattle.yapp.specs.Telling.{Tells, object_bytes, printed_so};
 ghost use Rattle.ysay_json.specs.RefusalData.{refused_text};
-ghost use Rattle.yspec_run.specs.Output.{Besides, Outcome, Printed, as_json_of, printed_with};
+ghost use Rattle.yspec_run.specs.Output.{Besides, Outcome, Printed, as_json_of, printed, printed_with};
 ghost use Rattle.yapp_words.specs.Command.{asks_reasons, refusals, request_of, view};
 ghost use Rattle.yapp_report.specs.Explained.{IsExplained};
-ghost use Rattle.yapp.specs.Files.{IsOutcome, came_to, said_besides, store};
+ghost use Rattle.yapp.specs.Files.{IsOutcome, came_to, found_as, said_besides, store};
 ghost use Rattle.yapp_words.specs.Running.{AnswersWords, Brings, Ends, WritesBoth, memory_told, refused};
 ghost use Rattle.ybase_output.specs.Writing.{Writes, side};
 
 use crate::answering::answer;
+use crate::unjudged::Found;
 use std::alloc::{AllocError, Global};
-use yapp_report::{
-    Ended, FAILED, Failure, Files, GOOD, MISUSED, Report, ended_after, failure_object,
-};
+use yapp_report::{Ended, FAILED, Failure, Files, GOOD, MISUSED, ended_after, failure_object};
 use yapp_words::{NoRequest, Request, read_words};
 use ybase_output::{Sink, SinkFault, write_texts};
 
@@ -139,27 +138,43 @@ fn tell_failure<O: Sink, E: Sink>(
     }
 }
 
+/// Writes what is said of conditions that weren't judged, and then what was found.
+fn write_found<O: Sink, E: Sink>(
+    found: &Found,
+    with_reasons: bool,
+    output: &mut O,
+    errors: &mut E,
+) -> Result<(), SinkFault>
+    requires { IsExplained with_reasons found.now.report }
+    ensures { WritesBoth (side O.taken O.failures output.old) (side O.taken O.failures output.new)
+        (side E.taken E.failures errors.old) (side E.taken E.failures errors.new)
+        (printed with_reasons (found_as found.now)) result }
+{
+    write_texts(errors, &[found.note.as_str()])?;
+    found.report.write(with_reasons, output, errors)
+}
+
 /// Tells what was found, or why nothing was; where that is wanted, with the reasons, and by an object too. Answers how the run
 /// ends.
 fn tell<O: Sink, E: Sink>(
     alloc: Global,
-    found: Result<Report, Failure<'_>>,
+    found: Result<Found, Failure<'_>>,
     with_reasons: bool,
     as_json: bool,
     output: &mut O,
     errors: &mut E,
 ) -> Ended
-    requires { IfOk found (IsExplained with_reasons) }
+    requires { IfOk found (λ f. IsExplained with_reasons f.report) }
     ensures reasons { result.with_reasons ≡ with_reasons }
     ensures tells { Tells (side O.taken O.failures output.old) (side O.taken O.failures output.new)
         (side E.taken E.failures errors.old) (side E.taken E.failures errors.new)
         with_reasons as_json (said_besides found.entry) (came_to found.entry) (end_of result) }
 {
     match found {
-        Ok(report) => {
-            let written = report.write(with_reasons, output, errors);
-            let status = report.status();
-            ended_after(written, status, report.into_saved(), with_reasons)
+        Ok(found) => {
+            let written = write_found(&found, with_reasons, output, errors);
+            let status = found.report.status();
+            ended_after(written, status, found.report.into_saved(), with_reasons)
         }
         Err(failure) => tell_failure(alloc, &failure, with_reasons, as_json, output, errors),
     }

@@ -17,7 +17,7 @@ use Rattle.clap.specs.declared.parser.matches.Found.{Found}
 use Rattle.clap.proofs.WalkLemmas.{first_value-rows, raw_values-rows}
 use Rattle.clap.proofs.OnLiterals.{clap_on_literals}
 use Rattle.yapp_words.specs.Application.{IsArgument, IsCommand, yanglive}
-use Rattle.yapp_words.specs.Command.{Declines, Explains, Takes, TakesFit, asked_by, asked_of, asks_help, drawing_by, explained_by, faults_of, features_in_core, is_help, misuse_fault, named_stream, reads_input_twice, refused_pair, refused_value, unfit_features, unknown_format, unknown_profile, value_of, view}
+use Rattle.yapp_words.specs.Command.{Declines, Explains, Refuses, Takes, TakesFit, asked_by, asked_of, asks_help, conditions_in_core, drawing_by, explained_by, faults_of, features_in_core, is_help, misuse_fault, named_stream, reads_input_twice, refused_pair, refused_value, unfit_conditions, unfit_features, unknown_format, unknown_profile, value_of, view}
 use Rattle.yapp_words.specs.Running.{refused, shown, with_text}
 use Rattle.yapp_words.specs.declared.command.CommandLine.{CommandLine}
 use Rattle.yapp_words.specs.declared.command.NoRequest.{NoRequest}
@@ -153,8 +153,21 @@ misused : (command : Option (Text × List Row)) → IsRefused (misuse_fault comm
 misused command =
     refused_first _ _ (value_refused (unknown_format command))
     (refused_first _ _
+    (refused_first _ _
     (refused_first _ _ (value_refused (unknown_profile command)) (refused_first _ _ (value_refused (unfit_features command)) (pair_refused (features_in_core command))))
+    (refused_first _ _ (value_refused (unfit_conditions command)) (pair_refused (conditions_in_core command))))
     (refused_first _ _ (value_refused (named_stream command)) (pair_refused (reads_input_twice command))))
+
+-- a refusal of the first of two causes is one of both
+pub refuses_first : (kinds others : Kinds) (a : NoRequest) → Refuses kinds (Some a) → Refuses (or_else kinds others) (Some a)
+refuses_first [] others (none.Help text) is = absurd is
+refuses_first [] others (none.Refused text) is = absurd (is refl)
+refuses_first [] others none.Memory is = tt
+refuses_first (kind ∷ kinds) others a is = is
+
+-- where there is no first cause, one of the second is one of both
+pub refuses_then : (kinds others : Kinds) (r : Option NoRequest) → kinds ≡ [] → Refuses others r → Refuses (or_else kinds others) r
+refuses_then kinds others r without is = subst (λ (ks : Kinds). Refuses (or_else ks others) r) (sym without) is
 
 -- what clap takes is taken, but for what is misused
 pub taken_fit : (words : List Text) (command : Option (Text × List Row)) (r : Result CommandLine NoRequest)

@@ -32,11 +32,12 @@ option name = record (new_rule name) { long = Some name; action = Some Set; valu
 abbrev pub repeated : Text → Rule
 repeated name = record (option name) { action = Some Append }
 
--- a command over files, of which each takes `--explain`, `--profile` and `--features`
+-- a command over files, of which each takes `--explain`, `--profile`, `--features` and `--unjudged`
 abbrev pub over_files : Text → App
-over_files name = with_rule (with_rule (with_rule (new_app name) (flag (codes "explain"))) (option (codes "profile"))) (repeated (codes "features"))
+over_files name = with_rule (with_rule (with_rule (with_rule (new_app name) (flag (codes "explain"))) (option (codes "profile")))
+    (repeated (codes "features"))) (option (codes "unjudged"))
 
--- `compile [--explain] [--profile PROFILE] [--features MODULE:FEATURES].. MODULE..`
+-- `compile [--explain] [--profile PROFILE] [--features MODULE:FEATURES].. [--unjudged CONDITIONS] MODULE..`
 abbrev pub compile_app : App
 compile_app = with_rule (over_files (codes "compile")) (wanted_all (codes "MODULE"))
 

@@ -11,7 +11,7 @@ use Rattle.clap.specs.declared.error.kind.ErrorKind.{ErrorKind}
 use Rattle.clap.specs.declared.error.kind.ErrorKind.TheVariants.{ArgumentConflict, DisplayHelp, DisplayVersion, InvalidSubcommand, InvalidValue, OutOfMemory}
 use Rattle.ylink_grammar.specs.LanguageView.{language_view}
 use Rattle.yapp_words.specs.Application.{yanglive}
-use Rattle.yapp_words.specs.Languages.{chooses_in_core, choosings_of, is_profile, language_of, profile_of, unfit_choosing}
+use Rattle.yapp_words.specs.Languages.{chooses_in_core, choosings_of, is_profile, language_of, passes_in_core, profile_of, unfit_choosing, unfit_unjudged, unjudged_word}
 use Rattle.yapp_words.specs.declared.command.Options.{Options}
 use Rattle.yapp_words.specs.declared.command.Request.{Request}
 use Rattle.yapp_words.specs.declared.command.Request.TheVariants as requests
@@ -78,6 +78,16 @@ abbrev pub features_in_core : Option (Text × List Row) → Bool
 features_in_core None = false
 features_in_core (Some command) = chooses_in_core command.1
 
+-- a word that names other conditions than there are, where they have one
+abbrev pub unfit_conditions : Option (Text × List Row) → Option Text
+unfit_conditions None = None
+unfit_conditions (Some command) = unfit_unjudged (unjudged_word command.1)
+
+-- whether they name some under a profile without any
+abbrev pub conditions_in_core : Option (Text × List Row) → Bool
+conditions_in_core None = false
+conditions_in_core (Some command) = passes_in_core command.1
+
 -- what is no file, so no document can be put in its place
 abbrev pub streams : List Text
 streams = codes "-" ∷ codes "/dev/stdout" ∷ codes "/dev/stderr" ∷ []
@@ -108,10 +118,18 @@ refused_value (Some name) = InvalidValue ∷ []
 abbrev pub refused_pair : Bool → Kinds
 refused_pair is_pair = if is_pair then ArgumentConflict ∷ [] else []
 
--- of the language that is named
-abbrev pub language_fault : Option (Text × List Row) → Kinds
-language_fault command = or_else (refused_value (unknown_profile command))
+-- of the profile and the features that are named
+abbrev pub feature_fault : Option (Text × List Row) → Kinds
+feature_fault command = or_else (refused_value (unknown_profile command))
     (or_else (refused_value (unfit_features command)) (refused_pair (features_in_core command)))
+
+-- of the conditions that are named
+abbrev pub condition_fault : Option (Text × List Row) → Kinds
+condition_fault command = or_else (refused_value (unfit_conditions command)) (refused_pair (conditions_in_core command))
+
+-- of the language that is named by these
+abbrev pub language_fault : Option (Text × List Row) → Kinds
+language_fault command = or_else (feature_fault command) (condition_fault command)
 
 -- of the files
 abbrev pub file_fault : Option (Text × List Row) → Kinds

@@ -6,10 +6,13 @@ ghost use Rattle.clap.specs.Words.{app_of, fault_of, first_of, found_of, kind_of
 ghost use Rattle.yapp_words.specs.Application.{IsArgument, IsCommand, any_number, compile_app, edit_app, explain_app, flag, option, over_document, over_files, repeated, tree_app, validate_app, wanted, wanted_all, yanglive};
 ghost use Rattle.yapp_words.specs.Command as spec;
 ghost use Rattle.ylink_grammar.specs.LanguageView.{language_view};
-ghost use Rattle.yapp_words.specs.Command.{Declines, Explains, IsRefusal, Refuses, Takes, TakesFit, Understands, asks_help, asked_by, asked_of, compilation_of, drawing_of, edition_of, explained_by, explanation_of, file_fault, format_of, language_fault, is_given, modules_of, options_of, options_view, validation_of, value_of, view};
+ghost use Rattle.yapp_words.specs.Command.{Declines, Explains, IsRefusal, Refuses, Takes, TakesFit, Understands, asks_help, asked_by, asked_of, compilation_of, condition_fault, drawing_of, edition_of, explained_by, explanation_of, feature_fault, file_fault, format_of, language_fault, is_given, modules_of, options_of, options_view, validation_of, value_of, view};
 ghost use Rattle.yapp_words.specs.declared.command.NoRequest.TheVariants.{Memory};
 
-use crate::language::{chooses_in_core, is_profile, language_in, profile_in, unfit_choosing_in};
+use crate::language::{
+    chooses_in_core, is_profile, language_in, passes_in_core, profile_in, unfit_choosing_in,
+    unfit_unjudged_in,
+};
 use clap::error::ErrorKind;
 use clap::{Arg, ArgAction, ArgMatches, Command};
 use std::alloc::{AllocError, Global};
@@ -105,7 +108,7 @@ const VERSION: &str = "0.1.0";
 /// What `compile` says at the end of its help.
 const COMPILE_HELP: &str = "Prints how many schema nodes the modules define, as `3 nodes`.
 A refused module is told as FILE:LINE: CODE, L1 to L8 of its text, C1 to C18, C20 and C22 of its statements; `yanglive explain CODE` says what it means.
-With --profile rfc modules of YANG 1 are taken too, and what rests on a feature that is off isn't there. --features net:ssh,ntp has these two of module net on, --features net: none; of a module that is named twice the first counts.
+With --profile rfc modules of YANG 1 are taken too, and what rests on a feature that is off isn't there. --features net:ssh,ntp has these two of module net on, --features net: none; of a module that is named twice the first counts. --unjudged must,when reads these conditions and judges none: what hangs on a `when` may be there, and needn't.
 
 Exit status:
   0  The modules compile
@@ -210,6 +213,19 @@ fn features_argument<'a>(alloc: Global) -> Arg<'a>
         )
 }
 
+/// `--unjudged CONDITIONS`
+fn unjudged_argument<'a>(alloc: Global) -> Arg<'a>
+    ensures { IsArgument (option (codes "unjudged")) result }
+{
+    Arg::new(alloc, "unjudged")
+        .long("unjudged")
+        .action(ArgAction::Set)
+        .value_name("CONDITIONS")
+        .help(
+            "Under --profile rfc the conditions that are read and not judged, must, when or must,when; how many there are is said on the error side",
+        )
+}
+
 /// `--explain`
 fn explain_argument<'a>(alloc: Global) -> Arg<'a>
     ensures { IsArgument (flag (codes "explain")) result }
@@ -234,7 +250,8 @@ fn command_over_files<'a>(
         .after_help(help)
         .arg(explain_argument(alloc))?
         .arg(profile_argument(alloc))?
-        .arg(features_argument(alloc))
+        .arg(features_argument(alloc))?
+        .arg(unjudged_argument(alloc))
 }
 
 /// The modules, which are the last words of each command over files.
@@ -677,6 +694,26 @@ fn features_in_core(matches: &ArgMatches<'_>) -> bool
     }
 }
 
+/// A word that names other than the conditions that there are.
+fn unfit_conditions<'a>(matches: &ArgMatches<'a>) -> Option<&'a str>
+    ensures { option_map (λ word. word.now) result ≡ spec.unfit_conditions (subcommand_rows_of matches.now) }
+{
+    match matches.subcommand() {
+        Some((_, found)) => unfit_unjudged_in(found),
+        None => None,
+    }
+}
+
+/// Whether conditions aren't judged under a profile without any.
+fn conditions_in_core(matches: &ArgMatches<'_>) -> bool
+    ensures { result ≡ spec.conditions_in_core (subcommand_rows_of matches.now) }
+{
+    match matches.subcommand() {
+        Some((_, found)) => passes_in_core(found),
+        None => false,
+    }
+}
+
 /// A stream that is named for the edited document.
 fn named_stream<'a>(matches: &ArgMatches<'a>) -> Option<&'a str>
     ensures { option_map (λ name. name.now) result ≡ spec.named_stream (subcommand_rows_of matches.now) }
@@ -760,6 +797,24 @@ fn core_refusal(alloc: Global) -> NoRequest
     ))
 }
 
+/// The refusal of a word that names other than the conditions that there are.
+fn conditions_refusal(alloc: Global, word: &str) -> NoRequest
+    ensures { IsRefusal result }
+{
+    refusal(format!(in alloc;
+        "error: invalid value '{word}' for '--unjudged <CONDITIONS>'\n  [possible values: must, when, must,when]\n\nFor more information, try '--help'.\n"
+    ))
+}
+
+/// The refusal of conditions under a profile without any.
+fn core_conditions_refusal(alloc: Global) -> NoRequest
+    ensures { IsRefusal result }
+{
+    refusal(format!(in alloc;
+        "error: the profile core has no conditions: '--unjudged' stands with '--profile rfc'\n\nFor more information, try '--help'.\n"
+    ))
+}
+
 /// The refusal of a stream for the edited document.
 fn stream_refusal(alloc: Global, name: &str) -> NoRequest
     ensures { IsRefusal result }
@@ -787,9 +842,22 @@ fn command_refusal(alloc: Global, name: &str) -> NoRequest
     ))
 }
 
-/// The refusal of a language that can't be named so, where one is.
-fn language_refusal(alloc: Global, matches: &ArgMatches<'_>) -> Option<NoRequest>
-    ensures { Refuses (language_fault (subcommand_rows_of matches.now)) result }
+/// The refusal of conditions that can't be named so, where some are.
+fn condition_refusal(alloc: Global, matches: &ArgMatches<'_>) -> Option<NoRequest>
+    ensures { Refuses (condition_fault (subcommand_rows_of matches.now)) result }
+{
+    if let Some(word) = unfit_conditions(matches) {
+        return Some(conditions_refusal(alloc, word));
+    }
+    if conditions_in_core(matches) {
+        return Some(core_conditions_refusal(alloc));
+    }
+    None
+}
+
+/// The refusal of a profile or of features that can't be named so, where some are.
+fn feature_refusal(alloc: Global, matches: &ArgMatches<'_>) -> Option<NoRequest>
+    ensures { Refuses (feature_fault (subcommand_rows_of matches.now)) result }
 {
     if let Some(profile) = unknown_profile(matches) {
         return Some(profile_refusal(alloc, profile));
@@ -801,6 +869,16 @@ fn language_refusal(alloc: Global, matches: &ArgMatches<'_>) -> Option<NoRequest
         return Some(core_refusal(alloc));
     }
     None
+}
+
+/// The refusal of a language that can't be named so, where one is.
+fn language_refusal(alloc: Global, matches: &ArgMatches<'_>) -> Option<NoRequest>
+    ensures { Refuses (language_fault (subcommand_rows_of matches.now)) result }
+{
+    match feature_refusal(alloc, matches) {
+        Some(refusal) => Some(refusal),
+        None => condition_refusal(alloc, matches),
+    }
 }
 
 /// The refusal of files that can't be named so, where some are.

@@ -1,14 +1,14 @@
 //! The language that the words of a command line name.
 
-ghost use Rattle.std.specs.Prelude.{◌≡◌, ◌++◌, IfOk, map, option_map, string_bytes};
+ghost use Rattle.std.specs.Prelude.{◌≡◌, ◌++◌, IfOk, is_some, map, option_map, string_bytes};
 ghost use Rattle.clap.specs.Words.{found_of, rows_of};
-ghost use Rattle.ylink_grammar.specs.LanguageView.{choosing_view, language_view};
+ghost use Rattle.ylink_grammar.specs.LanguageView.{choosing_view, language_view, unjudged_view};
 ghost use Rattle.yapp_words.specs.Languages as spec;
-ghost use Rattle.yapp_words.specs.Languages.{choosing_of, choosings_of, features_named, language_of, names_module, profile_of, unfit_choosing};
+ghost use Rattle.yapp_words.specs.Languages.{choosing_of, choosings_of, features_named, language_of, names_module, profile_of, unfit_choosing, unfit_unjudged, unjudged_by, unjudged_word};
 
 use clap::ArgMatches;
 use std::alloc::{AllocError, Global};
-use ylink_grammar::{Choosing, Language};
+use ylink_grammar::{Choosing, Language, Unjudged, Wide};
 
 /// The name of the profile.
 pub(crate) fn profile_in<'a>(found: &ArgMatches<'a>) -> &'a str
@@ -99,13 +99,81 @@ fn all_chosen(alloc: Global, words: &[&str]) -> Result<Vec<Choosing>, AllocError
     Ok(choosings)
 }
 
+/// The word for the conditions that aren't judged.
+fn unjudged_in<'a>(found: &ArgMatches<'a>) -> Option<&'a str>
+    ensures { option_map (λ word. word.now) result ≡ unjudged_word (rows_of (found_of found.now)) }
+{
+    found.get_str("unjudged")
+}
+
+/// Whether a word names both conditions.
+fn names_both(word: &str) -> bool
+    ensures { result ≡ spec.names_both word.now }
+{
+    word == "must,when" || word == "when,must"
+}
+
+fn names_musts(word: &str) -> bool
+    ensures { result ≡ spec.names_musts word.now }
+{
+    word == "must" || names_both(word)
+}
+
+fn names_whens(word: &str) -> bool
+    ensures { result ≡ spec.names_whens word.now }
+{
+    word == "when" || names_both(word)
+}
+
+/// The conditions that a word names, if there is one.
+fn unjudged_of(word: Option<&str>) -> Unjudged
+    ensures { unjudged_view result ≡ unjudged_by (option_map (λ word. word.now) word.entry) }
+{
+    match word {
+        Some(word) => Unjudged {
+            musts: names_musts(word),
+            whens: names_whens(word),
+        },
+        None => Unjudged {
+            musts: false,
+            whens: false,
+        },
+    }
+}
+
+/// A word, where it names other than the conditions that there are.
+fn unfit_among(word: Option<&str>) -> Option<&str>
+    ensures { option_map (λ word. word.now) result ≡ unfit_unjudged (option_map (λ word. word.now) word.entry) }
+{
+    match word {
+        Some(word) => {
+            if names_musts(word) || names_whens(word) {
+                None
+            } else {
+                Some(word)
+            }
+        }
+        None => None,
+    }
+}
+
+/// A word of `--unjudged` that names other than the conditions that there are.
+pub(crate) fn unfit_unjudged_in<'a>(found: &ArgMatches<'a>) -> Option<&'a str>
+    ensures { option_map (λ word. word.now) result ≡ unfit_unjudged (unjudged_word (rows_of (found_of found.now))) }
+{
+    unfit_among(unjudged_in(found))
+}
+
 /// The language in which modules are to be read.
 pub(crate) fn language_in(alloc: Global, found: &ArgMatches<'_>) -> Result<Language, AllocError>
     ensures { IfOk result (λ l. language_view l ≡ language_of (rows_of (found_of found.now))) }
 {
     if profile_in(found) == "rfc" {
         let words = choosings_in(alloc, found)?;
-        Ok(Language::Rfc(all_chosen(alloc, &words)?))
+        Ok(Language::Rfc(Wide {
+            choosings: all_chosen(alloc, &words)?,
+            unjudged: unjudged_of(unjudged_in(found)),
+        }))
     } else {
         Ok(Language::Core)
     }
@@ -156,4 +224,18 @@ pub(crate) fn chooses_in_core(found: &ArgMatches<'_>) -> bool
     ensures { result ≡ spec.chooses_in_core (rows_of (found_of found.now)) }
 {
     profile_in(found) != "rfc" && chooses_features(found)
+}
+
+/// Whether conditions are named that aren't judged.
+fn passes_over(found: &ArgMatches<'_>) -> bool
+    ensures { result ≡ is_some (unjudged_word (rows_of (found_of found.now))) }
+{
+    unjudged_in(found).is_some()
+}
+
+/// Whether conditions aren't judged under a profile without any.
+pub(crate) fn passes_in_core(found: &ArgMatches<'_>) -> bool
+    ensures { result ≡ spec.passes_in_core (rows_of (found_of found.now)) }
+{
+    profile_in(found) != "rfc" && passes_over(found)
 }

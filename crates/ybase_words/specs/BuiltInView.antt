@@ -22,3 +22,4 @@ built_in_view types.Bits = spec.bits
 built_in_view types.Union = spec.union
 built_in_view types.Leafref = spec.leafref
 built_in_view types.Identityref = spec.identityref
+built_in_view types.Binary = spec.binary

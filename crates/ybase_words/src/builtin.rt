@@ -25,6 +25,7 @@ pub enum BuiltIn {
     Union,
     Leafref,
     Identityref,
+    Binary,
 }
 
 impl BuiltIn {
@@ -66,6 +67,7 @@ impl BuiltIn {
             BuiltIn::Union => "union",
             BuiltIn::Leafref => "leafref",
             BuiltIn::Identityref => "identityref",
+            BuiltIn::Binary => "binary",
         }
     }
 }
@@ -102,6 +104,7 @@ fn of_six(name: &str) -> Option<BuiltIn>
         "uint16" => BuiltIn::Uint16,
         "uint32" => BuiltIn::Uint32,
         "uint64" => BuiltIn::Uint64,
+        "binary" => BuiltIn::Binary,
         _ => return None,
     })
 }

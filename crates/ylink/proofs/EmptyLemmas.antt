@@ -1,11 +1,12 @@
 -- The type `empty` bears no restriction, whatever a `type` statement means, and so what types take tells it.
-use Rattle.std.proofs.Common.{◌≡◌, ℕ, zero, suc, ◌+◌, Bool, true, false, cond, ◌&&◌, List, [], ◌∷◌, Option, Some, None, is_some, option_map, refl, ap, ◌∙◌, subst}
+use Rattle.std.proofs.Common.{◌≡◌, ℕ, zero, suc, ◌+◌, ℤ, Bool, true, false, cond, ◌&&◌, List, [], ◌∷◌, Option, Some, None, is_some, option_map, refl, ap, ◌∙◌, subst}
 use Rattle.std.specs.Prelude.{codes, option_and_then, nat_lt}
+use Rattle.std.specs.List.{list_any}
 use Rattle.std.specs.Option.{option_map_or}
-use Rattle.yspec.specs.Forest.{Forest, end, node, size}
-use Rattle.yspec.specs.text.Text.{is_text}
+use Rattle.yspec.specs.Forest.{Forest, end, node, row, size}
+use Rattle.yspec.specs.text.Text.{Text, is_text}
 use Rattle.yspec.specs.types.Ranges as ranges
-use Rattle.yspec.specs.types.Names.{enum_names, bit_names, Naming, Assigned}
+use Rattle.yspec.specs.types.Names.{enum_names, bit_names, Naming, Assigned, names_left}
 use Rattle.yspec.specs.types.Restriction as restriction
 use Rattle.yspec.specs.types.Types as types
 use Rattle.yspec.specs.types.Order.{same_value}
@@ -58,6 +59,7 @@ alone types.empty_base limits bare =
 alone (types.enumeration_base names) limits bare = refl
 alone (types.bits_base names) limits bare = refl
 alone (types.identity_base home identities numbers) limits bare = refl
+alone types.binary_base limits bare = refl
 
 pub tells_empty : (shape : types.Shape) (requires : Option Bool) → IsBareShape shape → is_some requires ≡ false
     → are_alike (types.taken (record { shape = shape; requires_instance = requires }) types.empty) (types.taken (types.plain types.empty_base) types.empty)
@@ -100,17 +102,62 @@ bare_matching s test error true t none e =
     never : s.base ≡ types.empty_base → ⊥
     never is = let no : true ≡ false = none is in cc
 
+-- ---- names that are left
+
+bare_renamed : (s : types.SimpleType) (o : Option types.Base) (t : types.YangType) → ((b : types.Base) → o ≡ Some b → b ≡ types.empty_base → ⊥)
+    → option_map (λ (u : types.SimpleType). record { shape = types.single u; requires_instance = None }) (option_map (restriction.with_base s) o) ≡ Some t → IsBare t
+bare_renamed s None t none e = absurd cc
+bare_renamed s (Some b) t none e =
+    let same : record { shape = types.single (restriction.with_base s b); requires_instance = None } ≡ t = cc in
+    subst (λ (x : types.YangType). IsBare x) same (λ is. absurd (none b refl is))
+
+enums_unlike : (ns : List Naming) (base b : types.Base) → restriction.enums_left ns base ≡ Some b → b ≡ types.empty_base → ⊥
+enums_unlike ns (types.enumeration_base names) b e is = by (names_left names ns) e
+  where
+    by : (o : Option (List Assigned)) → option_map types.enumeration_base o ≡ Some b → ⊥
+    by None e = absurd cc
+    by (Some left) e = let same : types.enumeration_base left ≡ types.empty_base = cc in absurd cc
+enums_unlike ns (types.integer_base i) b e is = absurd cc
+enums_unlike ns (types.decimal_base digits) b e is = absurd cc
+enums_unlike ns types.string_base b e is = absurd cc
+enums_unlike ns types.boolean_base b e is = absurd cc
+enums_unlike ns types.empty_base b e is = absurd cc
+enums_unlike ns (types.bits_base names) b e is = absurd cc
+enums_unlike ns (types.identity_base home identities numbers) b e is = absurd cc
+enums_unlike ns types.binary_base b e is = absurd cc
+
+bits_unlike : (ns : List Naming) (base b : types.Base) → restriction.bits_left ns base ≡ Some b → b ≡ types.empty_base → ⊥
+bits_unlike ns (types.bits_base names) b e is = by (names_left names ns) e
+  where
+    by : (o : Option (List Assigned)) → option_map types.bits_base o ≡ Some b → ⊥
+    by None e = absurd cc
+    by (Some left) e = let same : types.bits_base left ≡ types.empty_base = cc in absurd cc
+bits_unlike ns (types.integer_base i) b e is = absurd cc
+bits_unlike ns (types.decimal_base digits) b e is = absurd cc
+bits_unlike ns types.string_base b e is = absurd cc
+bits_unlike ns types.boolean_base b e is = absurd cc
+bits_unlike ns types.empty_base b e is = absurd cc
+bits_unlike ns (types.enumeration_base names) b e is = absurd cc
+bits_unlike ns (types.identity_base home identities numbers) b e is = absurd cc
+bits_unlike ns types.binary_base b e is = absurd cc
+
+-- ---- each restriction
+
 bare_narrowed : (shape : types.Shape) (requires : Option Bool) (r : restriction.Restriction) (t : types.YangType) → IsBareShape shape
     → restriction.narrowed (record { shape = shape; requires_instance = requires }) r ≡ Some t → IsBare t
 bare_narrowed (types.single s) None (restriction.range spans error) t bare e = bare_limits s spans error (restriction.range_base s.base) t (λ is. ap restriction.range_base is) e
 bare_narrowed (types.single s) None (restriction.length spans error) t bare e = bare_limits s spans error (restriction.length_base s.base) t (λ is. ap restriction.length_base is) e
 bare_narrowed (types.single s) None (restriction.pattern expression inverted error) t bare e =
     bare_matching s (ranges.matching expression inverted) error (restriction.may_match s.base) t (λ is. ap restriction.may_match is) e
+bare_narrowed (types.single s) None (restriction.of_enums ns) t bare e = bare_renamed s (restriction.enums_left ns s.base) t (enums_unlike ns s.base) e
+bare_narrowed (types.single s) None (restriction.of_bits ns) t bare e = bare_renamed s (restriction.bits_left ns s.base) t (bits_unlike ns s.base) e
 bare_narrowed (types.single s) None (restriction.require_instance b) t bare e = absurd cc
 bare_narrowed (types.union members) None r t bare e = absurd cc
 bare_narrowed shape (Some required) (restriction.range spans error) t bare e = absurd cc
 bare_narrowed shape (Some required) (restriction.length spans error) t bare e = absurd cc
 bare_narrowed shape (Some required) (restriction.pattern expression inverted error) t bare e = absurd cc
+bare_narrowed shape (Some required) (restriction.of_enums ns) t bare e = absurd cc
+bare_narrowed shape (Some required) (restriction.of_bits ns) t bare e = absurd cc
 bare_narrowed shape (Some required) (restriction.require_instance b) t bare e =
     let same : record { shape = shape; requires_instance = Some b } ≡ t = cc in subst (λ (x : types.YangType). IsBare x) same bare
 
@@ -162,6 +209,8 @@ bare_single spec.boolean below t e = bare_plain types.boolean_base t e
 bare_single spec.empty below t e = bare_plain types.empty_base t e
 bare_single spec.enumeration below t e = bare_names types.enumeration_base enum_names (spec.namings word.enum_word spec.value_stated below) t e
 bare_single spec.bits below t e = bare_names types.bits_base bit_names (spec.namings word.bit_word spec.position_stated below) t e
+bare_single spec.binary below t e =
+    bare_limited (spec.stated word.length_word restriction.length below) (types.plain types.binary_base) t (λ is. refl) e
 bare_single spec.union below t e = absurd cc
 bare_single spec.leafref below t e = absurd cc
 bare_single spec.identityref below t e = absurd cc
@@ -212,11 +261,12 @@ bare_in_place modules is_member s spec.boolean below members = bare_or (spec.sin
 bare_in_place modules is_member s spec.empty below members = bare_or (spec.single_type spec.empty below) (bare_single spec.empty below)
 bare_in_place modules is_member s spec.enumeration below members = bare_or (spec.single_type spec.enumeration below) (bare_single spec.enumeration below)
 bare_in_place modules is_member s spec.bits below members = bare_or (spec.single_type spec.bits below) (bare_single spec.bits below)
+bare_in_place modules is_member s spec.binary below members = bare_or (spec.single_type spec.binary below) (bare_single spec.binary below)
 
 -- ---- by way of a typedef
 
 bare_restricted : (s : Source) (below : Forest Source) (m n : spec.Meant) → IsBareMeant m → spec.restricted_by s below m ≡ Some n → IsBareMeant n
-bare_restricted s below (spec.own type) n bare e = by (spec.is_pattern_statement s) (is_source_of word.range_word s) (is_source_of word.length_word s) e
+bare_restricted s below (spec.own type) n bare e = by (spec.comes_behind s) (is_source_of word.range_word s) (is_source_of word.length_word s) e
   where
     from : (r : restriction.Restriction) (o : Option types.YangType) → restriction.narrowed type r ≡ o → option_map spec.own o ≡ Some n → IsBareMeant n
     from r None is e = absurd cc
@@ -254,19 +304,53 @@ bare_all_matched f (spec.own type) n bare e = by (spec.matched_in f type) refl e
 bare_all_matched f (spec.of_target home steps required) n bare e =
     let same : spec.of_target home steps required ≡ n = cc in subst IsBareMeant same tt
 
+bare_to : (r : List Naming → restriction.Restriction) (name : Text) (number : Forest Source → Option ℤ) (f : Forest Source) (type t : types.YangType) → IsBare type
+    → spec.restricted_to r name (λ s inner. true) number f type ≡ Some t → IsBare t
+bare_to r name number f type t bare e = by (list_any (spec.is_restricting name) (row f)) e
+  where
+    left : restriction.Restriction
+    left = r (spec.namings_where (λ s inner. spec.is_restricting name s && true) number f)
+
+    by : (b : Bool) → cond b (restriction.narrowed type left) (Some type) ≡ Some t → IsBare t
+    by true e = bare_narrowed type.shape type.requires_instance left t bare e
+    by false e = let same : type ≡ t = cc in subst (λ (x : types.YangType). IsBare x) same bare
+
+bare_all_named : (f : Forest Source) (m n : spec.Meant) → IsBareMeant m → spec.named_meant (spec.named_in f) m ≡ Some n → IsBareMeant n
+bare_all_named f (spec.own type) n bare e = by (spec.restricted_to restriction.of_enums spec.enum_text (λ s inner. true) spec.value_stated f type) refl e
+  where
+    behind : (t : types.YangType) (o : Option types.YangType) → IsBare t → spec.restricted_to restriction.of_bits spec.bit_text (λ s inner. true) spec.position_stated f t ≡ o
+        → option_map spec.own o ≡ Some n → IsBareMeant n
+    behind t None bare is e = absurd cc
+    behind t (Some u) bare is e =
+        let same : spec.own u ≡ n = cc in subst IsBareMeant same (bare_to restriction.of_bits spec.bit_text spec.position_stated f t u bare is)
+
+    by : (o : Option types.YangType) → spec.restricted_to restriction.of_enums spec.enum_text (λ s inner. true) spec.value_stated f type ≡ o
+        → option_map spec.own (option_and_then (λ left. spec.restricted_to restriction.of_bits spec.bit_text (λ s inner. true) spec.position_stated f left) o) ≡ Some n
+        → IsBareMeant n
+    by None is e = absurd cc
+    by (Some t) is e = behind t _ (bare_to restriction.of_enums spec.enum_text spec.value_stated f type t bare is) refl e
+bare_all_named f (spec.of_target home steps required) n bare e =
+    let same : spec.of_target home steps required ≡ n = cc in subst IsBareMeant same tt
+
 bare_derived : (is_member : Bool) (below : Forest Source) (v : spec.Verdict) → IsBareVerdict v → IsBareVerdict (spec.derived is_member below v)
 bare_derived is_member below spec.wrong bare n e = absurd cc
 bare_derived is_member below spec.too_large bare n e = absurd cc
 bare_derived is_member below spec.unjudged bare n e = absurd cc
 bare_derived is_member below (spec.means m) bare n e = by (is_member && spec.is_reference m) (spec.restricted_in below m) refl e
   where
-    matched : (r : spec.Meant) (o : Option spec.Meant) → IsBareMeant r → spec.matched_meant below r ≡ o
+    left : (r : spec.Meant) (o : Option spec.Meant) → IsBareMeant r → spec.named_meant (spec.named_in below) r ≡ o
         → spec.meaning_of (option_map_or spec.means o spec.wrong) ≡ Some n → IsBareMeant n
+    left r None bare is e = absurd cc
+    left r (Some q) bare is e = bare_means q (bare_all_named below r q bare is) n e
+
+    matched : (r : spec.Meant) (o : Option spec.Meant) → IsBareMeant r → spec.matched_meant below r ≡ o
+        → spec.meaning_of (option_map_or spec.means (option_and_then (spec.named_meant (spec.named_in below)) o) spec.wrong) ≡ Some n → IsBareMeant n
     matched r None bare is e = absurd cc
-    matched r (Some q) bare is e = bare_means q (bare_all_matched below r q bare is) n e
+    matched r (Some q) bare is e = left q (spec.named_meant (spec.named_in below) q) (bare_all_matched below r q bare is) refl e
 
     by : (b : Bool) (o : Option spec.Meant) → spec.restricted_in below m ≡ o
-        → spec.meaning_of (cond b spec.wrong (option_map_or spec.means (option_and_then (spec.matched_meant below) o) spec.wrong)) ≡ Some n → IsBareMeant n
+        → spec.meaning_of (cond b spec.wrong (option_map_or spec.means
+        (option_and_then (spec.named_meant (spec.named_in below)) (option_and_then (spec.matched_meant below) o)) spec.wrong)) ≡ Some n → IsBareMeant n
     by true o is e = absurd cc
     by false None is e = absurd cc
     by false (Some r) is e = matched r (spec.matched_meant below r) (bare_all_restricted below m r (bare m refl) is) refl e

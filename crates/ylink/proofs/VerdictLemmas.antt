@@ -14,13 +14,12 @@ use Rattle.yspec.specs.linking.Scopes.{Placed, statement_at, statements_of}
 use Rattle.yspec.specs.linking.TypeStatements as spec
 use Rattle.yspec.specs.linking.DerivedTypes as derived
 use Rattle.yspec.specs.linking.DerivedTypes.{is_member, verdict_by, known_named, meant_by, type_meant, type_break, type_breaks}
-use Rattle.yspec_wide.specs.Types.{verdict_at, verdict_of, verdicts_of, verdict_on_of, known_named_of, meant_of}
+use Rattle.yspec_wide.specs.Types.{Keeping, all_names, verdict_at, verdict_of, verdicts_of, verdict_on_of, known_named_of, meant_of}
 use Rattle.yspec_wide.proofs.CoreTypeLemmas.{verdict_alike, verdicts_alike, known_named_alike}
 use Rattle.ybase_preorder.specs.Layout.{numbered_by}
 use Rattle.ylink_grammar.specs.declared.source.Source as held
 use Rattle.ylink_grammar.specs.SourceView.{source_view}
 use Rattle.ylink_names.proofs.NumberedLemmas.{by_number_from}
-use Rattle.ylink_values.specs.KeptView.{all_kept}
 use Rattle.ylink_types.specs.TypedefView.{AreOf, IsOf}
 use Rattle.ylink_types.specs.declared.typedefs.Typedefs.{Typedefs}
 use Rattle.ylink_types.specs.declared.types.Verdict.{Verdict}
@@ -37,7 +36,7 @@ seam so_far mid full new inner y x n mid_is full_is n_is new_is =
     ∙ (ap (λ l. slice_set l (length so_far) x) (full_is ∙ (ap (λ l. l ++ inner) mid_is ∙ append_assoc so_far (y ∷ []) inner))
     ∙ (set-append_seam so_far y inner x ∙ sym (append_assoc so_far (x ∷ []) inner))))
 
-module _ (kept : Forest Source → Bool) (modules : Forest Source) (named : ℕ → spec.Verdict) where
+module _ (kept : Keeping) (modules : Forest Source) (named : ℕ → spec.Verdict) where
   abbrev one_judged : Source → Forest Source → spec.Verdict
   one_judged s below = verdict_of kept modules named true s below (verdicts_of kept modules named below)
 
@@ -94,7 +93,7 @@ all_judged f table are =
 -- ---- what a statement of a number means
 
 -- over the names that are kept
-pub kept_held : (kept : Forest Source → Bool) (f : Forest held.Source) (table : List (Option spec.Verdict))
+pub kept_held : (kept : Keeping) (f : Forest held.Source) (table : List (Option spec.Verdict))
     → table ≡ map (judged_of kept (numbered_by source_view 0 f) (verdict_by (known_named_of kept (numbered_by source_view 0 f)))) (statements_of (numbered_by source_view 0 f))
     → (n : ℕ) → option_and_then spec.meaning_of (verdict_held table n) ≡ type_meant_of kept (numbered_by source_view 0 f) n
 kept_held kept f table are n =
@@ -119,30 +118,30 @@ kept_held kept f table are n =
 -- ---- all names
 
 module _ (modules : Forest Source) where
-  on_alike : (p : Placed) → verdict_on_of all_kept modules (verdict_by (known_named_of all_kept modules)) (is_member p.ancestors) p.source p.below
+  on_alike : (p : Placed) → verdict_on_of all_names modules (verdict_by (known_named_of all_names modules)) (is_member p.ancestors) p.source p.below
       ≡ derived.verdict_of modules p
   on_alike p =
       let named = verdict_by (known_named modules) in
-      ap (λ known. verdict_on_of all_kept modules (verdict_by known) (is_member p.ancestors) p.source p.below) (known_named_alike modules)
-      ∙ (ap (verdict_of all_kept modules named (is_member p.ancestors) p.source p.below) (verdicts_alike modules named p.below)
+      ap (λ known. verdict_on_of all_names modules (verdict_by known) (is_member p.ancestors) p.source p.below) (known_named_alike modules)
+      ∙ (ap (verdict_of all_names modules named (is_member p.ancestors) p.source p.below) (verdicts_alike modules named p.below)
       ∙ verdict_alike modules named (is_member p.ancestors) p.source p.below (spec.verdicts modules named p.below))
 
-  judged_alike : judged_of all_kept modules (verdict_by (known_named_of all_kept modules)) ≡ judged modules (verdict_by (known_named modules))
+  judged_alike : judged_of all_names modules (verdict_by (known_named_of all_names modules)) ≡ judged modules (verdict_by (known_named modules))
   judged_alike = fun_ext (λ p. ap (λ v. cond (is_source_of type_word p.source) (Some v) None) (on_alike p))
 
   pub as_judged : (table : List (Option spec.Verdict))
-      → table ≡ map (judged_of all_kept modules (verdict_by (known_named_of all_kept modules))) (statements_of modules)
+      → table ≡ map (judged_of all_names modules (verdict_by (known_named_of all_names modules))) (statements_of modules)
       → table ≡ map (judged modules (verdict_by (known_named modules))) (statements_of modules)
   as_judged table are = are ∙ ap (λ one. map one (statements_of modules)) judged_alike
 
   -- the verdicts over typedefs over all names
   pub over_all : (typedefs : Typedefs) (table : List (Option (Box Verdict))) → IsOf typedefs modules
-      → (AreOf all_kept typedefs modules → AreVerdictsOf all_kept table modules) → AreVerdicts table modules
+      → (AreOf all_names typedefs modules → AreVerdictsOf all_names table modules) → AreVerdicts table modules
   over_all typedefs table is are =
       as_judged (table_view table) (are (λ number. is number ∙ sym (ap (λ (known : ℕ → derived.Known). known number) (known_named_alike modules))))
 
   -- what a statement of a number means
-  pub all_meant : (n : ℕ) → type_meant_of all_kept modules n ≡ type_meant modules n
+  pub all_meant : (n : ℕ) → type_meant_of all_names modules n ≡ type_meant modules n
   all_meant n = ap (λ meant. option_and_then meant (statement_at modules n))
       (fun_ext (λ p. ap (λ v. cond (is_source_of type_word p.source) (spec.meaning_of v) None) (on_alike p)))
 
@@ -151,4 +150,4 @@ pub meant_held : (f : Forest held.Source) (table : List (Option spec.Verdict))
     → (n : ℕ) → option_and_then spec.meaning_of (verdict_held table n) ≡ type_meant (numbered_by source_view 0 f) n
 meant_held f table are n =
     let modules = numbered_by source_view 0 f in
-    kept_held all_kept f table (are ∙ sym (ap (λ one. map one (statements_of modules)) (judged_alike modules))) n ∙ all_meant modules n
+    kept_held all_names f table (are ∙ sym (ap (λ one. map one (statements_of modules)) (judged_alike modules))) n ∙ all_meant modules n

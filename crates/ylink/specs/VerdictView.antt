@@ -8,7 +8,7 @@ use Rattle.yspec.specs.linking.Source.{Source, is_source_of}
 use Rattle.yspec.specs.linking.Scopes.{Placed, statements_of}
 use Rattle.yspec.specs.linking.TypeStatements as spec
 use Rattle.yspec.specs.linking.DerivedTypes.{is_member, verdict_by, known_named}
-use Rattle.yspec_wide.specs.Types.{verdicts_of, verdict_on_of, known_named_of}
+use Rattle.yspec_wide.specs.Types.{Keeping, verdicts_of, verdict_on_of, known_named_of}
 use Rattle.ylink_types.specs.TypeView.{verdict_view}
 use Rattle.ylink_types.specs.declared.types.Verdict.{Verdict}
 
@@ -27,7 +27,7 @@ abbrev pub members_in : Bool → spec.Verdict → List spec.Verdict
 members_in in_union v = if in_union then v ∷ [] else []
 
 -- those on the `type` statements of a row, where they are members of a union
-abbrev pub members_below : (Forest Source → Bool) → Forest Source → (ℕ → spec.Verdict) → Bool → Forest Source → List spec.Verdict
+abbrev pub members_below : Keeping → Forest Source → (ℕ → spec.Verdict) → Bool → Forest Source → List spec.Verdict
 members_below kept modules named in_union row = if in_union then verdicts_of kept modules named row else []
 
 -- the verdict on a statement, where it is a `type` statement; `named` is that on the typedef that the statement of a
@@ -37,7 +37,7 @@ judged modules named p = if is_source_of type_word p.source
     then Some (spec.verdict_on modules named (is_member p.ancestors) p.source p.below) else None
 
 -- the same over the names of values that are kept
-abbrev pub judged_of : (Forest Source → Bool) → Forest Source → (ℕ → spec.Verdict) → Placed → Option spec.Verdict
+abbrev pub judged_of : Keeping → Forest Source → (ℕ → spec.Verdict) → Placed → Option spec.Verdict
 judged_of kept modules named p = if is_source_of type_word p.source
     then Some (verdict_on_of kept modules named (is_member p.ancestors) p.source p.below) else None
 
@@ -45,7 +45,7 @@ judged_of kept modules named p = if is_source_of type_word p.source
 abbrev pub AreVerdicts : List (Option (Box Verdict)) → Forest Source → Type 0
 AreVerdicts table modules = table_view table ≡ map (judged modules (verdict_by (known_named modules))) (statements_of modules)
 
-abbrev pub AreVerdictsOf : (Forest Source → Bool) → List (Option (Box Verdict)) → Forest Source → Type 0
+abbrev pub AreVerdictsOf : Keeping → List (Option (Box Verdict)) → Forest Source → Type 0
 AreVerdictsOf kept table modules =
     table_view table ≡ map (judged_of kept modules (verdict_by (known_named_of kept modules))) (statements_of modules)
 

@@ -17,7 +17,7 @@ ghost use Rattle.ylink_names.specs.MeaningView.{AreMeanings};
 ghost use Rattle.ylink_names.specs.Ordered.{AreInOrder};
 ghost use Rattle.ylink_names.specs.PrefixView as prefix;
 ghost use Rattle.ylink_features.specs.VersionView.{AreVersionsOf};
-ghost use Rattle.ylink_values.specs.KeptView.{all_kept};
+ghost use Rattle.yspec_wide.specs.Types.{all_names};
 ghost use Rattle.ylink_types.specs.TypedefView as typedef;
 ghost use Rattle.ylink.specs.LinkedView.{view, wholes};
 ghost use Rattle.ylink.specs.Told.{told_by};
@@ -130,7 +130,7 @@ fn link_types<'t>(
     requires ordered { AreInOrder order.items (statements.view sources) }
     requires named { typedef.IsOf typedefs (statements.view sources) }
     requires meant { AreMeanings (typedef.meanings_in typedefs) (statements.view sources) }
-    requires rests { typedef.RestsOn all_kept typedefs (statements.view sources) }
+    requires rests { typedef.RestsOn all_names typedefs (statements.view sources) }
     requires straight { definition_circles (statements.view sources) ≡ [] }
     requires first { None ≡ least_from None
         (statement_phase_in (language_view language.now) (modules_view modules.now)) }

@@ -1,5 +1,5 @@
 -- Statements that are kept, one after another, as they come into the table.
-use Rattle.std.proofs.Common.{◌≡◌, ℕ, suc, ◌+◌, ◌≤◌, ◌<◌, Bool, true, false, cond, List, [], ◌∷◌, ◌++◌, length, drop, get_or, Option, Some, None, refl, sym, ap, ap₂, ◌∙◌, append_assoc, arith, length-append}
+use Rattle.std.proofs.Common.{◌≡◌, ℕ, suc, ◌+◌, ◌≤◌, ◌<◌, Bool, true, false, cond, ◌&&◌, List, [], ◌∷◌, ◌++◌, length, drop, get_or, Option, Some, None, refl, sym, ap, ap₂, ◌∙◌, append_assoc, arith, length-append}
 use Rattle.std.specs.Prelude.{option_map}
 use Rattle.std.proofs.lemmas.List.{append-nil, at_drop_all, at_drop_more}
 use Rattle.yspec.specs.Forest.{Forest, node, end, size, join}
@@ -8,7 +8,7 @@ use Rattle.yspec.specs.linking.Keyword.{Keyword}
 use Rattle.yspec.specs.linking.Source as spec
 use Rattle.yspec.specs.linking.Source.{first_with, found_with, is_source_of, kept_at, numbered}
 use Rattle.yspec_wide.specs.Language.{Language}
-use Rattle.yspec_wide.specs.Sources.{kept_in, kept_keyword_in, sources_in_from}
+use Rattle.yspec_wide.specs.Sources.{kept_in, kept_keyword_in, is_derived_type, restricts_below, module_kept, sources_in_from}
 use Rattle.yspec.proofs.LinkingProofs.NumberedLemmas.{size-numbered}
 use Rattle.ytext.specs.View.{view, row_view, modules_view}
 use Rattle.ytext.specs.declared.statement.Stmt.{Stmt}
@@ -21,22 +21,25 @@ use Rattle.ybase_preorder.proofs.LayoutLemmas.{length-places, places-join, lengt
 use Rattle.ylink_grammar.specs.declared.source.Source.{Source}
 use Rattle.ylink_grammar.specs.SourceView.{source_view, seen_rows, listed}
 
-pub kept-first : (l : Language) (s : Statement) (below after : Forest Statement) → kept_in l (node s below after) ≡ join (kept_in l (node s below end)) (kept_in l after)
+pub kept-first : (l : Language) (may restricting : Bool) (s : Statement) (below after : Forest Statement)
+    → kept_in l may restricting (node s below after) ≡ join (kept_in l may restricting (node s below end)) (kept_in l may restricting after)
 unfolding kept_in
-kept-first l s below after = by (kept_keyword_in l s)
+kept-first l may restricting s below after = by (kept_keyword_in l restricting s)
   where
-    by : (k : Option Keyword) → kept_at k s (kept_in l below) (kept_in l after) ≡ join (kept_at k s (kept_in l below) end) (kept_in l after)
+    by : (k : Option Keyword) → kept_at k s (kept_in l may (restricts_below may k s) below) (kept_in l may restricting after)
+        ≡ join (kept_at k s (kept_in l may (restricts_below may k s) below) end) (kept_in l may restricting after)
     by None = refl
     by (Some k) = refl
 
-pub kept-none : (l : Language) (s : Statement) (below : Forest Statement) → kept_keyword_in l s ≡ None → kept_in l (node s below end) ≡ end
+pub kept-none : (l : Language) (may restricting : Bool) (s : Statement) (below : Forest Statement) → kept_keyword_in l restricting s ≡ None
+    → kept_in l may restricting (node s below end) ≡ end
 unfolding kept_in
-kept-none l s below none = ap (λ k. kept_at k s (kept_in l below) end) none
+kept-none l may restricting s below none = ap (λ k. kept_at k s (kept_in l may (restricts_below may k s) below) end) none
 
-pub kept-some : (l : Language) (s : Statement) (below : Forest Statement) (k : Keyword) → kept_keyword_in l s ≡ Some k
-    → kept_in l (node s below end) ≡ node (k, s) (kept_in l below) end
+pub kept-some : (l : Language) (may restricting : Bool) (s : Statement) (below : Forest Statement) (k : Keyword) → kept_keyword_in l restricting s ≡ Some k
+    → kept_in l may restricting (node s below end) ≡ node (k, s) (kept_in l may (is_derived_type k s && may) below) end
 unfolding kept_in
-kept-some l s below k some = ap (λ k. kept_at k s (kept_in l below) end) some
+kept-some l may restricting s below k some = ap (λ k. kept_at k s (kept_in l may (restricts_below may k s) below) end) some
 
 pub numbered-join : (h k : ℕ) (f g : Forest (Keyword × Statement)) → numbered h k (join f g) ≡ join (numbered h k f) (numbered h (k + size f) g)
 unfolding numbered
@@ -78,20 +81,23 @@ then_others old new p h f g whole added so =
     ∙ (append_assoc (seen_rows old) (listed p h (length (slots_in old)) f) (listed p h (length (slots_in old) + size f) g)
     ∙ (ap (λ rest. seen_rows old ++ rest) (sym (listed-join p h (length (slots_in old)) f g)) ∙ so))
 
-pub next_statement : (l : Language) (ss : List Stmt) (i : ℕ) (s : Stmt) (old new : Table Source) (p : Option ℕ) (h : ℕ) (whole : List (Place _))
+pub next_statement : (l : Language) (may restricting : Bool) (ss : List Stmt) (i : ℕ) (s : Stmt) (old new : Table Source) (p : Option ℕ) (h : ℕ) (whole : List (Place _))
     → i < length ss → s ≡ get_or ss i s
-    → seen_rows new ≡ seen_rows old ++ listed p h (length (slots_in old)) (kept_in l (node (view s).0 (view s).1 end))
-    → seen_rows old ++ listed p h (length (slots_in old)) (kept_in l (row_view (drop i ss))) ≡ whole
-    → seen_rows new ++ listed p h (length (slots_in new)) (kept_in l (row_view (drop (i + 1) ss))) ≡ whole
-next_statement l ss i s old new p h whole within is added so =
-    then_others old new p h (kept_in l (node (view s).0 (view s).1 end)) (kept_in l (row_view (drop (i + 1) ss))) whole added
-    (ap (λ f. seen_rows old ++ listed p h (length (slots_in old)) f) (sym (ap (kept_in l) (row_view_at ss i s within is) ∙ kept-first l (view s).0 (view s).1 (row_view (drop (i + 1) ss)))) ∙ so)
+    → seen_rows new ≡ seen_rows old ++ listed p h (length (slots_in old)) (kept_in l may restricting (node (view s).0 (view s).1 end))
+    → seen_rows old ++ listed p h (length (slots_in old)) (kept_in l may restricting (row_view (drop i ss))) ≡ whole
+    → seen_rows new ++ listed p h (length (slots_in new)) (kept_in l may restricting (row_view (drop (i + 1) ss))) ≡ whole
+next_statement l may restricting ss i s old new p h whole within is added so =
+    let kept = kept_in l may restricting in
+    then_others old new p h (kept (node (view s).0 (view s).1 end)) (kept (row_view (drop (i + 1) ss))) whole added
+    (ap (λ f. seen_rows old ++ listed p h (length (slots_in old)) f)
+    (sym (ap kept (row_view_at ss i s within is) ∙ kept-first l may restricting (view s).0 (view s).1 (row_view (drop (i + 1) ss)))) ∙ so)
 
-pub all_statements : (l : Language) (ss : List Stmt) (i : ℕ) (rows : Table Source) (p : Option ℕ) (h : ℕ) (whole : List (Place _)) → length ss ≤ i
-    → seen_rows rows ++ listed p h (length (slots_in rows)) (kept_in l (row_view (drop i ss))) ≡ whole → seen_rows rows ≡ whole
+pub all_statements : (l : Language) (may restricting : Bool) (ss : List Stmt) (i : ℕ) (rows : Table Source) (p : Option ℕ) (h : ℕ) (whole : List (Place _)) → length ss ≤ i
+    → seen_rows rows ++ listed p h (length (slots_in rows)) (kept_in l may restricting (row_view (drop i ss))) ≡ whole → seen_rows rows ≡ whole
 unfolding kept_in numbered
-all_statements l ss i rows p h whole ended so =
-    sym (append-nil (seen_rows rows)) ∙ (ap (λ f. seen_rows rows ++ listed p h (length (slots_in rows)) (kept_in l f)) (sym (at_drop_all row_view ss i ended)) ∙ so)
+all_statements l may restricting ss i rows p h whole ended so =
+    sym (append-nil (seen_rows rows))
+    ∙ (ap (λ f. seen_rows rows ++ listed p h (length (slots_in rows)) (kept_in l may restricting f)) (sym (at_drop_all row_view ss i ended)) ∙ so)
 
 -- ---- modules
 
@@ -102,12 +108,12 @@ modules_view_at ms i m within is =
 
 pub next_module : (l : Language) (ms : List Module) (i : ℕ) (m : Module) (old new : Table Source) (whole : List (Place _))
     → i < length ms → m ≡ get_or ms i m
-    → seen_rows new ≡ seen_rows old ++ listed None i (length (slots_in old)) (kept_in l (node (view m.top).0 (view m.top).1 end))
+    → seen_rows new ≡ seen_rows old ++ listed None i (length (slots_in old)) (module_kept l (view m.top).0 (view m.top).1)
     → seen_rows old ++ places None (length (slots_in old)) (sources_in_from l i (length (slots_in old)) (modules_view (drop i ms))) ≡ whole
     → seen_rows new ++ places None (length (slots_in new)) (sources_in_from l (i + 1) (length (slots_in new)) (modules_view (drop (i + 1) ms))) ≡ whole
 unfolding sources_in_from
 next_module l ms i m old new whole within is added so =
-    let row = kept_in l (node (view m.top).0 (view m.top).1 end) in
+    let row = module_kept l (view m.top).0 (view m.top).1 in
     let n = length (slots_in old) in
     let rest = modules_view (drop (i + 1) ms) in
     let count : length (slots_in new) ≡ n + size row = length_added old new (listed None i n row) added

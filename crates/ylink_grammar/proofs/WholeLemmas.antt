@@ -1,5 +1,5 @@
 -- Whole statements, one after another, as they come into the table.
-use Rattle.std.proofs.Common.{◌≡◌, ℕ, zero, suc, List, [], ◌∷◌, ◌++◌, map, Option, Some, None, refl, sym, ap, ap₂, ◌∙◌, append_assoc}
+use Rattle.std.proofs.Common.{◌≡◌, ℕ, zero, suc, Bool, true, false, List, [], ◌∷◌, ◌++◌, map, Option, Some, None, refl, sym, ap, ap₂, ◌∙◌, append_assoc}
 use Rattle.std.specs.Prelude.{slice_get, option_map, option_and_then}
 use Rattle.std.proofs.lemmas.List.{append-nil, map-append}
 use Rattle.yspec.specs.Forest.{Forest, node, end}
@@ -8,8 +8,8 @@ use Rattle.yspec.specs.linking.Keyword.{Keyword}
 use Rattle.yspec.specs.linking.Source.{kept_keyword, unless_extension}
 use Rattle.yspec.specs.linking.Keyword.{keyword_named}
 use Rattle.yspec_wide.specs.Language.{Language, core}
-use Rattle.yspec_wide.specs.Words.{known}
-use Rattle.yspec_wide.specs.Sources.{keyword_kept, kept_keyword_in}
+use Rattle.yspec_wide.specs.Words.{known, word_named}
+use Rattle.yspec_wide.specs.Sources.{keyword_kept, keyword_restricting, kept_keyword_in}
 use Rattle.ytext.specs.View.{Labelled, view}
 use Rattle.ytext.specs.declared.statement.Stmt.{Stmt}
 use Rattle.ybase_preorder.specs.Layout.{Place, laid, opened, closed}
@@ -22,21 +22,34 @@ use Rattle.ylink_grammar.specs.Wholes.{whole_at, wholes_of, wholes_in}
 
 wholes-first : (g : Language) (s : Statement) (below after : Forest Statement) → wholes_in g (node s below after) ≡ wholes_in g (node s below end) ++ wholes_in g after
 unfolding wholes_in
-wholes-first g s below after = by (kept_keyword_in g s)
+wholes-first g s below after = by (kept_keyword_in g false s)
   where
     by : (k : Option Keyword) → whole_at k s below (wholes_in g below) (wholes_in g after) ≡ whole_at k s below (wholes_in g below) [] ++ wholes_in g after
     by None = refl
     by (Some k) = ap (λ l. (s, below) ∷ (l ++ wholes_in g after)) (sym (append-nil (wholes_in g below)))
 
-pub wholes-none : (g : Language) (s : Statement) (below : Forest Statement) → kept_keyword_in g s ≡ None → wholes_in g (node s below end) ≡ []
-unfolding wholes_in
-wholes-none g s below none = ap (λ k. whole_at k s below (wholes_in g below) []) none
+-- whether it is kept doesn't rest on its row
+kept_anywhere : (g : Language) (restricting : Bool) (s : Statement) (below : Forest Statement) (inner after : List Labelled)
+    → whole_at (kept_keyword_in g false s) s below inner after ≡ whole_at (kept_keyword_in g restricting s) s below inner after
+kept_anywhere g false s below inner after = refl
+kept_anywhere g true s below inner after = by (option_and_then keyword_kept (word_named g s.keyword))
+  where
+    by : (o : Option Keyword) → whole_at o s below inner after ≡ whole_at (option_map keyword_restricting o) s below inner after
+    by None = refl
+    by (Some k) = refl
 
-wholes-some : (g : Language) (s : Statement) (below : Forest Statement) (k : Keyword) → kept_keyword_in g s ≡ Some k
+pub wholes-none : (g : Language) (restricting : Bool) (s : Statement) (below : Forest Statement) → kept_keyword_in g restricting s ≡ None
+    → wholes_in g (node s below end) ≡ []
+unfolding wholes_in
+wholes-none g restricting s below none =
+    kept_anywhere g restricting s below (wholes_in g below) [] ∙ ap (λ k. whole_at k s below (wholes_in g below) []) none
+
+wholes-some : (g : Language) (restricting : Bool) (s : Statement) (below : Forest Statement) (k : Keyword) → kept_keyword_in g restricting s ≡ Some k
     → wholes_in g (node s below end) ≡ (s, below) ∷ wholes_in g below
 unfolding wholes_in
-wholes-some g s below k some =
-    ap (λ k. whole_at k s below (wholes_in g below) []) some ∙ ap (λ l. (s, below) ∷ l) (append-nil (wholes_in g below))
+wholes-some g restricting s below k some =
+    kept_anywhere g restricting s below (wholes_in g below) []
+    ∙ (ap (λ k. whole_at k s below (wholes_in g below) []) some ∙ ap (λ l. (s, below) ∷ l) (append-nil (wholes_in g below)))
 
 -- some are added, and others follow
 pub then_more : (g : Language) (old new all : List Labelled) (s : Labelled) (left rest : Forest Statement) → left ≡ node s.0 s.1 rest
@@ -71,17 +84,17 @@ whole-closed zero (p ∷ ps) = refl
 whole-closed (suc n) (p ∷ ps) = ap (λ rest. view p.label.statement.now ∷ rest) (whole-closed n ps)
 
 -- a statement is opened, all below it is added, and it is closed
-pub added_whole : (g : Language) (old mid full new : Table Source) (p : Option ℕ) (l : Source) (n : ℕ) (k : Keyword) (s : Stmt)
+pub added_whole : (g : Language) (restricting : Bool) (old mid full new : Table Source) (p : Option ℕ) (l : Source) (n : ℕ) (k : Keyword) (s : Stmt)
     → laid (slots_in mid) ≡ laid (slots_in old) ++ opened p l ∷ [] → l.statement.now ≡ s
     → whole_rows full ≡ whole_rows mid ++ wholes_in g (view s).1 → laid (slots_in new) ≡ closed n (laid (slots_in full))
-    → kept_keyword_in g (view s).0 ≡ Some k → whole_rows new ≡ whole_rows old ++ wholes_in g (node (view s).0 (view s).1 end)
-added_whole g old mid full new p l n k s mid_is same full_is new_is some =
+    → kept_keyword_in g restricting (view s).0 ≡ Some k → whole_rows new ≡ whole_rows old ++ wholes_in g (node (view s).0 (view s).1 end)
+added_whole g restricting old mid full new p l n k s mid_is same full_is new_is some =
     let see : Place Source → Labelled = λ p. view p.label.statement.now in
     let one : whole_rows mid ≡ whole_rows old ++ view s ∷ [] = ap (map see) mid_is
     ∙ (map-append see (laid (slots_in old)) (opened p l ∷ []) ∙ ap (λ x. whole_rows old ++ view x ∷ []) same) in
     ap (map see) new_is ∙ (whole-closed n (laid (slots_in full)) ∙ (full_is ∙ (ap (λ l. l ++ wholes_in g (view s).1) one
     ∙ (append_assoc (whole_rows old) (view s ∷ []) (wholes_in g (view s).1)
-    ∙ ap (λ l. whole_rows old ++ l) (sym (wholes-some g (view s).0 (view s).1 k some))))))
+    ∙ ap (λ l. whole_rows old ++ l) (sym (wholes-some g restricting (view s).0 (view s).1 k some))))))
 
 -- the statement of a number
 pub whole_row_at : (slots : List (Slot Source)) (number : ℕ) → slice_get (map (λ p. view p.label.statement.now) (laid slots)) number

@@ -18,8 +18,8 @@ use Rattle.yspec.specs.linking.Table as narrow_table
 use Rattle.yspec.specs.linking.StatementBreaks as narrow
 use Rattle.yspec.specs.linking.StatementBreaks.{has_keyword, is_prefixed}
 use Rattle.yspec.proofs.LinkingProofs.KeywordLemmas.{of_each, prefixed_is_none}
-use Rattle.yspec_wide.specs.Language.{Language, core, rfc}
-use Rattle.yspec_wide.specs.Words.{Word, known, feature_word, if_feature_word, pattern_word, modifier_word, same_word, or_added, word_named}
+use Rattle.yspec_wide.specs.Language.{Language, Unjudged, core, rfc}
+use Rattle.yspec_wide.specs.Words.{Word, known, feature_word, if_feature_word, pattern_word, modifier_word, must_word, when_word, same_word, or_added, or_unjudged, word_named}
 use Rattle.yspec_wide.specs.Table.{Allowed, allowed_before, row_before, many}
 use Rattle.yspec_wide.specs.StatementBreaks.{has_word, occurrences, is_miscounted, is_allowed, type_breaks, version_breaks}
 use Rattle.ylink_grammar.specs.Counts.{is_type_outside, is_wrongly_versioned, is_repeated, repeats}
@@ -43,6 +43,12 @@ no_pattern k = is_false _ (of_each (λ k. not (same_word (known k) pattern_word)
 no_modifier : (k : Keyword) → same_word (known k) modifier_word ≡ false
 no_modifier k = is_false _ (of_each (λ k. not (same_word (known k) modifier_word)) refl k)
 
+no_must : (k : Keyword) → same_word (known k) must_word ≡ false
+no_must k = is_false _ (of_each (λ k. not (same_word (known k) must_word)) refl k)
+
+no_when : (k : Keyword) → same_word (known k) when_word ≡ false
+no_when k = is_false _ (of_each (λ k. not (same_word (known k) when_word)) refl k)
+
 -- which of the four a text is
 abbrev one_added : Bool → Bool → Bool → Bool → Option Word
 one_added a b c d = cond a (Some feature_word) (cond b (Some if_feature_word) (cond c (Some pattern_word) (cond d (Some modifier_word) None)))
@@ -54,17 +60,35 @@ no_added k false false true d = no_pattern k
 no_added k false false false true = no_modifier k
 no_added k false false false false = refl
 
+-- and which of the two conditions
+abbrev one_unjudged : Bool → Bool → Option Word
+one_unjudged a b = cond a (Some must_word) (cond b (Some when_word) None)
+
+no_unjudged : (k : Keyword) (a b : Bool) → option_map_or (same_word (known k)) (one_unjudged a b) false ≡ false
+no_unjudged k true b = no_must k
+no_unjudged k false true = no_when k
+no_unjudged k false false = refl
+
+-- a condition is no keyword of the core
+still_none : (k : Keyword) (u : Unjudged) (t : Text) (o : Option Word) → option_map_or (same_word (known k)) o false ≡ false
+    → option_map_or (same_word (known k)) (or_unjudged u o t) false ≡ false
+still_none k u t None none = no_unjudged k (is_text t (codes "must") && u.musts) (is_text t (codes "when") && u.whens)
+still_none k u t (Some w) none = none
+
 core_has : (k : Keyword) (o : Option Keyword) → option_map_or (same_word (known k)) (option_map known o) false ≡ option_map_or (same_keyword k) o false
 core_has k None = refl
 core_has k (Some j) = refl
 
-wide_has : (k : Keyword) (t : Text) (o : Option Keyword) → option_map_or (same_word (known k)) (or_added o t) false ≡ option_map_or (same_keyword k) o false
-wide_has k t None = no_added k (is_text t (codes "feature")) (is_text t (codes "if-feature")) (is_text t (codes "pattern")) (is_text t (codes "modifier"))
-wide_has k t (Some j) = refl
+wide_has : (k : Keyword) (u : Unjudged) (t : Text) (o : Option Keyword)
+    → option_map_or (same_word (known k)) (or_unjudged u (or_added o t) t) false ≡ option_map_or (same_keyword k) o false
+wide_has k u t None =
+    still_none k u t (or_added None t)
+    (no_added k (is_text t (codes "feature")) (is_text t (codes "if-feature")) (is_text t (codes "pattern")) (is_text t (codes "modifier")))
+wide_has k u t (Some j) = refl
 
 pub has_alike : (l : Language) (k : Keyword) (s : Statement) → has_word l (known k) s ≡ has_keyword k s
 has_alike core k s = core_has k (keyword_named s.keyword)
-has_alike (rfc choosings) k s = wide_has k s.keyword (keyword_named s.keyword)
+has_alike (rfc wide) k s = wide_has k wide.unjudged s.keyword (keyword_named s.keyword)
 
 -- no keyword has a prefix
 plain : (t word : Text) → is_prefixed t ≡ true → is_prefixed word ≡ false → is_text t word ≡ false
@@ -79,13 +103,19 @@ plain t word prefixed e = by (is_text t word) refl
 none_by : (a b c d : Bool) → a ≡ false → b ≡ false → c ≡ false → d ≡ false → one_added a b c d ≡ None
 none_by a b c d first second third last = rw (first, second, third, last) refl
 
+none_unjudged : (a b musts whens : Bool) → a ≡ false → b ≡ false → one_unjudged (a && musts) (b && whens) ≡ None
+none_unjudged a b musts whens first second = rw (first, second) refl
+
 pub prefixed_is_no_word : (l : Language) (t : Text) → is_prefixed t ≡ true → word_named l t ≡ None
 prefixed_is_no_word core t prefixed = ap (option_map known) (prefixed_is_none t prefixed)
-prefixed_is_no_word (rfc choosings) t prefixed =
-    ap (λ o. or_added o t) (prefixed_is_none t prefixed)
+prefixed_is_no_word (rfc wide) t prefixed =
+    let added : or_added (keyword_named t) t ≡ None = ap (λ o. or_added o t) (prefixed_is_none t prefixed)
     ∙ none_by (is_text t (codes "feature")) (is_text t (codes "if-feature")) (is_text t (codes "pattern")) (is_text t (codes "modifier"))
     (plain t (codes "feature") prefixed refl) (plain t (codes "if-feature") prefixed refl)
-    (plain t (codes "pattern") prefixed refl) (plain t (codes "modifier") prefixed refl)
+    (plain t (codes "pattern") prefixed refl) (plain t (codes "modifier") prefixed refl) in
+    ap (λ o. or_unjudged wide.unjudged o t) added
+    ∙ none_unjudged (is_text t (codes "must")) (is_text t (codes "when")) wide.unjudged.musts wide.unjudged.whens
+    (plain t (codes "must") prefixed refl) (plain t (codes "when") prefixed refl)
 
 -- ---- how many there are
 
@@ -182,12 +212,16 @@ or_last a b c first second = rw (first, second) refl
 
 -- ---- what a statement breaks by itself
 
-pub type_alike : (m : ℕ) (w : Word) (s : Statement) → when (is_type_outside w s) (broken 1 m s.line) ≡ type_breaks m w s
-type_alike m (known k) s = refl
-type_alike m feature_word s = refl
-type_alike m if_feature_word s = refl
-type_alike m pattern_word s = refl
-type_alike m modifier_word s = refl
+pub type_alike : (l : Language) (m : ℕ) (w : Word) (s : Statement)
+    → when (is_type_outside l w s) (broken 1 m s.line) ≡ type_breaks l m w s
+type_alike core m (known k) s = refl
+type_alike core m feature_word s = refl
+type_alike core m if_feature_word s = refl
+type_alike core m pattern_word s = refl
+type_alike core m modifier_word s = refl
+type_alike core m must_word s = refl
+type_alike core m when_word s = refl
+type_alike (rfc wide) m w s = refl
 
 pub version_alike : (l : Language) (m : ℕ) (w : Word) (s : Statement) (below : Forest Statement)
     → when (is_wrongly_versioned l w s below) (broken 4 m s.line) ≡ version_breaks l m w s below
@@ -196,4 +230,6 @@ version_alike core m feature_word s below = refl
 version_alike core m if_feature_word s below = refl
 version_alike core m pattern_word s below = refl
 version_alike core m modifier_word s below = refl
-version_alike (rfc choosings) m w s below = refl
+version_alike core m must_word s below = refl
+version_alike core m when_word s below = refl
+version_alike (rfc wide) m w s below = refl

@@ -69,10 +69,12 @@ allowed_word allowed (Some w) = if is_allowed w allowed then Some w else None
 -- ---- what a statement breaks by itself
 
 -- the type of a built-in name that isn't compiled
-abbrev pub is_type_outside : Word → Statement → Bool
-is_type_outside w s = same_word w (known type_word) && option_map_or narrow.is_type_outside s.argument false
+abbrev pub is_type_outside : Language → Word → Statement → Bool
+is_type_outside core w s = same_word w (known type_word) && option_map_or narrow.is_type_outside s.argument false
+is_type_outside (rfc wide) w s =
+    same_word w (known type_word) && option_map_or wide_breaks.is_type_outside s.argument false
 
 -- Under the core a module without the version that is read, and else a `yang-version` that names none.
 abbrev pub is_wrongly_versioned : Language → Word → Statement → Forest Statement → Bool
 is_wrongly_versioned core w s below = same_word w (known module_word) && not (list_any is_current_version (row below))
-is_wrongly_versioned (rfc choosings) w s below = is_wrong_version w s
+is_wrongly_versioned (rfc wide) w s below = is_wrong_version w s

@@ -1,5 +1,5 @@
 -- The statements that linking stands on, each with all that stands below it in its module's text, what isn't kept included.
-use Rattle.std.specs.Prelude.{List, [], ◌∷◌, ◌++◌, Option, Some, None}
+use Rattle.std.specs.Prelude.{false, List, [], ◌∷◌, ◌++◌, Option, Some, None}
 use Rattle.yspec.specs.Forest.{Forest, end, node}
 use Rattle.yspec.specs.text.Statement.{Statement}
 use Rattle.yspec.specs.linking.Keyword.{Keyword}
@@ -22,4 +22,4 @@ wholes_of (node s below after) = whole_at (kept_keyword s) s below (wholes_of be
 unfoldable pub wholes_in : Language → Forest Statement → List Labelled
 wholes_in language end = []
 wholes_in language (node s below after) =
-    whole_at (kept_keyword_in language s) s below (wholes_in language below) (wholes_in language after)
+    whole_at (kept_keyword_in language false s) s below (wholes_in language below) (wholes_in language after)

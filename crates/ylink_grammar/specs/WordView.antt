@@ -10,3 +10,5 @@ word_view words.Feature = spec.feature_word
 word_view words.IfFeature = spec.if_feature_word
 word_view words.Pattern = spec.pattern_word
 word_view words.Modifier = spec.modifier_word
+word_view words.Must = spec.must_word
+word_view words.When = spec.when_word

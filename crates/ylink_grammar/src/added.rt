@@ -1,4 +1,4 @@
-//! The statements that a language has besides the core's (RFC 7950, 7.20.1, 7.20.2 and 9.4.5).
+//! The statements that a language has besides the core's (RFC 7950, 7.20.1, 7.20.2, 7.21.5 and 9.4.5).
 
 ghost use Rattle.std.specs.Prelude.{◌≡◌, ℕ};
 ghost use Rattle.yspec_wide.specs.Sources as spec;
@@ -29,6 +29,25 @@ pub fn is_condition(language: &Language, statement: &Source<'_>) -> bool
         Language::Core => false,
         Language::Rfc(_) => statement.statement.keyword() == "if-feature",
     }
+}
+
+/// Whether a statement is a `when` of a language (RFC 7950, 7.21.5).
+pub fn is_when(language: &Language, statement: &Source<'_>) -> bool
+    ensures { (number : ℕ) → result
+        ≡ spec.is_when (language_view language.now) (source_view number statement.now) }
+{
+    match language {
+        Language::Core => false,
+        Language::Rfc(_) => statement.statement.keyword() == "when",
+    }
+}
+
+/// Whether it hangs on a statement whether a node is there: an `if-feature` or a `when` of a language.
+pub fn is_guard(language: &Language, statement: &Source<'_>) -> bool
+    ensures { (number : ℕ) → result
+        ≡ spec.is_guard (language_view language.now) (source_view number statement.now) }
+{
+    is_condition(language, statement) || is_when(language, statement)
 }
 
 /// Whether a statement is a `pattern` of a language (RFC 7950, 9.4.5).

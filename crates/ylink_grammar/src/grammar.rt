@@ -312,14 +312,22 @@ fn is_wrongly_versioned(language: &Language, word: Word, statement: &Stmt) -> bo
 }
 
 /// Whether a statement is the type of a built-in name that isn't compiled.
-fn is_type_outside(word: Word, statement: &Stmt) -> bool
-    ensures { result ≡ is_type_outside (word_view word) (view statement.now).0 }
+fn is_type_outside(language: &Language, word: Word, statement: &Stmt) -> bool
+    ensures { result ≡ is_type_outside (language_view language.now) (word_view word) (view statement.now).0 }
 {
-    word.is(Word::Known(Keyword::Type))
-        && matches!(
-            statement.argument(),
-            Some("binary") | Some("instance-identifier")
-        )
+    match language {
+        Language::Core => {
+            word.is(Word::Known(Keyword::Type))
+                && matches!(
+                    statement.argument(),
+                    Some("binary") | Some("instance-identifier")
+                )
+        }
+        Language::Rfc(_) => {
+            word.is(Word::Known(Keyword::Type))
+                && matches!(statement.argument(), Some("instance-identifier"))
+        }
+    }
 }
 
 fn has_fitting_argument(
@@ -360,7 +368,7 @@ fn version_stated(stated: Option<&str>) -> YangVersion
 }
 
 /// The version of a module, by what stands below its statement.
-fn version_below(statements: &[Stmt]) -> YangVersion
+pub(crate) fn version_below(statements: &[Stmt]) -> YangVersion
     ensures { version_view result ≡ languages.version_below (row_view statements.now) }
 {
     for statement in statements {
@@ -402,7 +410,7 @@ fn judge_alone(
 {
     let rule = rule_in(reading.language, reading.version, word);
     let unfitting = !has_fitting_argument(alloc, reading.version, rule.form, statement)?;
-    let outside = is_type_outside(word, statement);
+    let outside = is_type_outside(reading.language, word, statement);
     let misversioned = is_wrongly_versioned(reading.language, word, statement);
     let miscounted = is_miscounted(reading.language, &rule, word, statement);
     let module = reading.module;

@@ -16,10 +16,10 @@ mod sources;
 mod table;
 mod word;
 
-pub use added::{is_condition, is_feature, is_pattern};
+pub use added::{is_condition, is_feature, is_guard, is_pattern, is_when};
 pub use fault::{BrokenRule, CompileCode, least, least_when};
 pub use grammar::{broken, broken_statement_rule_in};
-pub use language::{Choosing, Language};
+pub use language::{Choosing, Language, Unjudged, Wide};
 pub use refining::may_bear;
 pub use row::{argument_of, argument_with, first_with, found_with};
 pub use source::{Source, Stated};

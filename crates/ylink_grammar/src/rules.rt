@@ -1,9 +1,10 @@
-//! The table of statements by language and version (RFC 7950, 1.1, 7.20 and 9.4.5; RFC 6020, 7 and 12).
+//! The table of statements by language and version (RFC 7950, 1.1, 7.5.3, 7.20, 7.21.5 and 9.4.5; RFC 6020, 7 and 12).
 
 ghost use Rattle.std.specs.Prelude.{◌≡◌, [], IfNone, IfSome, map};
 ghost use Rattle.yspec.specs.linking.Table as spec;
+ghost use Rattle.yspec_wide.specs.Language as languages;
 ghost use Rattle.yspec_wide.specs.Language.{yang_1, yang_1_1};
-ghost use Rattle.yspec_wide.specs.Words.{known, pattern_word};
+ghost use Rattle.yspec_wide.specs.Words.{known, must_word, pattern_word, when_word};
 ghost use Rattle.yspec_wide.specs.Table as wide;
 ghost use Rattle.yspec_wide.specs.Table.{rule_before};
 ghost use Rattle.ybase_words.specs.KeywordView.{keyword_view};
@@ -18,7 +19,8 @@ use crate::form::{Form, WideForm};
 use crate::language::Language;
 use crate::table::{
     Allowed, Count, IN_AUGMENT, IN_BIT, IN_CASE, IN_CHOICE, IN_CONTAINER, IN_ENUM, IN_IDENTITY,
-    IN_LEAF, IN_LEAF_LIST, IN_LIST, IN_RANGE, IN_REFINE, IN_TYPE, IN_USES, Rule, needs_of, rule_of,
+    IN_LEAF, IN_LEAF_LIST, IN_LIST, IN_RANGE, IN_REFINE, IN_REVISION, IN_TYPE, IN_USES, Rule,
+    needs_of, rule_of,
 };
 use crate::word::Word;
 use ybase_words::Keyword;
@@ -62,6 +64,12 @@ const IN_MODULE_OF_ANY_VERSION: &[Allowed] = &[
 const FEATURES: &[Word] = &[Word::Feature];
 
 const CONDITIONS: &[Word] = &[Word::IfFeature];
+
+const CONSTRAINTS: &[Word] = &[Word::IfFeature, Word::Must];
+
+const MUSTS: &[Word] = &[Word::Must];
+
+const WHENS: &[Word] = &[Word::When];
 
 const PATTERNS: &[Word] = &[Word::Pattern];
 
@@ -158,32 +166,37 @@ fn row_of_yang_1_1(keyword: Keyword) -> Option<WideRule>
     ensures none { IfNone result (wide.wide_rule yang_1_1 (known (keyword_view keyword))
         ≡ rule_before (spec.rule_of (keyword_view keyword))) }
 {
-    let (form, substatements, behind): (WideForm, &'static [Allowed], &'static [Word]) =
-        match keyword {
-            Keyword::Module => (
-                AsBefore(Form::Identifier),
-                IN_MODULE_OF_ANY_VERSION,
-                FEATURES,
-            ),
-            Keyword::Prefix => (WideForm::Prefix, &[], &[]),
-            Keyword::Container => (AsBefore(Form::Identifier), IN_CONTAINER, CONDITIONS),
-            Keyword::Leaf => (AsBefore(Form::Identifier), IN_LEAF, CONDITIONS),
-            Keyword::LeafList => (AsBefore(Form::Identifier), IN_LEAF_LIST, CONDITIONS),
-            Keyword::List => (AsBefore(Form::Identifier), IN_LIST, CONDITIONS),
-            Keyword::Choice => (AsBefore(Form::Identifier), IN_CHOICE, CONDITIONS),
-            Keyword::Case => (AsBefore(Form::Identifier), IN_CASE, CONDITIONS),
-            Keyword::Uses => (AsBefore(Form::Name), IN_USES, CONDITIONS),
-            Keyword::Refine => (AsBefore(Form::RelativePath), IN_REFINE, CONDITIONS),
-            Keyword::Augment => (AsBefore(Form::AbsolutePath), IN_AUGMENT, CONDITIONS),
-            Keyword::Type => (AsBefore(Form::Name), IN_TYPE, PATTERNS),
-            Keyword::Identity => (AsBefore(Form::Identifier), IN_IDENTITY, CONDITIONS),
-            Keyword::Enum => (AsBefore(Form::Any), IN_ENUM, CONDITIONS),
-            Keyword::Bit => (AsBefore(Form::Identifier), IN_BIT, CONDITIONS),
-            _ => return None,
-        };
+    let (form, once, substatements, behind): (
+        WideForm,
+        &'static [Word],
+        &'static [Allowed],
+        &'static [Word],
+    ) = match keyword {
+        Keyword::Module => (
+            AsBefore(Form::Identifier),
+            &[],
+            IN_MODULE_OF_ANY_VERSION,
+            FEATURES,
+        ),
+        Keyword::Prefix => (WideForm::Prefix, &[], &[], &[]),
+        Keyword::Container => (AsBefore(Form::Identifier), WHENS, IN_CONTAINER, CONSTRAINTS),
+        Keyword::Leaf => (AsBefore(Form::Identifier), WHENS, IN_LEAF, CONSTRAINTS),
+        Keyword::LeafList => (AsBefore(Form::Identifier), WHENS, IN_LEAF_LIST, CONSTRAINTS),
+        Keyword::List => (AsBefore(Form::Identifier), WHENS, IN_LIST, CONSTRAINTS),
+        Keyword::Choice => (AsBefore(Form::Identifier), WHENS, IN_CHOICE, CONDITIONS),
+        Keyword::Case => (AsBefore(Form::Identifier), WHENS, IN_CASE, CONDITIONS),
+        Keyword::Uses => (AsBefore(Form::Name), WHENS, IN_USES, CONDITIONS),
+        Keyword::Refine => (AsBefore(Form::RelativePath), &[], IN_REFINE, CONSTRAINTS),
+        Keyword::Augment => (AsBefore(Form::AbsolutePath), WHENS, IN_AUGMENT, CONDITIONS),
+        Keyword::Type => (AsBefore(Form::Name), &[], IN_TYPE, PATTERNS),
+        Keyword::Identity => (AsBefore(Form::Identifier), &[], IN_IDENTITY, CONDITIONS),
+        Keyword::Enum => (AsBefore(Form::Any), &[], IN_ENUM, CONDITIONS),
+        Keyword::Bit => (AsBefore(Form::Identifier), &[], IN_BIT, CONDITIONS),
+        _ => return None,
+    };
     Some(WideRule {
         form,
-        once: &[],
+        once,
         ahead: &[],
         substatements,
         behind,
@@ -210,20 +223,25 @@ fn row_of_yang_1(keyword: Keyword) -> Option<WideRule>
     ensures none { IfNone result (wide.wide_rule yang_1 (known (keyword_view keyword))
         ≡ wide.wide_rule yang_1_1 (known (keyword_view keyword))) }
 {
-    let (form, substatements, behind): (Form, &'static [Allowed], &'static [Word]) = match keyword {
-        Keyword::Import => (Form::Identifier, IN_IMPORT_OF_YANG_1, &[]),
-        Keyword::LeafList => (Form::Identifier, IN_LEAF_LIST_OF_YANG_1, CONDITIONS),
-        Keyword::Choice => (Form::Identifier, IN_CHOICE_OF_YANG_1, CONDITIONS),
-        Keyword::Refine => (Form::RelativePath, IN_REFINE_OF_YANG_1, &[]),
-        Keyword::Type => (Form::Name, IN_TYPE_OF_YANG_1, PATTERNS),
-        Keyword::Identity => (Form::Identifier, IN_IDENTITY_OF_YANG_1, &[]),
-        Keyword::Enum => (Form::Any, IN_ENUM, &[]),
-        Keyword::Bit => (Form::Identifier, IN_BIT, &[]),
+    let (form, once, substatements, behind): (
+        Form,
+        &'static [Word],
+        &'static [Allowed],
+        &'static [Word],
+    ) = match keyword {
+        Keyword::Import => (Form::Identifier, &[], IN_IMPORT_OF_YANG_1, &[]),
+        Keyword::LeafList => (Form::Identifier, WHENS, IN_LEAF_LIST_OF_YANG_1, CONSTRAINTS),
+        Keyword::Choice => (Form::Identifier, WHENS, IN_CHOICE_OF_YANG_1, CONDITIONS),
+        Keyword::Refine => (Form::RelativePath, &[], IN_REFINE_OF_YANG_1, MUSTS),
+        Keyword::Type => (Form::Name, &[], IN_TYPE_OF_YANG_1, PATTERNS),
+        Keyword::Identity => (Form::Identifier, &[], IN_IDENTITY_OF_YANG_1, &[]),
+        Keyword::Enum => (Form::Any, &[], IN_ENUM, &[]),
+        Keyword::Bit => (Form::Identifier, &[], IN_BIT, &[]),
         _ => return None,
     };
     Some(WideRule {
         form: AsBefore(form),
-        once: &[],
+        once,
         ahead: &[],
         substatements,
         behind,
@@ -247,7 +265,12 @@ fn core_rule(word: Word) -> WideRule
 {
     match word {
         Word::Known(keyword) => rule_as_before(rule_of(keyword)),
-        Word::Feature | Word::IfFeature | Word::Pattern | Word::Modifier => WideRule {
+        Word::Feature
+        | Word::IfFeature
+        | Word::Pattern
+        | Word::Modifier
+        | Word::Must
+        | Word::When => WideRule {
             form: AsBefore(Form::Any),
             once: &[],
             ahead: &[],
@@ -271,6 +294,34 @@ fn rule_of_pattern(version: YangVersion) -> WideRule
         once,
         ahead: &[],
         substatements: IN_RANGE,
+        behind: &[],
+    }
+}
+
+/// The row of `must`, whose argument isn't read.
+fn rule_of_must() -> WideRule
+    ensures rule { (version : languages.YangVersion) → wide_rule_view result ≡ wide.wide_rule version must_word }
+    ensures needs { needs (allowed_views result.substatements.now) ≡ [] }
+{
+    WideRule {
+        form: AsBefore(Form::Any),
+        once: &[],
+        ahead: &[],
+        substatements: IN_RANGE,
+        behind: &[],
+    }
+}
+
+/// The row of `when`, whose argument isn't read.
+fn rule_of_when() -> WideRule
+    ensures rule { (version : languages.YangVersion) → wide_rule_view result ≡ wide.wide_rule version when_word }
+    ensures needs { needs (allowed_views result.substatements.now) ≡ [] }
+{
+    WideRule {
+        form: AsBefore(Form::Any),
+        once: &[],
+        ahead: &[],
+        substatements: IN_REVISION,
         behind: &[],
     }
 }
@@ -306,6 +357,8 @@ fn wide_rule(version: YangVersion, word: Word) -> WideRule
             substatements: &[],
             behind: &[],
         },
+        Word::Must => rule_of_must(),
+        Word::When => rule_of_when(),
     }
 }
 
@@ -327,6 +380,11 @@ pub(crate) fn needs_in(word: Word) -> &'static [Keyword]
 {
     match word {
         Word::Known(keyword) => needs_of(keyword),
-        Word::Feature | Word::IfFeature | Word::Pattern | Word::Modifier => &[],
+        Word::Feature
+        | Word::IfFeature
+        | Word::Pattern
+        | Word::Modifier
+        | Word::Must
+        | Word::When => &[],
     }
 }

@@ -43,6 +43,7 @@ impl<'a> Source<'a> {
     ghost use Rattle.std.specs.Prelude.{◌≡◌, ℕ, option_map};
     ghost use Rattle.ytext.specs.View.{view};
     ghost use Rattle.yspec.specs.linking.TypeStatements.{built_in_named};
+    ghost use Rattle.yspec_wide.specs.Sources.{is_derived_type};
     ghost use Rattle.ybase_words.specs.KeywordView.{keyword_view};
     ghost use Rattle.ylink_grammar.specs.NamedType.{argument_text};
     ghost use Rattle.ylink_grammar.specs.SourceView.{source_view, stated_view};
@@ -58,6 +59,7 @@ impl<'a> Source<'a> {
               home = home;
             } }
         ensures whole { result.statement.now ≡ statement.entry.now }
+        ensures keyword { result.keyword ≡ keyword }
     {
         Source {
             keyword,
@@ -65,6 +67,13 @@ impl<'a> Source<'a> {
             statement,
             home,
         }
+    }
+
+    /// Whether it is a `type` statement that names no built-in type.
+    pub(crate) fn is_derived_type(&self) -> bool
+        ensures { result ≡ is_derived_type (keyword_view self.now.keyword) (view self.now.statement.now).0 }
+    {
+        Keyword::Type.is(self.keyword) && self.type_name.is_none()
     }
 
     /// The argument; no text where there is none.

@@ -3,7 +3,7 @@
 ghost use Rattle.ybase_preorder.specs.Layout.{IsLaidOut};
 ghost use Rattle.ybase_preorder.specs.View.{slots_in};
 
-use crate::adding::add_statement;
+use crate::adding::{add_statement, may_restrict};
 use crate::language::Language;
 use crate::source::Source;
 use std::alloc::{AllocError, Global};
@@ -42,7 +42,8 @@ impl<'a> Sources<'a> {
     {
         let mut table = Table::new(alloc);
         for (home, module) in modules.iter().enumerate() {
-            add_statement(language, &mut table, None, home, &module.top)?;
+            let may = may_restrict(language, &module.top);
+            add_statement(language, &mut table, None, home, may, false, &module.top)?;
         }
         Ok(Sources { table })
     }

@@ -58,7 +58,7 @@ const IN_IMPORT: &[Allowed] = &[
     Allowed(Keyword::Reference, Count::AtMostOne),
 ];
 
-const IN_REVISION: &[Allowed] = &[
+pub(crate) const IN_REVISION: &[Allowed] = &[
     Allowed(Keyword::Description, Count::AtMostOne),
     Allowed(Keyword::Reference, Count::AtMostOne),
 ];

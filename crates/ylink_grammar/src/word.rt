@@ -1,14 +1,14 @@
-//! The keywords of a language (RFC 7950, 7.20.1, 7.20.2, 9.4.5 and 9.4.6).
+//! The keywords of a language (RFC 7950, 7.5.3, 7.20.1, 7.20.2, 7.21.5, 9.4.5 and 9.4.6).
 
 ghost use Rattle.std.specs.Prelude.{◌≡◌, None, option_map};
 ghost use Rattle.yspec_wide.specs.Words as spec;
-ghost use Rattle.ylink_grammar.specs.LanguageView.{language_view};
+ghost use Rattle.ylink_grammar.specs.LanguageView.{language_view, unjudged_view};
 ghost use Rattle.ylink_grammar.specs.WordView.{word_view};
 
-use crate::language::Language;
+use crate::language::{Language, Unjudged};
 use ybase_words::Keyword;
 
-/// A keyword of a language: one of the core, or one of features or patterns.
+/// A keyword of a language: one of the core, of features or patterns, or a condition that isn't judged.
 #[derive(Clone, Copy, Debug)]
 pub enum Word {
     Known(Keyword),
@@ -16,6 +16,8 @@ pub enum Word {
     IfFeature,
     Pattern,
     Modifier,
+    Must,
+    When,
 }
 
 impl Word {
@@ -33,6 +35,8 @@ impl Word {
             Word::IfFeature => 49,
             Word::Pattern => 50,
             Word::Modifier => 51,
+            Word::Must => 52,
+            Word::When => 53,
         }
     }
 
@@ -57,6 +61,30 @@ fn added_word(text: &str) -> Option<Word>
     }
 }
 
+/// The condition that a text is, where it isn't to be judged.
+fn unjudged_word(unjudged: Unjudged, text: &str) -> Option<Word>
+    ensures { option_map word_view result ≡ spec.or_unjudged (unjudged_view unjudged) None text.now }
+{
+    if text == "must" && unjudged.musts {
+        Some(Word::Must)
+    } else if text == "when" && unjudged.whens {
+        Some(Word::When)
+    } else {
+        None
+    }
+}
+
+/// The keyword of the wide language that a text is besides those of the core, if it is one.
+fn wide_word(unjudged: Unjudged, text: &str) -> Option<Word>
+    ensures { option_map word_view result
+        ≡ spec.or_unjudged (unjudged_view unjudged) (spec.or_added None text.now) text.now }
+{
+    match added_word(text) {
+        Some(word) => Some(word),
+        None => unjudged_word(unjudged, text),
+    }
+}
+
 /// The keyword of a language that a text is, if it is one.
 pub fn word_named(language: &Language, text: &str) -> Option<Word>
     ensures { option_map word_view result
@@ -67,9 +95,9 @@ pub fn word_named(language: &Language, text: &str) -> Option<Word>
             Some(keyword) => Some(Word::Known(keyword)),
             None => None,
         },
-        Language::Rfc(_) => match Keyword::named(text) {
+        Language::Rfc(wide) => match Keyword::named(text) {
             Some(keyword) => Some(Word::Known(keyword)),
-            None => added_word(text),
+            None => wide_word(wide.unjudged, text),
         },
     }
 }

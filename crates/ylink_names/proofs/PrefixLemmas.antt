@@ -11,7 +11,7 @@ use Rattle.yspec.specs.linking.Keyword.{type_word}
 use Rattle.yspec.specs.linking.Arguments.{Name, unique_of}
 use Rattle.yspec.specs.linking.Prefixes.{is_unknown_prefix, names_given}
 use Rattle.yspec.specs.linking.Source.{Source}
-use Rattle.yspec.specs.linking.TypeStatements.{BuiltIn, integer, decimal64, string, boolean, empty, enumeration, bits, union, leafref, identityref, built_in_name, built_in_named}
+use Rattle.yspec.specs.linking.TypeStatements.{BuiltIn, integer, decimal64, string, boolean, empty, enumeration, bits, union, leafref, identityref, binary, built_in_name, built_in_named}
 use Rattle.yspec.proofs.LinkingProofs.BuiltInLemmas.{name_of_named}
 use Rattle.ybase_words.specs.declared.keyword.Keyword.{Keyword}
 use Rattle.ybase_words.specs.declared.keyword.Keyword.TheVariants as words
@@ -69,6 +69,7 @@ bare modules home bits = refl
 bare modules home union = refl
 bare modules home leafref = refl
 bare modules home identityref = refl
+bare modules home binary = refl
 
 pub no_prefix : (modules : Forest Source) (home : ℕ) (t : Text) → is_some (built_in_named t) ≡ true
     → false ≡ list_any (is_unknown_prefix modules home) (names_given type_word t)

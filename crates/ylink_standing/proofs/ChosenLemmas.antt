@@ -14,7 +14,7 @@ use Rattle.yspec.specs.linking.Identities.{module_name}
 use Rattle.yspec.specs.linking.Scopes.{Placed}
 use Rattle.yspec.specs.linking.Source.{Source, argument_in}
 use Rattle.yspec.specs.text.Text.{Text, is_text}
-use Rattle.yspec_wide.specs.Language.{Choosing, Language, core, rfc, is_chosen, is_chosen_of}
+use Rattle.yspec_wide.specs.Language.{Wide, Language, core, rfc, is_chosen, is_chosen_of}
 use Rattle.yspec_wide.specs.Sources.{is_feature}
 use Rattle.ybase_preorder.specs.declared.slot.Slot.{Slot}
 use Rattle.ybase_preorder.specs.Layout.{numbered_by, forest_of}
@@ -66,7 +66,7 @@ module _ {N : Type 0} (says : N → Bool) where
 -- the number of a statement says nothing of it
 same_feature : (language : Language) (n : ℕ) (s : held.Source) → is_feature language (source_view 0 s) ≡ is_feature language (source_view n s)
 same_feature core n s = refl
-same_feature (rfc choosings) n s = refl
+same_feature (rfc wide) n s = refl
 
 got : {X : Type 0} (says : X → Bool) (xs : List X) (n : ℕ) → get_or (map says xs) n false ≡ option_map_or says (slice_get xs n) false
 got says [] n = refl
@@ -81,12 +81,12 @@ name_is modules names home are = ap (λ l. name_among l home) are
     by None = refl
     by (Some s) = refl
 
-module _ (rows : List (Slot held.Source)) (language : Language) (choosings : List Choosing) (is : language ≡ rfc choosings) where
+module _ (rows : List (Slot held.Source)) (language : Language) (wide : Wide) (is : language ≡ rfc wide) where
   abbrev set : Forest Source
   set = numbered_by source_view 0 (forest_of rows)
 
   pub all_chosen : (chosen : Text → Text → Bool) (names : List Text) (slots : List (Slot held.Source)) (table : List Bool)
-      → ((name feature : Text) → chosen name feature ≡ is_chosen_of choosings name feature) → names ≡ map argument_in (row set) → slots ≡ rows
+      → ((name feature : Text) → chosen name feature ≡ is_chosen_of wide.choosings name feature) → names ≡ map argument_in (row set) → slots ≡ rows
       → table ≡ map (λ (r : Slot held.Source). is_chosen_by language chosen names (source_view 0 r.label)) slots → AreChosen table language set
   all_chosen chosen names slots table so named same made p at =
       ap (λ (l : List Bool). get_or l n false) (made ∙ ap (map says) same)
@@ -110,5 +110,5 @@ module _ (rows : List (Slot held.Source)) (language : Language) (choosings : Lis
 
       meant : chosen (name_among names p.source.home) (argument_in p.source) ≡ is_chosen language (module_name set p.source.home) (argument_in p.source)
       meant = so (name_among names p.source.home) (argument_in p.source)
-          ∙ (ap (λ name. is_chosen_of choosings name (argument_in p.source)) (name_is set names p.source.home named)
+          ∙ (ap (λ name. is_chosen_of wide.choosings name (argument_in p.source)) (name_is set names p.source.home named)
           ∙ sym (ap (λ l. is_chosen l (module_name set p.source.home) (argument_in p.source)) is))

@@ -80,8 +80,8 @@ pub(crate) fn chosen_of(
 {
     match language {
         Language::Core => Ok(Vec::new(alloc)),
-        Language::Rfc(choosings) => {
-            let chosen = Chosen::of(alloc, choosings.as_slice())?;
+        Language::Rfc(wide) => {
+            let chosen = Chosen::of(alloc, wide.choosings.as_slice())?;
             let names = module_names(alloc, sources)?;
             chosen_among(alloc, language, &chosen, names.as_slice(), sources.slots())
         }

@@ -23,7 +23,7 @@ use Rattle.yspec.specs.linking.Identities.{assigned_identity, identities_of, is_
 use Rattle.yspec.specs.linking.Keyword.{identity_word, type_word}
 use Rattle.yspec.specs.linking.Scopes.{Placed, placed}
 use Rattle.yspec.specs.linking.Source.{Source, is_source_of, argument_in}
-use Rattle.yspec_wide.specs.Types.{numbers_kept}
+use Rattle.yspec_wide.specs.Types.{keeps, Keeping, numbers_kept}
 use Rattle.ybase_graph.specs.Derivation.{derives}
 use Rattle.ybase_preorder.specs.Layout.{numbered_by, labels_by, forest_of}
 use Rattle.ybase_preorder.specs.declared.slot.Slot.{Slot}
@@ -40,7 +40,7 @@ Listed = ℕ × ℕ × Text × Bool
 
 -- ---- statements of a row, one after another
 
-module _ (kept : Forest Source → Bool) where
+module _ (kept : Keeping) where
   pub next_listed : (s : Source) (below after before : Forest Source) → before ≡ node s below after
       → (so_far mid more whole : List Listed) → mid ≡ so_far ++ listed kept s below → more ≡ mid ++ listed_in kept below
       → so_far ++ listed_in kept before ≡ whole → more ++ listed_in kept after ≡ whole
@@ -99,9 +99,9 @@ filter_append {A} p (x ∷ xs) ys = by (p x) (filter_append p xs ys)
 abbrev own_number : Source → List ℕ
 own_number s = cond (is_source_of identity_word s) (s.number ∷ []) []
 
-module _ (kept : Forest Source → Bool) where
+module _ (kept : Keeping) where
   abbrev listed_by : Placed → Listed
-  listed_by p = (p.source.number, p.source.home, argument_in p.source, kept p.below)
+  listed_by p = (p.source.number, p.source.home, argument_in p.source, keeps kept p.below)
 
   listed_among : (ancestors : List (Source × Forest Source)) (f : Forest Source) → listed_in kept f ≡ map listed_by (filter is_identity (placed ancestors f))
   unfolding placed listed_in
@@ -118,9 +118,9 @@ module _ (kept : Forest Source → Bool) where
       behind = placed ancestors after
 
       by : (b : Bool) → listed_in kept below ++ listed_in kept after ≡ map listed_by (filter is_identity (inner ++ behind))
-          → cond b ((s.number, s.home, argument_in s, kept below) ∷ []) [] ++ (listed_in kept below ++ listed_in kept after)
+          → cond b ((s.number, s.home, argument_in s, keeps kept below) ∷ []) [] ++ (listed_in kept below ++ listed_in kept after)
           ≡ map listed_by (cond b (record { source = s; below = below; ancestors = ancestors } ∷ filter is_identity (inner ++ behind)) (filter is_identity (inner ++ behind)))
-      by true rest = ap (λ (l : List Listed). (s.number, s.home, argument_in s, kept below) ∷ l) rest
+      by true rest = ap (λ (l : List Listed). (s.number, s.home, argument_in s, keeps kept below) ∷ l) rest
       by false rest = rest
 
   all_of_set : (set : Forest Source) → listed_in kept set ≡ map listed_by (identities_of set)
@@ -137,7 +137,7 @@ module _ (kept : Forest Source → Bool) where
       ∙ (ap₂ (λ (a b : List ℕ). a ++ b) (numbers_in below) (numbers_in after)
       ∙ sym (flat_map-append own_number (preorder below) (preorder after))))
     where
-      by : (b : Bool) → map listed_number (cond b ((s.number, s.home, argument_in s, kept below) ∷ []) []) ≡ cond b (s.number ∷ []) []
+      by : (b : Bool) → map listed_number (cond b ((s.number, s.home, argument_in s, keeps kept below) ∷ []) []) ≡ cond b (s.number ∷ []) []
       by true = refl
       by false = refl
 
@@ -165,7 +165,7 @@ module _ (set : Forest Source) where
       by None = refl
       by (Some s) = refl
 
-module _ (kept : Forest Source → Bool) (set : Forest Source) where
+module _ (kept : Keeping) (set : Forest Source) where
   assigned_so : (ps : List Placed) → map (λ p. assigned_of (map argument_in (row set)) (listed_by kept p)) ps ≡ map (assigned_identity set) ps
   assigned_so [] = refl
   assigned_so (p ∷ ps) =
@@ -173,7 +173,7 @@ module _ (kept : Forest Source → Bool) (set : Forest Source) where
       (named_so set p.source.home) (assigned_so ps)
 
   module _ (made : List Identity) (is : map identity_view made ≡ listed_in kept set) where
-    pub numbers_listed : map number_of (filter is_kept made) ≡ map (λ (p : Placed). p.source.number) (filter (λ (p : Placed). kept p.below) (identities_of set))
+    pub numbers_listed : map number_of (filter is_kept made) ≡ map (λ (p : Placed). p.source.number) (filter (λ (p : Placed). keeps kept p.below) (identities_of set))
     numbers_listed =
         sym (map_kept listed_number listed_kept identity_view made)
         ∙ (ap (λ l. map listed_number (filter listed_kept l)) (is ∙ all_of_set kept set) ∙ map_kept listed_number listed_kept (listed_by kept) (identities_of set))
@@ -208,7 +208,7 @@ ascend_listed k (r ∷ slots) = by (is_source_of identity_word (source_view k r.
     by true rest = (omega arith, ascend_from (k + 1) (suc k) others (omega arith) rest)
     by false rest = ascend_from (k + 1) k others (omega arith) rest
 
-pub numbers_ascend : (kept : Forest Source → Bool) (slots : List (Slot held.Source)) (made : List Identity)
+pub numbers_ascend : (kept : Keeping) (slots : List (Slot held.Source)) (made : List Identity)
     → map identity_view made ≡ listed_in kept (numbered_by source_view 0 (forest_of slots)) → Ascend 0 (map number_of made)
 numbers_ascend kept slots made is =
     subst (Ascend 0) (sym (sym (map_twice listed_number identity_view made)
@@ -246,22 +246,22 @@ next_number identities i d so_far after whole within added made =
 
 -- ---- derivation
 
-module _ (kept : Forest Source → Bool) (set : Forest Source) (numbers : List ℕ)
-    (are : numbers ≡ map (λ (p : Placed). p.source.number) (filter (λ (p : Placed). kept p.below) (identities_of set))) where
-  kept_by : (q : ℕ → Bool) (ps : List Placed) → map (λ (p : Placed). pos p.source.number) (filter (λ (p : Placed). kept p.below && q p.source.number) ps)
-      ≡ map pos (filter q (map (λ (p : Placed). p.source.number) (filter (λ (p : Placed). kept p.below) ps)))
+module _ (kept : Keeping) (set : Forest Source) (numbers : List ℕ)
+    (are : numbers ≡ map (λ (p : Placed). p.source.number) (filter (λ (p : Placed). keeps kept p.below) (identities_of set))) where
+  kept_by : (q : ℕ → Bool) (ps : List Placed) → map (λ (p : Placed). pos p.source.number) (filter (λ (p : Placed). keeps kept p.below && q p.source.number) ps)
+      ≡ map pos (filter q (map (λ (p : Placed). p.source.number) (filter (λ (p : Placed). keeps kept p.below) ps)))
   kept_by q [] = refl
-  kept_by q (p ∷ ps) = by (kept p.below) (q p.source.number) refl (kept_by q ps)
+  kept_by q (p ∷ ps) = by (keeps kept p.below) (q p.source.number) refl (kept_by q ps)
     where
       both : List Placed
-      both = filter (λ (p : Placed). kept p.below && q p.source.number) ps
+      both = filter (λ (p : Placed). keeps kept p.below && q p.source.number) ps
 
       first : List ℕ
-      first = map (λ (p : Placed). p.source.number) (filter (λ (p : Placed). kept p.below) ps)
+      first = map (λ (p : Placed). p.source.number) (filter (λ (p : Placed). keeps kept p.below) ps)
 
       by : (b c : Bool) → q p.source.number ≡ c → map (λ (p : Placed). pos p.source.number) both ≡ map pos (filter q first)
           → map (λ (p : Placed). pos p.source.number) (cond (b && q p.source.number) (p ∷ both) both)
-          ≡ map pos (filter q (map (λ (p : Placed). p.source.number) (cond b (p ∷ filter (λ (p : Placed). kept p.below) ps) (filter (λ (p : Placed). kept p.below) ps))))
+          ≡ map pos (filter q (map (λ (p : Placed). p.source.number) (cond b (p ∷ filter (λ (p : Placed). keeps kept p.below) ps) (filter (λ (p : Placed). keeps kept p.below) ps))))
       by true true is rest = ap (λ c. map (λ (p : Placed). pos p.source.number) (cond c (p ∷ both) both)) is
           ∙ (ap (λ (l : List ℤ). pos p.source.number ∷ l) rest
           ∙ sym (ap (λ c. map pos (cond c (p.source.number ∷ filter q first) (filter q first))) is))
@@ -297,8 +297,8 @@ all_numbers [] = refl
 all_numbers (n ∷ ns) = ap (λ (l : List ℕ). n ∷ l) (all_numbers ns)
 
 -- the same of a set
-module _ (kept : Forest Source → Bool) (set : Forest Source) (numbers : List ℕ)
-    (are : numbers ≡ map (λ (p : Placed). p.source.number) (filter (λ (p : Placed). kept p.below) (identities_of set))) where
+module _ (kept : Keeping) (set : Forest Source) (numbers : List ℕ)
+    (are : numbers ≡ map (λ (p : Placed). p.source.number) (filter (λ (p : Placed). keeps kept p.below) (identities_of set))) where
   abbrev pub derived_numbers : List ℕ → List ℕ
   derived_numbers bases = filter (λ n. list_all (derives (definition_edges set) n) bases) numbers
 

@@ -10,9 +10,9 @@ use Rattle.yspec.specs.linking.DerivedTypes.{Known, unknown, named, verdict_by, 
 use Rattle.yspec.specs.linking.Keyword.{same_keyword, type_word, typedef_word, default_word}
 use Rattle.yspec.specs.linking.Scopes.{Placed, placed, statements_of, statement_at, meaning, kind_named}
 use Rattle.yspec.specs.linking.Source.{Source, Stated, is_source_of, found_with, stated_with}
-use Rattle.yspec.specs.linking.TypeStatements.{wrong, are_in_place, built_in_meant, derived}
+use Rattle.yspec.specs.linking.TypeStatements.{wrong, are_in_place, built_in_meant, derived_by}
 use Rattle.yspec.proofs.LinkingProofs.KeywordLemmas.{same_is}
-use Rattle.yspec_wide.specs.Types.{verdict_of, verdicts_of, verdict_on_of, verdict_in_place_of, known_of, known_in_row_of}
+use Rattle.yspec_wide.specs.Types.{Keeping, all_names, named_kept, verdict_of, verdicts_of, verdict_on_of, verdict_in_place_of, known_of, known_in_row_of}
 use Rattle.yspec_wide.proofs.CoreTypeLemmas.{known_in_row_alike}
 use Rattle.ybase_graph.specs.Reaching.{HasEdge}
 use Rattle.ybase_preorder.proofs.NumberLemmas.{AreFrom, found_again, found_among}
@@ -22,7 +22,7 @@ use Rattle.ylink_names.proofs.PlacedLemmas.{number_of, edge_among, below_them}
 
 -- ---- verdicts
 
-module _ (kept : Forest Source → Bool) (modules : Forest Source) (f g : ℕ → Known) where
+module _ (kept : Keeping) (modules : Forest Source) (f g : ℕ → Known) where
   -- they say the same of the `type` statements of a row, and of those below these
   abbrev pub Agree : Forest Source → Type 0
   Agree end = ⊤
@@ -42,7 +42,7 @@ module _ (kept : Forest Source → Bool) (modules : Forest Source) (f g : ℕ �
           let own = a.0 is in
           ap₂ (λ v vs. v ∷ vs)
           (ap₂ (λ (k : Known) vs. option_map_or (λ type. cond (are_in_place type below) (verdict_in_place_of kept modules true s type below vs) wrong)
-          (built_in_meant modules s) (derived true below k.verdict)) own.0 (inner own.1))
+          (built_in_meant modules s) (derived_by (named_kept kept below) true below k.verdict)) own.0 (inner own.1))
           rest
       by false is inner rest = rest
 
@@ -50,7 +50,7 @@ module _ (kept : Forest Source → Bool) (modules : Forest Source) (f g : ℕ �
       → verdict_on_of kept modules (verdict_by f) is_member s below ≡ verdict_on_of kept modules (verdict_by g) is_member s below
   same_verdict is_member s below own inner =
       ap₂ (λ (k : Known) vs. option_map_or (λ type. cond (are_in_place type below) (verdict_in_place_of kept modules is_member s type below vs) wrong)
-      (built_in_meant modules s) (derived is_member below k.verdict)) own (same_verdicts below inner)
+      (built_in_meant modules s) (derived_by (named_kept kept below) is_member below k.verdict)) own (same_verdicts below inner)
 
   pub agree_all : ((n : ℕ) → f n ≡ g n) → (row : Forest Source) → Agree row
   agree_all all end = tt
@@ -104,7 +104,7 @@ module _ (kept : Forest Source → Bool) (modules : Forest Source) (f g : ℕ �
 -- ---- a set of modules
 
 -- whose statements have the numbers from 0 on
-module _ (kept : Forest Source → Bool) (set : Forest Source) (numbered : AreFrom number_of 0 (statements_of set)) where
+module _ (kept : Keeping) (set : Forest Source) (numbered : AreFrom number_of 0 (statements_of set)) where
   module _ (known_here known_there : ℕ → Known) (d : ℕ) (same : (e : ℕ) → HasEdge (definition_edges set) d e → known_here e ≡ known_there e) where
     -- of a statement in the typedef
     same_named : (p : Placed) → Contains (statements_of set) p → referring p ≡ Some d → named set known_here p.source.number ≡ named set known_there p.source.number
@@ -153,5 +153,5 @@ pub same_known : (set : Forest Source) → AreFrom number_of 0 (statements_of se
 same_known set numbered known_here known_there d same =
     let of = λ (in_row : Forest Source → Known). option_map_or in_row (typedef_row set d) unknown in
     sym (ap of (known_in_row_alike set (named set known_here)))
-    ∙ (same_known_of (λ own. true) set numbered known_here known_there d same
+    ∙ (same_known_of all_names set numbered known_here known_there d same
     ∙ ap of (known_in_row_alike set (named set known_there)))

@@ -12,7 +12,7 @@ use Rattle.std.proofs.lemmas.List.Sorted.{All-permutation, Contains-permutation,
 use Rattle.yspec.specs.Forest.{Forest, size}
 use Rattle.yspec.specs.linking.Circles.{circle_break, definition_circles, definition_edge, definition_edges}
 use Rattle.yspec.specs.linking.DerivedTypes.{Known, unknown, number_named, named, typedef_row}
-use Rattle.yspec_wide.specs.Types.{known_in_row_of, known_named_of, known_within_of}
+use Rattle.yspec_wide.specs.Types.{Keeping, known_in_row_of, known_named_of, known_within_of}
 use Rattle.yspec.specs.linking.Graph as graph
 use Rattle.yspec.specs.linking.Graph.{is_on_circle}
 use Rattle.yspec.specs.linking.Scopes.{Placed, meaning, statements_of, statement_at}
@@ -48,7 +48,7 @@ any_at e (x ∷ xs) (suc i) within is = by (e == x) (any_at e xs i (omega (arith
     by false rest = rest
 
 -- of the first typedefs in an order it is known what they mean in the end
-abbrev pub IsLearned : (Forest Source → Bool) → Forest held.Source → List ℕ → (ℕ → Known) → ℕ → Type 0
+abbrev pub IsLearned : Keeping → Forest held.Source → List ℕ → (ℕ → Known) → ℕ → Type 0
 IsLearned kept f nodes table i = (j : ℕ) → j < i → j < length nodes
     → table (get_or nodes j 0) ≡ known_within_of kept (numbered_by source_view 0 f) (size (numbered_by source_view 0 f)) (get_or nodes j 0)
 
@@ -59,7 +59,7 @@ module _ (f : Forest held.Source) where
   same_size : size set ≡ size f
   same_size = size-by source_view 0 f
 
-  module _ (kept : Forest Source → Bool) (nodes : List ℕ) (order : AreInOrder nodes set) where
+  module _ (kept : Keeping) (nodes : List ℕ) (order : AreInOrder nodes set) where
     abbrev finally : ℕ → Known
     finally = known_within_of kept set (size set)
 

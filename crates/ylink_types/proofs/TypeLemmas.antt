@@ -10,7 +10,7 @@ use Rattle.std.specs.Option.{option_map_or}
 use Rattle.yspec.specs.types.Types.{YangType}
 use Rattle.yspec.specs.types.Restriction.{union_type}
 use Rattle.yspec.specs.linking.Keyword.{type_word}
-use Rattle.yspec_wide.specs.Types.{single_type_of, verdict_in_place_of, verdict_of, verdicts_of}
+use Rattle.yspec_wide.specs.Types.{Keeping, single_type_of, verdict_in_place_of, verdict_of, verdicts_of}
 use Rattle.ybase_words.specs.BuiltInView.{built_in_view}
 use Rattle.ybase_words.specs.declared.builtin.BuiltIn.{BuiltIn}
 use Rattle.ybase_words.specs.declared.builtin.BuiltIn.TheVariants as built_in
@@ -43,7 +43,7 @@ module _ (type : spec.BuiltIn) (s : Source) (below after before : Forest Source)
 
 -- ---- types that are no unions, no leafrefs and no identityrefs
 
-module _ (kept : Forest Source → Bool) (modules : Forest Source) (member : Bool) (s : Source) (below : Forest Source) (members : List spec.Verdict) where
+module _ (kept : Keeping) (modules : Forest Source) (member : Bool) (s : Source) (below : Forest Source) (members : List spec.Verdict) where
   pub other_in_place : (type : BuiltIn) → type ≢ built_in.Union → type ≢ built_in.Leafref → type ≢ built_in.Identityref
       → option_map_or (λ (t : YangType). spec.means (spec.own t)) (single_type_of kept (built_in_view type) below) spec.wrong
       ≡ verdict_in_place_of kept modules member s (built_in_view type) below members
@@ -64,6 +64,7 @@ module _ (kept : Forest Source → Bool) (modules : Forest Source) (member : Boo
   other_in_place built_in.Union a b c = absurd (a refl)
   other_in_place built_in.Leafref a b c = absurd (b refl)
   other_in_place built_in.Identityref a b c = absurd (c refl)
+  other_in_place built_in.Binary a b c = refl
 
 -- ---- `type` statements of a row, one after another
 
@@ -90,7 +91,7 @@ module _ (one : Source → Forest Source → spec.Verdict) (all : Forest Source 
   no_more_verdicts left so_far whole ended made =
       sym (ap (λ l. so_far ++ l) (ap all ended ∙ none) ∙ append-nil so_far) ∙ made
 
-module _ (kept : Forest Source → Bool) (modules : Forest Source) (named : ℕ → spec.Verdict) where
+module _ (kept : Keeping) (modules : Forest Source) (named : ℕ → spec.Verdict) where
   abbrev pub one_judged : Source → Forest Source → spec.Verdict
   one_judged s below = verdict_of kept modules named true s below (verdicts_of kept modules named below)
 

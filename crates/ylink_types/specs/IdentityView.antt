@@ -17,15 +17,16 @@ use Rattle.ybase_graph.specs.Edges.{edge_view}
 use Rattle.ylink_types.specs.DerivedView.{Ascend, AreSets}
 use Rattle.ylink_types.specs.declared.identities.Identity.{Identity}
 use Rattle.ylink_types.specs.declared.identities.Identities.{Identities}
+use Rattle.yspec_wide.specs.Types.{Keeping, keeps}
 
 -- ---- identities, one by one
 
 -- a statement that is an identity, by its number, that of its module, its name, and whether it is kept
-abbrev pub listed : (Forest Source → Bool) → Source → Forest Source → List (ℕ × ℕ × Text × Bool)
-listed kept s below = if is_source_of identity_word s then (s.number, s.home, argument_in s, kept below) ∷ [] else []
+abbrev pub listed : Keeping → Source → Forest Source → List (ℕ × ℕ × Text × Bool)
+listed kept s below = if is_source_of identity_word s then (s.number, s.home, argument_in s, keeps kept below) ∷ [] else []
 
 -- those of a row, and below it
-unfoldable pub listed_in : (Forest Source → Bool) → Forest Source → List (ℕ × ℕ × Text × Bool)
+unfoldable pub listed_in : Keeping → Forest Source → List (ℕ × ℕ × Text × Bool)
 listed_in kept end = []
 listed_in kept (node s below after) = listed kept s below ++ (listed_in kept below ++ listed_in kept after)
 
@@ -51,9 +52,9 @@ abbrev pub assigned_by : List Text → Identity → Assigned
 assigned_by names i = record { name = identity_name (name_among names i.home) i.name.now; number = pos i.number }
 
 -- they are those of a set
-pub record IsOf (kept : Forest Source → Bool) (i : Identities) (modules : Forest Source) : Type 0 where
+pub record IsOf (kept : Keeping) (i : Identities) (modules : Forest Source) : Type 0 where
   pub names : i.names.value ≡ map (assigned_identity modules) (identities_of modules)
-  pub numbers : i.numbers.items ≡ map (λ p. p.source.number) (filter (λ p. kept p.below) (identities_of modules))
+  pub numbers : i.numbers.items ≡ map (λ p. p.source.number) (filter (λ p. keeps kept p.below) (identities_of modules))
   pub ascend : Ascend 0 i.numbers.items
   pub homes : map home_view i.homes.items ≡ map argument_in (row modules)
   pub edges : map edge_view i.edges.items ≡ definition_edges modules

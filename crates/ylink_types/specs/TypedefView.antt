@@ -7,7 +7,7 @@ use Rattle.yspec.specs.linking.Source.{Source}
 use Rattle.yspec.specs.linking.Scopes.{number_named}
 use Rattle.yspec.specs.linking.TypeStatements.{Verdict}
 use Rattle.yspec.specs.linking.DerivedTypes as spec
-use Rattle.yspec_wide.specs.Types.{known_named_of}
+use Rattle.yspec_wide.specs.Types.{Keeping, known_named_of}
 use Rattle.ylink_grammar.specs.SourceView.{stated_view}
 use Rattle.ylink_names.specs.MeaningView.{meaning_at}
 use Rattle.ylink_types.specs.IdentityView as identity
@@ -37,7 +37,7 @@ abbrev pub verdicts_in : Typedefs → ℕ → Verdict
 verdicts_in t = spec.verdict_by (names_in t)
 
 -- they are the typedefs of a set, over the names of values that are kept
-abbrev pub AreOf : (Forest Source → Bool) → Typedefs → Forest Source → Type 0
+abbrev pub AreOf : Keeping → Typedefs → Forest Source → Type 0
 AreOf kept t modules = (number : ℕ) → names_in t number ≡ known_named_of kept modules number
 
 -- or over all names
@@ -45,6 +45,6 @@ abbrev pub IsOf : Typedefs → Forest Source → Type 0
 IsOf t modules = (number : ℕ) → names_in t number ≡ spec.known_named modules number
 
 -- they rest on what names of a set mean, and on its identities
-pub record RestsOn (kept : Forest Source → Bool) (t : Typedefs) (modules : Forest Source) : Type 0 where
+pub record RestsOn (kept : Keeping) (t : Typedefs) (modules : Forest Source) : Type 0 where
   pub named : (number : ℕ) → number_named modules number ≡ meaning_at t.meanings.items number
   pub identities : identity.IsOf kept t.identities modules

@@ -212,7 +212,7 @@ impl Identities {
 
     /// The name of the module of a number.
     fn home(&self, alloc: Global, home: usize) -> Result<Rc<String>, AllocError>
-        ensures { (kept : Forest sources.Source → Bool)
+        ensures { (kept : wide.Keeping)
             (modules : Forest sources.Source) → IsOf kept self.now modules
             → IfOk result (λ name. home_view name ≡ spec.module_name modules home) }
     {
@@ -224,7 +224,7 @@ impl Identities {
 
     /// Those that are kept and derive from an identity, by their numbers.
     fn derived_from(&self, alloc: Global, base: u32) -> Result<Derived, AllocError>
-        ensures { (kept : Forest sources.Source → Bool)
+        ensures { (kept : wide.Keeping)
             (modules : Forest sources.Source) → IsOf kept self.now modules
             → IfOk result (λ set. set.value.keys ≡ wide.numbers_kept kept modules (base ∷ [])) }
     {
@@ -242,7 +242,7 @@ impl Identities {
         first: u32,
         others: &[u32],
     ) -> Result<Derived, AllocError>
-        ensures { (kept : Forest sources.Source → Bool)
+        ensures { (kept : wide.Keeping)
             (modules : Forest sources.Source) → IsOf kept self.now modules
             → IfOk result (λ set. set.value.keys
             ≡ wide.numbers_kept kept modules (first ∷ others.now)) }
@@ -266,7 +266,7 @@ impl Identities {
         home: usize,
         bases: &[u32],
     ) -> Result<Option<YType>, AllocError>
-        ensures { (kept : Forest sources.Source → Bool)
+        ensures { (kept : wide.Keeping)
             (modules : Forest sources.Source) → IsOf kept self.now modules
             → IfOk result (λ made. option_map_or (λ t. types.means (types.own t)) made types.wrong
             ≡ wide.identity_verdict_of kept modules home bases.now) }

@@ -1,6 +1,6 @@
 //! What `type` statements name and mean (RFC 7950, 7.4 and 9).
 
-ghost use Rattle.std.specs.Prelude.{◌≡◌, ℕ, Bool, IfOk, false, true, None, map, nat_lt, option_map, option_and_then};
+ghost use Rattle.std.specs.Prelude.{◌≡◌, ℕ, IfOk, false, true, None, map, nat_lt, option_map, option_and_then};
 ghost use Rattle.std.specs.Option.{option_map_or};
 ghost use Rattle.yspec.specs.Forest.{Forest, row};
 ghost use Rattle.yspec.specs.linking.Arguments.{fraction_digits_of, leafref_path_of};
@@ -30,7 +30,7 @@ use ylink_arguments::{Name, fraction_digits, leafref_path};
 use ylink_grammar::{Source, Sources, argument_of, argument_with};
 use ylink_values::{
     Kept, NamingKind, accepted_type, is_pattern_statement, matched_type, measured_type, named_type,
-    narrowed_type, ranged_type,
+    narrowed_type, ranged_type, renamed_type,
 };
 use ytype::{FractionDigits, YType};
 
@@ -79,6 +79,7 @@ fn may_bear(type_name: BuiltIn, keyword: Keyword) -> bool
         BuiltIn::Union => matches!(keyword, Keyword::Type),
         BuiltIn::Leafref => matches!(keyword, Keyword::Path | Keyword::RequireInstance),
         BuiltIn::Identityref => matches!(keyword, Keyword::Base),
+        BuiltIn::Binary => matches!(keyword, Keyword::Length),
         BuiltIn::Boolean | BuiltIn::Empty => false,
     }
 }
@@ -173,6 +174,7 @@ fn single_type(
         BuiltIn::Empty => accepted_type(YType::empty(alloc)),
         BuiltIn::Enumeration => named_type(alloc, kept, NamingKind::Enum, below),
         BuiltIn::Bits => named_type(alloc, kept, NamingKind::Bit, below),
+        BuiltIn::Binary => measured_type(alloc, below, YType::binary(alloc)),
         BuiltIn::Union | BuiltIn::Leafref | BuiltIn::Identityref => Ok(None),
     }
 }
@@ -299,7 +301,7 @@ fn identity_verdict<'t>(
     typedefs: &Typedefs<'t>,
     statement: Node<'_, Source<'t>>,
 ) -> Result<Verdict<'t>, AllocError>
-    ensures { (kept : Forest sources.Source → Bool) (modules : Forest sources.Source)
+    ensures { (kept : wide.Keeping) (modules : Forest sources.Source)
         → RestsOn kept typedefs.now modules
         → IfOk result (λ verdict. verdict_view verdict ≡ wide.identity_verdict_of kept modules
         statement.entry.label.now.home
@@ -407,7 +409,7 @@ fn matched_meant<'t>(
 }
 
 /// What both make of it, patterns behind the others.
-fn derived_meant<'t>(
+fn limited_meant<'t>(
     alloc: Global,
     meant: Meant<'t>,
     below: Siblings<'_, Source<'t>>,
@@ -422,15 +424,55 @@ fn derived_meant<'t>(
     }
 }
 
+/// What the names of a `type` statement make of what the typedef means that it names, given which are kept.
+fn named_meant<'t>(
+    alloc: Global,
+    kept: Kept<'_>,
+    meant: Meant<'t>,
+    below: Siblings<'_, Source<'t>>,
+) -> Result<Option<Meant<'t>>, AllocError>
+    ensures { IfOk result (λ made. option_map meant_view made
+        ≡ spec.named_meant (wide.named_kept (kept_view kept.entry) (row_by source_view below.entry))
+        (meant_view meant.entry)) }
+{
+    match meant {
+        Meant::Own(outer) => match renamed_type(alloc, kept, outer, below)? {
+            Some(left) => Ok(Some(Meant::Own(left))),
+            None => Ok(None),
+        },
+        target @ Meant::OfTarget { .. } => Ok(Some(target)),
+    }
+}
+
+/// What all make of it, names behind the others.
+fn derived_meant<'t>(
+    alloc: Global,
+    kept: Kept<'_>,
+    meant: Meant<'t>,
+    below: Siblings<'_, Source<'t>>,
+) -> Result<Option<Meant<'t>>, AllocError>
+    ensures { let row = row_by source_view below.entry in
+        IfOk result (λ made. option_map meant_view made
+        ≡ option_and_then (spec.named_meant (wide.named_kept (kept_view kept.entry) row))
+        (option_and_then (spec.matched_meant row) (spec.restricted_in row (meant_view meant.entry)))) }
+{
+    match limited_meant(alloc, meant, below)? {
+        Some(limited) => named_meant(alloc, kept, limited, below),
+        None => Ok(None),
+    }
+}
+
 /// The verdict on a `type` statement that names a typedef, given what is known of that one.
 fn derived<'t>(
     alloc: Global,
+    kept: Kept<'_>,
     is_member: bool,
     named: Option<&Known<'t>>,
     below: Siblings<'_, Source<'t>>,
 ) -> Result<Verdict<'t>, AllocError>
     ensures { IfOk result (λ verdict. verdict_view verdict
-        ≡ spec.derived is_member (row_by source_view below.entry)
+        ≡ spec.derived_by (wide.named_kept (kept_view kept.entry) (row_by source_view below.entry)) is_member
+        (row_by source_view below.entry)
         (option_map_or (λ k. known_view k.now) named.entry unknown).verdict) }
 {
     let Some(known) = named else {
@@ -442,7 +484,7 @@ fn derived<'t>(
     if is_member && meant.is_reference() {
         return Ok(Verdict::Wrong);
     }
-    match derived_meant(alloc, meant.copy()?, below)? {
+    match derived_meant(alloc, kept, meant.copy()?, below)? {
         Some(made) => Ok(Verdict::Means(made)),
         None => Ok(Verdict::Wrong),
     }
@@ -467,7 +509,7 @@ pub fn judge_type<'t>(
 {
     let Some(type_name) = built_in_meant(sources, statement.number(), statement.label()) else {
         let named = typedefs.named(statement.number());
-        return derived(alloc, is_member, named, statement.children());
+        return derived(alloc, kept, is_member, named, statement.children());
     };
     if !are_in_place(type_name, statement.children()) {
         return Ok(Verdict::Wrong);

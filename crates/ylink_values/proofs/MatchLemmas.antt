@@ -5,7 +5,7 @@ use Rattle.yspec.specs.Forest.{Forest, end, node}
 use Rattle.yspec.specs.types.Restriction.{narrowed}
 use Rattle.yspec.specs.types.Types.{YangType}
 use Rattle.yspec.specs.linking.Source.{Source}
-use Rattle.yspec.specs.linking.TypeStatements.{own, is_pattern_statement, pattern_stated, matched_in, narrowed_by, restricted_by}
+use Rattle.yspec.specs.linking.TypeStatements.{own, is_pattern_statement, pattern_stated, matched_in, comes_behind, narrowed_by, restricted_by}
 
 module _ (s : Source) (below after before : Forest Source) (first : before ≡ node s below after) (type : YangType) where
   there : matched_in before type ≡ cond (is_pattern_statement s)
@@ -30,10 +30,10 @@ matched_all left type ended = sym (ap (λ f. matched_in f type) ended)
 -- ---- one of them, where it isn't its turn, and another restriction
 
 module _ (s : Source) (below : Forest Source) (type : YangType) where
-  pub left_alone : is_pattern_statement s ≡ true → Some (own type) ≡ restricted_by s below (own type)
+  pub left_alone : comes_behind s ≡ true → Some (own type) ≡ restricted_by s below (own type)
   left_alone stands = sym (ap (λ b. option_map own (cond b (Some type) (narrowed_by s below type))) stands)
 
-  pub other_narrowed : (made : Option YangType) → is_pattern_statement s ≡ false → made ≡ narrowed_by s below type
+  pub other_narrowed : (made : Option YangType) → comes_behind s ≡ false → made ≡ narrowed_by s below type
       → option_map own made ≡ restricted_by s below (own type)
   other_narrowed made other is =
       ap (option_map own) is ∙ sym (ap (λ b. option_map own (cond b (Some type) (narrowed_by s below type))) other)

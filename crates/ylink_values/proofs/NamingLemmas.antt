@@ -15,12 +15,11 @@ use Rattle.yspec.specs.types.Ranges.{Part, lies_in}
 use Rattle.yspec.specs.types.Types.{Base, plain}
 use Rattle.yspec.specs.linking.Keyword.{Keyword, enum_word, bit_word}
 use Rattle.yspec.specs.linking.Source.{Source, is_source_of, argument_in}
-use Rattle.yspec.specs.linking.TypeStatements.{enumeration, bits, namings, of_names, value_stated, position_stated}
+use Rattle.yspec.specs.linking.TypeStatements.{namings_where, enumeration, bits, namings, of_names, value_stated, position_stated}
 use Rattle.yspec.proofs.BasicLemmas.{same_text, other_text, texts_differ}
 use Rattle.yspec_wide.specs.Types as wide
-use Rattle.yspec_wide.specs.Types.{names_kept}
+use Rattle.yspec_wide.specs.Types.{Keeping, all_names, keeps, names_kept}
 use Rattle.yspec_wide.proofs.CoreTypeLemmas.{single_alike}
-use Rattle.ylink_values.specs.KeptView.{all_kept}
 use Rattle.ylink_values.specs.KindView.{are_kept, base_of, names_by, naming_in, naming_word, number_by, type_kept}
 use Rattle.ylink_values.specs.declared.naming.NamingKind.{NamingKind}
 use Rattle.ylink_values.specs.declared.naming.NamingKind.TheVariants.{Enum, Bit}
@@ -271,7 +270,7 @@ module _ (numbers : Part) (given : List Assigned) where
           rest (find_other (named_so t) b names (other (is_text t n.name) refl new) ∙ found) e
       by false fits e rest = absurd cc
 
-  module _ (k : Keyword) (number : Forest Source → Option ℤ) (kept : Forest Source → Bool) where
+  module _ (k : Keyword) (number : Forest Source → Option ℤ) (kept : Keeping) where
     abbrev kept_texts : Forest Source → List Text
     kept_texts = names_kept kept k
 
@@ -338,7 +337,7 @@ module _ (numbers : Part) (given : List Assigned) where
     goes end names seen ordered among e =
         let same : names ≡ given = cc in
         ap (λ l. Some (filter (is_kept seen) l)) same ∙ ap (λ l. Some (filter (is_kept l) given)) (sym (append-nil seen))
-    goes (node s below after) names seen ordered among e = next_name s below after (goes after) names seen ordered among (is_source_of k s) (kept below) e
+    goes (node s below after) names seen ordered among e = next_name s below after (goes after) names seen ordered among (is_source_of k s) (keeps kept below) e
 
     kept_assigned : (below : Forest Source) → assigned_from numbers [] (namings k number below) ≡ Some given
         → assigned_from numbers [] (map (naming_in given) (kept_texts below)) ≡ Some (filter (is_kept (kept_texts below)) given)
@@ -346,7 +345,7 @@ module _ (numbers : Part) (given : List Assigned) where
 
     kept_enum_names : (below : Forest Source) → are_enum_names (namings k number below) ≡ true → are_enum_names (map (naming_in given) (kept_texts below)) ≡ true
     kept_enum_names end all = refl
-    kept_enum_names (node s below after) all = by (is_source_of k s) (kept below) all (kept_enum_names after)
+    kept_enum_names (node s below after) all = by (is_source_of k s) (keeps kept below) all (kept_enum_names after)
       where
         by : (is own : Bool) → are_enum_names (cond is (record { name = argument_in s; number = number below } ∷ namings k number after) (namings k number after)) ≡ true
             → (are_enum_names (namings k number after) ≡ true → are_enum_names (map (naming_in given) (kept_texts after)) ≡ true)
@@ -361,46 +360,46 @@ module _ (numbers : Part) (given : List Assigned) where
 
 -- ---- names of a row, one after another
 
-module _ (k : Keyword) (number : Forest Source → Option ℤ) where
+module _ (test : Source → Forest Source → Bool) (number : Forest Source → Option ℤ) where
   pub no_naming : (so_far : List Naming) (s : Source) (below after before : Forest Source) (whole : List Naming)
-      → before ≡ node s below after → is_source_of k s ≡ false
-      → so_far ++ namings k number before ≡ whole → so_far ++ namings k number after ≡ whole
+      → before ≡ node s below after → test s below ≡ false
+      → so_far ++ namings_where test number before ≡ whole → so_far ++ namings_where test number after ≡ whole
   no_naming so_far s below after before whole first other made =
-      sym (ap (λ f. so_far ++ namings k number f) first
-      ∙ ap (λ b. so_far ++ cond b (record { name = argument_in s; number = number below } ∷ namings k number after) (namings k number after)) other) ∙ made
+      sym (ap (λ f. so_far ++ namings_where test number f) first
+      ∙ ap (λ b. so_far ++ cond b (record { name = argument_in s; number = number below } ∷ namings_where test number after) (namings_where test number after)) other) ∙ made
 
   pub next_naming : (so_far more : List Naming) (n : Naming) (s : Source) (below after before : Forest Source) (whole : List Naming)
-      → before ≡ node s below after → is_source_of k s ≡ true
+      → before ≡ node s below after → test s below ≡ true
       → more ≡ so_far ++ n ∷ [] → n ≡ record { name = argument_in s; number = number below }
-      → so_far ++ namings k number before ≡ whole → more ++ namings k number after ≡ whole
+      → so_far ++ namings_where test number before ≡ whole → more ++ namings_where test number after ≡ whole
   next_naming so_far more n s below after before whole first stands pushed is made =
-      ap (λ ns. ns ++ namings k number after) pushed
-      ∙ (append_assoc so_far (n ∷ []) (namings k number after)
-      ∙ (ap (λ x. so_far ++ x ∷ namings k number after) is
-      ∙ (sym (ap (λ f. so_far ++ namings k number f) first
-      ∙ ap (λ b. so_far ++ cond b (record { name = argument_in s; number = number below } ∷ namings k number after) (namings k number after)) stands) ∙ made)))
+      ap (λ ns. ns ++ namings_where test number after) pushed
+      ∙ (append_assoc so_far (n ∷ []) (namings_where test number after)
+      ∙ (ap (λ x. so_far ++ x ∷ namings_where test number after) is
+      ∙ (sym (ap (λ f. so_far ++ namings_where test number f) first
+      ∙ ap (λ b. so_far ++ cond b (record { name = argument_in s; number = number below } ∷ namings_where test number after) (namings_where test number after)) stands) ∙ made)))
 
   pub all_namings : (so_far : List Naming) (left : Forest Source) (whole : List Naming) → left ≡ end
-      → so_far ++ namings k number left ≡ whole → so_far ≡ whole
+      → so_far ++ namings_where test number left ≡ whole → so_far ≡ whole
   all_namings so_far left whole ended made =
-      sym (ap (λ f. so_far ++ namings k number f) ended ∙ append-nil so_far) ∙ made
+      sym (ap (λ f. so_far ++ namings_where test number f) ended ∙ append-nil so_far) ∙ made
 
 -- ---- the statements of a row, one after another
 
-module _ (kept : Forest Source → Bool) (k : Keyword) where
+module _ (kept : Keeping) (k : Keyword) where
   -- one gives a name that isn't kept
-  pub left_out : (s : Source) (below after before : Forest Source) (b whole : Bool) → before ≡ node s below after → b ≡ (is_source_of k s && not (kept below)) → b ≡ true
+  pub left_out : (s : Source) (below after before : Forest Source) (b whole : Bool) → before ≡ node s below after → b ≡ (is_source_of k s && not (keeps kept below)) → b ≡ true
       → are_kept kept k before ≡ whole → false ≡ whole
-  left_out s below after before b whole first is holds so_far = by (is_source_of k s) (kept below) (sym is ∙ holds) (sym (ap (are_kept kept k) first) ∙ so_far)
+  left_out s below after before b whole first is holds so_far = by (is_source_of k s) (keeps kept below) (sym is ∙ holds) (sym (ap (are_kept kept k) first) ∙ so_far)
     where
       by : (given own : Bool) → (given && not own) ≡ true → cond given (own && are_kept kept k after) (are_kept kept k after) ≡ whole → false ≡ whole
       by true false e so_far = so_far
       by true true e so_far = absurd cc
       by false own e so_far = absurd cc
 
-  pub none_left_out : (s : Source) (below after before : Forest Source) (b whole : Bool) → before ≡ node s below after → b ≡ (is_source_of k s && not (kept below)) → b ≡ false
+  pub none_left_out : (s : Source) (below after before : Forest Source) (b whole : Bool) → before ≡ node s below after → b ≡ (is_source_of k s && not (keeps kept below)) → b ≡ false
       → are_kept kept k before ≡ whole → are_kept kept k after ≡ whole
-  none_left_out s below after before b whole first is fails so_far = by (is_source_of k s) (kept below) (sym is ∙ fails) (sym (ap (are_kept kept k) first) ∙ so_far)
+  none_left_out s below after before b whole first is fails so_far = by (is_source_of k s) (keeps kept below) (sym is ∙ fails) (sym (ap (are_kept kept k) first) ∙ so_far)
     where
       by : (given own : Bool) → (given && not own) ≡ false → cond given (own && are_kept kept k after) (are_kept kept k after) ≡ whole → are_kept kept k after ≡ whole
       by true false e so_far = absurd cc
@@ -414,9 +413,9 @@ module _ (kept : Forest Source → Bool) (k : Keyword) where
     abbrev made : Forest Source → List Naming
     made f = map (naming_in names) (names_kept kept k f)
 
-    module _ (s : Source) (below after before : Forest Source) (first : before ≡ node s below after) (b : Bool) (is : b ≡ (is_source_of k s && kept below)) where
+    module _ (s : Source) (below after before : Forest Source) (first : before ≡ node s below after) (b : Bool) (is : b ≡ (is_source_of k s && keeps kept below)) where
       there : made before ≡ cond b (naming_in names (argument_in s) ∷ made after) (made after)
-      there = ap made first ∙ (by (is_source_of k s && kept below) ∙ sym (ap (λ c. cond c (naming_in names (argument_in s) ∷ made after) (made after)) is))
+      there = ap made first ∙ (by (is_source_of k s && keeps kept below) ∙ sym (ap (λ c. cond c (naming_in names (argument_in s) ∷ made after) (made after)) is))
         where
           by : (c : Bool) → map (naming_in names) (cond c (argument_in s ∷ names_kept kept k after) (names_kept kept k after))
               ≡ cond c (naming_in names (argument_in s) ∷ made after) (made after)
@@ -438,24 +437,24 @@ module _ (kept : Forest Source → Bool) (k : Keyword) where
     all_made so_far left whole ended is_so = sym (ap (λ f. so_far ++ made f) ended ∙ append-nil so_far) ∙ is_so
 
 -- all are kept where nothing is asked
-pub nothing_left_out : (k : Keyword) (f : Forest Source) → true ≡ are_kept all_kept k f
+pub nothing_left_out : (k : Keyword) (f : Forest Source) → true ≡ are_kept all_names k f
 nothing_left_out k end = refl
 nothing_left_out k (node s below after) = by (is_source_of k s) (nothing_left_out k after)
   where
-    by : (given : Bool) → true ≡ are_kept all_kept k after → true ≡ cond given (are_kept all_kept k after) (are_kept all_kept k after)
+    by : (given : Bool) → true ≡ are_kept all_names k after → true ≡ cond given (are_kept all_names k after) (are_kept all_names k after)
     by true rest = rest
     by false rest = rest
 
 -- ---- types
 
-texts_same : (kept : Forest Source → Bool) (k : Keyword) (f : Forest Source) → are_kept kept k f ≡ true → names_kept kept k f ≡ names_kept all_kept k f
+texts_same : (kept : Keeping) (k : Keyword) (f : Forest Source) → are_kept kept k f ≡ true → names_kept kept k f ≡ names_kept all_names k f
 texts_same kept k end all = refl
-texts_same kept k (node s below after) all = by (is_source_of k s) (kept below) all (texts_same kept k after)
+texts_same kept k (node s below after) all = by (is_source_of k s) (keeps kept below) all (texts_same kept k after)
   where
     by : (given own : Bool) → cond given (own && are_kept kept k after) (are_kept kept k after) ≡ true
-        → (are_kept kept k after ≡ true → names_kept kept k after ≡ names_kept all_kept k after)
+        → (are_kept kept k after ≡ true → names_kept kept k after ≡ names_kept all_names k after)
         → cond (given && own) (argument_in s ∷ names_kept kept k after) (names_kept kept k after)
-        ≡ cond (given && true) (argument_in s ∷ names_kept all_kept k after) (names_kept all_kept k after)
+        ≡ cond (given && true) (argument_in s ∷ names_kept all_names k after) (names_kept all_names k after)
     by true true all rest = ap (λ (l : List Text). argument_in s ∷ l) (rest all)
     by true false all rest = absurd cc
     by false own all rest = rest all
@@ -465,7 +464,7 @@ module _ (base : List Assigned → Base) (names : List Naming → Option (List A
   some_names [] some = absurd cc
   some_names (n ∷ ns) some = refl
 
-module _ (kept : Forest Source → Bool) (kind : NamingKind) (f : Forest Source) where
+module _ (kept : Keeping) (kind : NamingKind) (f : Forest Source) where
   abbrev stated : List Naming
   stated = namings (naming_word kind) (number_by kind) f
 
@@ -473,7 +472,7 @@ module _ (kept : Forest Source → Bool) (kind : NamingKind) (f : Forest Source)
   kept_among texts given = base_of kind (filter (is_kept texts) given)
 
   -- where all are kept
-  all_types : (kind : NamingKind) → of_names (λ given. base_of kind (filter (is_kept (names_kept all_kept (naming_word kind) f)) given)) (names_by kind)
+  all_types : (kind : NamingKind) → of_names (λ given. base_of kind (filter (is_kept (names_kept all_names (naming_word kind) f)) given)) (names_by kind)
       (namings (naming_word kind) (number_by kind) f) ≡ of_names (base_of kind) (names_by kind) (namings (naming_word kind) (number_by kind) f)
   all_types Enum = single_alike enumeration f
   all_types Bit = single_alike bits f

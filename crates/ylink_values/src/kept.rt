@@ -39,11 +39,12 @@ impl<'k> Kept<'k> {
     ghost use Rattle.std.specs.Prelude.{◌≡◌};
     ghost use Rattle.ybase_preorder.specs.View.{row_by};
     ghost use Rattle.ylink_grammar.specs.SourceView.{source_view};
+    ghost use Rattle.yspec_wide.specs.Types.{keeps};
     ghost use Rattle.ylink_values.specs.KeptView.{kept_view};
 
     /// Whether a name is kept, by the row below the statement that gives it.
     pub fn keeps(self, below: Siblings<'_, Source<'_>>) -> bool
-        ensures { result ≡ kept_view self.entry (row_by source_view below.entry) }
+        ensures { result ≡ keeps (kept_view self.entry) (row_by source_view below.entry) }
     {
         match self {
             Kept::All => true,

@@ -6,8 +6,10 @@ mod kept;
 mod limit;
 mod matching;
 mod naming;
+mod restricting;
 
 pub use kept::Kept;
 pub use limit::{accepted_type, measured_type, narrowed_type, ranged_type};
 pub use matching::{is_pattern_statement, matched_type};
 pub use naming::{NamingKind, named_type};
+pub use restricting::renamed_type;

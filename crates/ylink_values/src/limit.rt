@@ -15,7 +15,7 @@ ghost use Rattle.ybase_preorder.specs.View.{row_by, label_by};
 ghost use Rattle.ylink_grammar.specs.SourceView.{node_view, source_view};
 ghost use Rattle.ylink_values.specs.KindView.{word_of, restriction_by};
 
-use crate::matching::is_pattern_statement;
+use crate::restricting::comes_behind;
 use std::alloc::{AllocError, Global};
 use ybase_preorder::{Node, Siblings};
 use ybase_words::Keyword;
@@ -215,8 +215,8 @@ fn narrowed_by(
     accepted_type(outer.narrow(alloc, &restriction))
 }
 
-/// What a statement makes of a type where it is a restriction that the type may bear. A pattern leaves it as it is, since
-/// patterns come behind the others.
+/// What a statement makes of a type where it is a restriction that the type may bear. Patterns and names leave it as it is,
+/// since they come behind the others.
 pub fn narrowed_type(
     alloc: Global,
     outer: YType,
@@ -226,7 +226,7 @@ pub fn narrowed_type(
         ≡ spec.restricted_by (label_by source_view statement.entry)
         (row_by source_view statement.entry.children) (spec.own outer)) }
 {
-    if is_pattern_statement(statement.label()) {
+    if comes_behind(statement) {
         return Ok(Some(outer));
     }
     narrowed_by(alloc, &outer, statement)

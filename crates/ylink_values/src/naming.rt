@@ -21,7 +21,7 @@ use ybase_preorder::{Node, Siblings};
 use ybase_words::Keyword;
 use ylink_arguments::{count, enum_value};
 use ylink_grammar::{Source, argument_of, argument_with};
-use ytype::{Names, Naming, NarrowFault, YType};
+use ytype::{Names, Naming, NarrowFault, Restriction, YType};
 use ytype_numbers::{bit_names, enum_names};
 
 fn value_stated(below: Siblings<'_, Source<'_>>) -> Option<i64>
@@ -48,7 +48,8 @@ impl NamingKind {
     ghost use Rattle.ybase_preorder.specs.View.{row_by};
     ghost use Rattle.ybase_words.specs.KeywordView.{keyword_view};
     ghost use Rattle.ylink_grammar.specs.SourceView.{source_view};
-    ghost use Rattle.ylink_values.specs.KindView.{naming_word, number_by};
+    ghost use Rattle.ytype_numbers.specs.View.{restriction_of};
+    ghost use Rattle.ylink_values.specs.KindView.{naming_word, number_by, restriction_of_kind};
 
     /// Their keyword.
     fn keyword(self) -> Keyword
@@ -60,8 +61,18 @@ impl NamingKind {
         }
     }
 
+    /// The restriction by these names.
+    pub(crate) fn restriction(self, namings: Vec<Naming>) -> Restriction
+        ensures { restriction_of result ≡ restriction_of_kind self namings.items }
+    {
+        match self {
+            NamingKind::Enum => Restriction::Enums(namings),
+            NamingKind::Bit => Restriction::Bits(namings),
+        }
+    }
+
     /// The number that one states, given what stands below it.
-    fn number_stated(self, below: Siblings<'_, Source<'_>>) -> Option<i64>
+    pub(crate) fn number_stated(self, below: Siblings<'_, Source<'_>>) -> Option<i64>
         ensures { result ≡ number_by self (row_by source_view below.entry) }
     {
         match self {
@@ -71,7 +82,7 @@ impl NamingKind {
     }
 }
 
-fn naming(
+pub(crate) fn naming(
     alloc: Global,
     statement: Node<'_, Source<'_>>,
     number: Option<i64>,
@@ -122,7 +133,7 @@ fn are_all_kept(kept: Kept<'_>, kind: NamingKind, below: Siblings<'_, Source<'_>
 /// Whether a statement gives a name of a kind that isn't kept.
 fn is_left_out(kept: Kept<'_>, kind: NamingKind, statement: Node<'_, Source<'_>>) -> bool
     ensures { result ≡ (is_source_of (naming_word kind) (label_by source_view statement.entry)
-        && not (kept_view kept.entry (row_by source_view statement.entry.children))) }
+        && not (wide.keeps (kept_view kept.entry) (row_by source_view statement.entry.children))) }
 {
     kind.keyword().is(statement.label().keyword) && !kept.keeps(statement.children())
 }
@@ -143,7 +154,7 @@ fn is_each_kept(kept: Kept<'_>, kind: NamingKind, below: Siblings<'_, Source<'_>
 /// Whether a statement gives a name of a kind that is kept.
 fn is_kept(kept: Kept<'_>, kind: NamingKind, statement: Node<'_, Source<'_>>) -> bool
     ensures { result ≡ (is_source_of (naming_word kind) (label_by source_view statement.entry)
-        && kept_view kept.entry (row_by source_view statement.entry.children)) }
+        && wide.keeps (kept_view kept.entry) (row_by source_view statement.entry.children)) }
 {
     kind.keyword().is(statement.label().keyword) && kept.keeps(statement.children())
 }

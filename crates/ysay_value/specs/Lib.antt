@@ -1,5 +1,6 @@
 pub mod Values
 pub mod Samples
+pub mod OctetSamples
 pub mod Joining
 pub mod NearWords
 pub mod ExpressionWords

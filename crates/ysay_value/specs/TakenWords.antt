@@ -9,7 +9,7 @@ use Rattle.yspec.specs.types.Names.{Assigned}
 use Rattle.yspec.specs.types.Numerals.{integer_text, decimal_text}
 use Rattle.yspec.specs.types.Ranges.{Part}
 use Rattle.yspec.specs.types.Restriction.{lengths, left_by, members_of}
-use Rattle.yspec.specs.types.Types.{Integer, numbers_of, int64, is_written_as_text, Base, integer_base, decimal_base, string_base, boolean_base, empty_base, enumeration_base, bits_base, identity_base, SimpleType, YangType}
+use Rattle.yspec.specs.types.Types.{Integer, numbers_of, int64, is_written_as_text, Base, integer_base, decimal_base, string_base, boolean_base, empty_base, enumeration_base, bits_base, identity_base, binary_base, SimpleType, YangType}
 use Rattle.ysay_value.specs.Joining.{joined}
 use Rattle.ytype.specs.Patterns.{expressions_in}
 use Rattle.ysay_value.specs.IdentityWords.{names_taken, identity_words}
@@ -66,6 +66,11 @@ enum_words names = codes "one of " ++ joined (codes ", ") (map (λ a. compact_te
 abbrev pub bits_words : List Assigned → Text
 bits_words names = codes "names in quotes, parted by spaces and each once, of: " ++ joined (codes ", ") (map (λ a. a.name) names)
 
+-- how many octets there are, where not every length is left
+abbrev pub octets_words : List Part → Text
+octets_words parts = if list_all is_any_length parts then codes "base64 in quotes"
+    else codes "base64 in quotes, of " ++ (all_lengths_words parts ++ codes " octets")
+
 -- ---- types
 
 -- with what their restrictions leave of the built-in type
@@ -79,6 +84,7 @@ base_words empty_base type = codes "[null]"
 base_words (enumeration_base names) type = enum_words names
 base_words (bits_base names) type = bits_words names
 base_words (identity_base home identities numbers) type = identity_words (names_taken (identity_base home identities numbers))
+base_words binary_base type = octets_words (left_by lengths type.limits)
 
 abbrev pub simple_words : SimpleType → Text
 simple_words type = base_words type.base type

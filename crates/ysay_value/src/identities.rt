@@ -231,7 +231,8 @@ fn identities_in(simple: &SimpleType) -> Option<&Identities>
         | Base::Boolean
         | Base::Empty
         | Base::Enumeration(_)
-        | Base::Bits(_) => None,
+        | Base::Bits(_)
+        | Base::Binary => None,
     }
 }
 

@@ -2,6 +2,7 @@
 //! module says itself, and the values of keys and `unique`s.
 #![tactic(auto)]
 
+mod binaries;
 mod examples;
 mod expressions;
 mod identities;
@@ -12,6 +13,7 @@ mod taken;
 mod tuples;
 mod values;
 
+pub use binaries::taken_octets;
 pub use examples::{broken_texts, taken_texts};
 pub use identities::hint_words;
 pub use messages::{message_at, message_words, type_at};

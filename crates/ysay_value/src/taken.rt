@@ -2,7 +2,7 @@
 
 ghost use Rattle.std.specs.Prelude.{◌≡◌, IfOk, string_bytes};
 ghost use Rattle.std.specs.List.{list_all};
-ghost use Rattle.yspec.specs.types.Types.{decimal_base, string_base};
+ghost use Rattle.yspec.specs.types.Types.{decimal_base, string_base, binary_base};
 ghost use Rattle.ytype.specs.View.{base_of, integer_of};
 ghost use Rattle.ysay_value.specs.TakenWords as spec;
 
@@ -194,6 +194,16 @@ fn bits_words(alloc: Global, names: &Names) -> Result<String, AllocError>
     .concat(alloc)
 }
 
+fn octets_words(alloc: Global, parts: &[Part]) -> Result<String, AllocError>
+    ensures { IfOk result (λ text. string_bytes text ≡ spec.octets_words parts.now) }
+{
+    if are_any_length(parts) {
+        return String::from_str(alloc, "base64 in quotes");
+    }
+    let text = all_lengths_words(alloc, parts)?;
+    ["base64 in quotes, of ", text.as_str(), " octets"].concat(alloc)
+}
+
 // ---- types
 
 fn text_words(alloc: Global, simple: &SimpleType) -> Result<String, AllocError>
@@ -205,6 +215,14 @@ fn text_words(alloc: Global, simple: &SimpleType) -> Result<String, AllocError>
     let expressions = simple.expressions(alloc)?;
     let matched = expressions_words(alloc, &expressions)?;
     ["a text in quotes", restricted.as_str(), matched.as_str()].concat(alloc)
+}
+
+fn binary_words(alloc: Global, simple: &SimpleType) -> Result<String, AllocError>
+    ensures { IfOk result (λ text. string_bytes text
+        ≡ spec.base_words binary_base simple.now) }
+{
+    let lengths = Part::new(0, GREATEST_LENGTH);
+    octets_words(alloc, simple.left(&lengths))
 }
 
 /// What a type that is no union takes.
@@ -224,6 +242,7 @@ fn simple_words(alloc: Global, simple: &SimpleType) -> Result<String, AllocError
         Base::Enumeration(names) => enum_words(alloc, names),
         Base::Bits(names) => bits_words(alloc, names),
         Base::Identity(identities) => taken_identities(alloc, identities),
+        Base::Binary => binary_words(alloc, simple),
     }
 }
 

@@ -44,12 +44,13 @@ use std::alloc::{AllocError, Global};
 use ybase_preorder::Node;
 use ybase_words::Keyword;
 use ylink::{CompileFault, Linked, link_in};
+use ylink_features::Versions;
 use ylink_grammar::{
     BrokenRule, CompileCode, Language, Source, argument_of, argument_with, broken,
 };
 use ylink_standing::FeaturesOn;
 use yschema_augment::augmented;
-use yschema_cut::{cut, standing_in};
+use yschema_cut::{cut, standing_in, unguarded_in};
 use yschema_expand::{Groupings, Named, NodeTable, augments_of};
 use yschema_model::{Schema, SchemaModule};
 use yschema_plan::{Plan, broken_name_rule};
@@ -143,9 +144,10 @@ fn compile_whole<'t>(
     if let Some(found) = broken_name_rule(&plan) {
         return Err(CompileFault::from(found));
     }
-    let added = broken_addition_rule(alloc, &plan, &[])?;
+    let versions = Versions::of(alloc, language, linked.sources())?;
+    let added = broken_addition_rule(alloc, language, &versions, &plan, &[])?;
     let features = FeaturesOn::of_set(alloc, language, linked.sources(), linked.prefixes())?;
-    let resolved = Resolved::of(alloc, language, &features, &plan, linked)?;
+    let resolved = Resolved::of(alloc, language, &features, &[], &plan, linked)?;
     compile_rules(alloc, modules, language, added, &plan, &resolved)
 }
 
@@ -198,7 +200,8 @@ fn judged_whole<'t>(
         return Ok(Err(found));
     }
     let standing = standing_in(alloc, linked.sources(), features, nodes)?;
-    let added = broken_addition_rule(alloc, &whole, standing.as_slice())?;
+    let versions = Versions::of(alloc, language, linked.sources())?;
+    let added = broken_addition_rule(alloc, language, &versions, &whole, standing.as_slice())?;
     Ok(Ok(added))
 }
 
@@ -215,6 +218,7 @@ fn compile_planned<'t>(
     requires links { linked_in (language_view language.now) (modules_view modules.now)
         ≡ Ok (statements.view linked.now) }
     requires on { AreOn features.now (language_view language.now) (statements.view linked.now) }
+    requires kept { are_kept_right (language_view language.now) (statements.view linked.now) ≡ true }
     requires told { let l = language_view language.now in seen added ≡ least_from None
         (all_addition_breaks l (whole_plan l (sources_in l (modules_view modules.now)))) }
     requires made { let l = language_view language.now in let s = statements.view linked.now in
@@ -225,7 +229,15 @@ fn compile_planned<'t>(
         (compiled_in (language_view language.now) (modules_view modules.now)) }
 {
     let plan = Plan::of(alloc, linked.sources(), linked.prefixes(), nodes)?;
-    let resolved = Resolved::of(alloc, language, features, &plan, linked)?;
+    let unguarded = unguarded_in(alloc, language, linked.sources(), nodes)?;
+    let resolved = Resolved::of(
+        alloc,
+        language,
+        features,
+        unguarded.as_slice(),
+        &plan,
+        linked,
+    )?;
     compile_rules(alloc, modules, language, added, &plan, &resolved)
 }
 

@@ -1,9 +1,10 @@
 //! Schema nodes from planned ones (RFC 7950, 7.5 to 7.9).
 
-ghost use Rattle.std.specs.Prelude.{◌≡◌, Some, None, map, option_map, slice_get, unwrap_or, IfOk};
+ghost use Rattle.std.specs.Prelude.{◌≡◌, [], Some, None, map, option_map, slice_get, unwrap_or, IfOk, if◌then◌else◌};
 ghost use Rattle.yspec.specs.types.Types.{string_type};
 ghost use Rattle.yspec.specs.linking.Planned.{nodes_of};
 ghost use Rattle.yspec.specs.linking.SchemaNodes as spec;
+ghost use Rattle.yspec_wide.specs.Guards as guards;
 ghost use Rattle.yspec_wide.specs.Types as wide;
 ghost use Rattle.ylink_grammar.specs.LanguageView.{language_view};
 ghost use Rattle.yschema_plan.specs.Finding.{name_of};
@@ -11,14 +12,14 @@ ghost use Rattle.yschema_plan.specs.NodesView as plans;
 ghost use Rattle.yschema_plan.specs.PlannedView.{planned_view};
 ghost use Rattle.yschema_plan.specs.PlanView as plan_view;
 ghost use Rattle.yschema_resolve.specs.ResolvedView.{IsOf};
-ghost use Rattle.yschema_model.specs.Layout.{absence_view, kind_view, laid, leaf_type_view, node_view, place_of, places};
+ghost use Rattle.yschema_model.specs.Layout.{absence_view, amount_view, kind_view, laid, leaf_type_view, node_view, place_of, places};
 ghost use Rattle.yschema_model.specs.Lookup.{names_in};
 ghost use Rattle.yschema.specs.Made.{place_made, planned_place};
 
 use std::alloc::{AllocError, Global};
 use ybase_words::Keyword;
 use ylink_grammar::Language;
-use yschema_model::{Absence, Kind, LeafType, SchemaNode, Slot, TypeName, id_of};
+use yschema_model::{Absence, Amount, Kind, LeafType, SchemaNode, Slot, TypeName, id_of};
 use yschema_plan::{Plan, PlanNode, Planned};
 use yschema_resolve::{Resolved, default_values, tuples_of};
 use ytype::{Val, YType};
@@ -115,8 +116,80 @@ fn leaf_type_of<'a, 't>(
     })
 }
 
-/// What only its kind of node has.
-fn kind_of<'a, 't>(
+/// What it means that a leaf isn't stored that hangs on a `when`.
+fn spared_absence(absence: Absence) -> Absence
+    ensures { absence_view result ≡ guards.spared_absence (absence_view absence) }
+{
+    match absence {
+        Absence::Key => Absence::Key,
+        Absence::Allowed | Absence::DefaultUsed(_) | Absence::Mandatory => Absence::Allowed,
+    }
+}
+
+/// What it means that a leaf isn't stored, where it may hang on a `when`.
+fn asked_absence(guarded: bool, absence: Absence) -> Absence
+    ensures { absence_view result ≡ guards.asked_absence guarded (absence_view absence) }
+{
+    if guarded {
+        spared_absence(absence)
+    } else {
+        absence
+    }
+}
+
+/// How many instances there are, where they may hang on a `when`.
+fn asked_amount(guarded: bool, amount: Amount) -> Amount
+    ensures { amount_view result ≡ guards.asked_amount guarded (amount_view amount) }
+{
+    Amount {
+        min_elements: if guarded { 0 } else { amount.min_elements },
+        max_elements: amount.max_elements,
+    }
+}
+
+/// Defaults, which aren't in use of what hangs on a `when`.
+fn asked_defaults(alloc: Global, guarded: bool, defaults: Vec<Val>) -> Vec<Val>
+    ensures { result.items ≡ (if guarded then [] else defaults.items) }
+{
+    if guarded { Vec::new(alloc) } else { defaults }
+}
+
+/// A kind of node, of which less is asked where it hangs on a `when`.
+fn asked_kind(alloc: Global, guarded: bool, kind: Kind) -> Kind
+    ensures { kind_view result ≡ guards.asked_kind guarded (kind_view kind) }
+{
+    match kind {
+        Kind::Container { presence } => Kind::Container { presence },
+        Kind::Leaf { leaf_type, absence } => Kind::Leaf {
+            leaf_type,
+            absence: asked_absence(guarded, absence),
+        },
+        Kind::LeafList {
+            leaf_type,
+            defaults,
+            amount,
+        } => Kind::LeafList {
+            leaf_type,
+            defaults: asked_defaults(alloc, guarded, defaults),
+            amount: asked_amount(guarded, amount),
+        },
+        Kind::List { tuples, amount } => Kind::List {
+            tuples,
+            amount: asked_amount(guarded, amount),
+        },
+        Kind::Choice {
+            default_case,
+            mandatory,
+        } => Kind::Choice {
+            default_case,
+            mandatory: !guarded && mandatory,
+        },
+        Kind::Case => Kind::Case,
+    }
+}
+
+/// What only its kind of node has, by what it states.
+fn kind_stated<'a, 't>(
     alloc: Global,
     language: &Language,
     plan: &Plan<'a, 't>,
@@ -128,7 +201,7 @@ fn kind_of<'a, 't>(
         ≡ Some (plans.node_view node) }
     ensures { let p = plans.node_view node.entry in
         IfOk result (λ kind. kind_view kind
-        ≡ wide.kind_in (language_view language.now) (plan_view.view plan.now) p) }
+        ≡ wide.kind_stated (language_view language.now) (plan_view.view plan.now) p) }
 {
     let planned = &node.planned;
     match planned.keyword() {
@@ -154,6 +227,26 @@ fn kind_of<'a, 't>(
         }),
         _ => Ok(Kind::Case),
     }
+}
+
+/// What only its kind of node has.
+fn kind_of<'a, 't>(
+    alloc: Global,
+    language: &Language,
+    plan: &Plan<'a, 't>,
+    resolved: &Resolved<'_, 't>,
+    node: PlanNode<'a, 't>,
+) -> Result<Kind, AllocError>
+    requires of_plan { IsOf resolved.now (language_view language.now) (plan_view.view plan.now) }
+    requires stands { slice_get (nodes_of (plan_view.view plan.now)) node.number
+        ≡ Some (plans.node_view node) }
+    ensures { let p = plans.node_view node.entry in
+        IfOk result (λ kind. kind_view kind
+        ≡ wide.kind_in (language_view language.now) (plan_view.view plan.now) p) }
+{
+    let kind = kind_stated(alloc, language, plan, resolved, node)?;
+    let guarded = resolved.is_guarded(node.number);
+    Ok(asked_kind(alloc, guarded, kind))
 }
 
 /// The schema node that a planned one stands for.

@@ -9,7 +9,7 @@ use Rattle.yspec.specs.linking.Source.{Source, is_source_of, first_with}
 use Rattle.yspec.specs.linking.Parts.{Part, defines_node, part_of, case_for, as_cases, within}
 use Rattle.yspec.specs.linking.Expansion.{groupings_of, is_uses, laid, owned_by, replaced}
 use Rattle.yspec_wide.specs.Language.{Language}
-use Rattle.yspec_wide.specs.Sources.{condition_row}
+use Rattle.yspec_wide.specs.Sources.{guard_row}
 use Rattle.yspec_wide.specs.Expansion.{conditioned, stands_for_in}
 use Rattle.yspec.specs.linking.Augments.{marked}
 use Rattle.yspec.proofs.ForestLemmas.{join_end}
@@ -69,11 +69,11 @@ module _ (language : Language) (modules : Forest Source) (owner depth : ℕ) (gi
   conditioned_join : (f g : Forest Part) → conditioned language given (join f g) ≡ join (conditioned language given f) (conditioned language given g)
   conditioned_join end g = refl
   conditioned_join (node p below after) g =
-      ap (node (record p { own = join p.own (condition_row language given) }) below) (conditioned_join after g)
+      ap (node (record p { own = join p.own (guard_row language given) }) below) (conditioned_join after g)
 
   -- a node alone
   asked_one : (p : Part) (below : Forest Part) → is_uses p ≡ false
-      → asked (node p below end) ≡ node (record (owned_by owner p) { own = join p.own (condition_row language given) }) (nodes below) end
+      → asked (node p below end) ≡ node (record (owned_by owner p) { own = join p.own (guard_row language given) }) (nodes below) end
   unfolding replaced
   asked_one p below unused =
       ap (λ b. conditioned language given (cond b (join (meant p) end) (node (owned_by owner p) (nodes below) end))) unused
@@ -87,7 +87,7 @@ module _ (language : Language) (modules : Forest Source) (owner depth : ℕ) (gi
       ∙ by (is_source_of word.case_word p.source) (cases_asked after none.1)
     where
       own : Part
-      own = record (owned_by owner p) { own = join p.own (condition_row language given) }
+      own = record (owned_by owner p) { own = join p.own (guard_row language given) }
 
       by : (b : Bool) → as_cases (asked after) ≡ body after
           → cond b (node own (nodes below) (as_cases (asked after))) (node (case_for own) (node own (nodes below) end) (as_cases (asked after)))

@@ -10,7 +10,7 @@ use Rattle.yspec.specs.linking.Parts.{Part}
 use Rattle.yspec_wide.specs.Language.{Language}
 use Rattle.yspec_wide.specs.Expansion.{augmented_in}
 use Rattle.yspec_wide.specs.Features.{condition_holds, all_hold, stands}
-use Rattle.yspec_wide.specs.Sources.{is_condition}
+use Rattle.yspec_wide.specs.Sources.{is_condition, is_when}
 use Rattle.yspec_wide.specs.Standing.{left_with, standing, standing_by}
 use Rattle.ybase_preorder.specs.Layout.{forest_of, numbered_by}
 use Rattle.ybase_preorder.specs.declared.slot.Slot.{Slot}
@@ -79,6 +79,46 @@ got_within [] n x at = absurd cc
 got_within (y ∷ ys) zero x at = omega arith
 got_within (y ∷ ys) (suc n) x at = let rest = got_within ys n x at in omega (arith, rest)
 
+-- ---- what is told of each statement of a set
+
+module _ (language : Language) (holding : List Bool) (says : Source → Bool) where
+  -- it is told of each, and each is kept right
+  abbrev pub Right : Source → Type 0
+  Right s = (holds_in holding s.number ≡ says s) × (is_kept_right language s ≡ true)
+
+  pub each_right : (ancestors : List (Source × Forest Source)) (f : Forest Source)
+      → ((p : Placed) → Contains (placed ancestors f) p → holds_in holding p.source.number ≡ says p.source)
+      → are_kept_right language f ≡ true → Each Right f
+  each_right ancestors end told kept = tt
+  each_right ancestors (node s below after) told kept =
+      let parts = kept_parts language s below after kept in (
+        (told (record { source = s; below = below; ancestors = ancestors }) (first_there s below after ancestors), parts.0),
+        each_right ((s, below) ∷ ancestors) below (λ p at. told p (under_first s below after ancestors p at)) parts.1,
+        each_right ancestors after (λ p at. told p (behind_first s below after ancestors p at)) parts.2,
+      )
+
+-- ---- what two say alike of all that nodes state
+
+module _ (P : Source → Type 0) (first second : Forest Source → Bool) (same : (own : Forest Source) → Each P own → first own ≡ second own) where
+  alike : (f : Forest Part) → EachOwn P f → standing_by first f ≡ standing_by second f
+  unfolding standing_by
+  alike end right = refl
+  alike (node p below after) right =
+      let here = same p.own right.0 in
+      let inside = alike below right.1 in
+      let rest = alike after right.2 in
+      ap₂ (λ b f. cond b (left_with p below f (standing_by first after)) (standing_by first after)) here inside
+      ∙ ap (λ f. cond (second p.own) (left_with p below (standing_by second below) f) f) rest
+
+  pub own_alike : (f : Forest Part) → EachOwn P f → map (λ (p : Part). first p.own) (preorder f) ≡ map (λ (p : Part). second p.own) (preorder f)
+  own_alike end right = refl
+  own_alike (node p below after) right =
+      let all : (test : Forest Source → Bool) → map (λ (q : Part). test q.own) (preorder below ++ preorder after)
+      ≡ map (λ (q : Part). test q.own) (preorder below) ++ map (λ (q : Part). test q.own) (preorder after) =
+      λ test. map-append (λ (q : Part). test q.own) (preorder below) (preorder after) in
+      ap₂ (λ b bs. b ∷ bs) (same p.own right.0)
+      (all first ∙ (ap₂ (λ xs ys. xs ++ ys) (own_alike below right.1) (own_alike after right.2) ∙ sym (all second)))
+
 module _ (language : Language) (features : FeaturesOn) (slots : List (Slot held.Source)) (holding : List Bool) where
   abbrev modules : Forest Source
   modules = numbered_by source_view 0 (forest_of slots)
@@ -86,12 +126,8 @@ module _ (language : Language) (features : FeaturesOn) (slots : List (Slot held.
   abbrev on : ℕ → Bool
   on = is_in features.on.items
 
-  abbrev Says : Source → Type 0
-  Says s = holds_in holding s.number ≡ cond (is_condition language s) (condition_holds language modules (told on) s) true
-
-  -- it is told of each, and each is kept right
-  abbrev Right : Source → Type 0
-  Right s = Says s × (is_kept_right language s ≡ true)
+  abbrev says : Source → Bool
+  says s = cond (is_condition language s) (condition_holds language modules (told on) s) true
 
   placed_within : (p : Placed) → Contains (statements_of modules) p → p.source.number < length slots
   placed_within p at =
@@ -100,17 +136,7 @@ module _ (language : Language) (features : FeaturesOn) (slots : List (Slot held.
       let sized = size_forest slots in
       omega (arith, found, count, sized)
 
-  each_right : (ancestors : List (Source × Forest Source)) (f : Forest Source) → ((p : Placed) → Contains (placed ancestors f) p → Says p.source)
-      → are_kept_right language f ≡ true → Each Right f
-  each_right ancestors end says kept = tt
-  each_right ancestors (node s below after) says kept =
-      let parts = kept_parts language s below after kept in (
-        (says (record { source = s; below = below; ancestors = ancestors }) (first_there s below after ancestors), parts.0),
-        each_right ((s, below) ∷ ancestors) below (λ p at. says p (under_first s below after ancestors p at)) parts.1,
-        each_right ancestors after (λ p at. says p (behind_first s below after ancestors p at)) parts.2,
-      )
-
-  row_holds : (f : Forest Source) → Each Right f → kept_hold (holds_in holding) f ≡ all_hold language modules (told on) f
+  row_holds : (f : Forest Source) → Each (Right language holding says) f → kept_hold (holds_in holding) f ≡ all_hold language modules (told on) f
   row_holds end right = refl
   row_holds (node s below after) right = by (is_condition language s) refl right.0.0 (row_holds after right.2)
     where
@@ -125,35 +151,14 @@ module _ (language : Language) (features : FeaturesOn) (slots : List (Slot held.
           → kept_hold (holds_in holding) after ≡ rest
           → ((not (is_kept s) || holds_in holding s.number) && kept_hold (holds_in holding) after)
           ≡ list_all (condition_holds language modules (told on)) (cond c (s ∷ filter (is_condition language) (row after)) (filter (is_condition language) (row after)))
-      by true is says others = ap (λ k. (not k || holds_in holding s.number) && kept_hold (holds_in holding) after) (as_kept language s right.0.1 is)
+      by true is says others = ap (λ k. (not k || holds_in holding s.number) && kept_hold (holds_in holding) after) (as_kept language s right.0.1 (ap (λ b. b || is_when language s) is))
           ∙ ap₂ (λ a b. a && b) says others
       by false is says others = ap (λ h. (not (is_kept s) || h) && kept_hold (holds_in holding) after) says
           ∙ (ap (λ b. b && kept_hold (holds_in holding) after) (any (not (is_kept s))) ∙ others)
 
-  alike : (first second : Forest Source → Bool) → ((own : Forest Source) → Each Right own → first own ≡ second own)
-      → (f : Forest Part) → EachOwn Right f → standing_by first f ≡ standing_by second f
-  unfolding standing_by
-  alike first second same end right = refl
-  alike first second same (node p below after) right =
-      let here = same p.own right.0 in
-      let inside = alike first second same below right.1 in
-      let rest = alike first second same after right.2 in
-      ap₂ (λ b f. cond b (left_with p below f (standing_by first after)) (standing_by first after)) here inside
-      ∙ ap (λ f. cond (second p.own) (left_with p below (standing_by second below) f) f) rest
-
-  own_alike : (first second : Forest Source → Bool) → ((own : Forest Source) → Each Right own → first own ≡ second own)
-      → (f : Forest Part) → EachOwn Right f → map (λ (p : Part). first p.own) (preorder f) ≡ map (λ (p : Part). second p.own) (preorder f)
-  own_alike first second same end right = refl
-  own_alike first second same (node p below after) right =
-      let all : (test : Forest Source → Bool) → map (λ (q : Part). test q.own) (preorder below ++ preorder after)
-      ≡ map (λ (q : Part). test q.own) (preorder below) ++ map (λ (q : Part). test q.own) (preorder after) =
-      λ test. map-append (λ (q : Part). test q.own) (preorder below) (preorder after) in
-      ap₂ (λ b bs. b ∷ bs) (same p.own right.0)
-      (all first ∙ (ap₂ (λ xs ys. xs ++ ys) (own_alike first second same below right.1) (own_alike first second same after right.2) ∙ sym (all second)))
-
   all_right : holding ≡ told_from (holds_at features.conditions.items on) 0 slots → IsOf features language modules → are_kept_right language modules ≡ true
-      → Each Right modules
-  all_right holding_is is kept = each_right [] modules (λ p at. ap (λ bs. get_or bs p.source.number true) holding_is
+      → Each (Right language holding says) modules
+  all_right holding_is is kept = each_right language holding says [] modules (λ p at. ap (λ bs. get_or bs p.source.number true) holding_is
       ∙ (get_told (holds_at features.conditions.items on) 0 slots p.source.number (placed_within p at)
       ∙ (ap (holds_at features.conditions.items on) (plain p.source.number) ∙ is.asked p at on))) kept
     where
@@ -165,12 +170,13 @@ module _ (language : Language) (features : FeaturesOn) (slots : List (Slot held.
       → map (λ (p : Part). kept_hold (holds_in holding) p.own) (preorder (augmented_in language modules).0)
       ≡ map (λ (p : Part). stands language modules p.own) (preorder (augmented_in language modules).0)
   own_standing holding_is is kept =
-      own_alike (kept_hold (holds_in holding)) (stands language modules) (λ own right. row_holds own right ∙ tells_standing language modules on is.tells own)
-      (augmented_in language modules).0 (own_augmented Right language modules (all_right holding_is is kept))
+      own_alike (Right language holding says) (kept_hold (holds_in holding)) (stands language modules)
+      (λ own right. row_holds own right ∙ tells_standing language modules on is.tells own)
+      (augmented_in language modules).0 (own_augmented (Right language holding says) language modules (all_right holding_is is kept))
 
   pub standing_same : holding ≡ told_from (holds_at features.conditions.items on) 0 slots → IsOf features language modules → are_kept_right language modules ≡ true
       → standing_by (kept_hold (holds_in holding)) (augmented_in language modules).0 ≡ standing language modules (augmented_in language modules).0
   standing_same holding_is is kept =
-      alike (kept_hold (holds_in holding)) (stands language modules)
+      alike (Right language holding says) (kept_hold (holds_in holding)) (stands language modules)
       (λ own right. row_holds own right ∙ tells_standing language modules on is.tells own)
-      (augmented_in language modules).0 (own_augmented Right language modules (all_right holding_is is kept))
+      (augmented_in language modules).0 (own_augmented (Right language holding says) language modules (all_right holding_is is kept))

@@ -5,5 +5,6 @@ mod DefaultLemmas
 mod OwnLemmas
 mod CuttingLemmas
 mod HoldingLemmas
+mod GuardingLemmas
 mod StandingLemmas
 mod NodeLemmas

@@ -13,7 +13,8 @@ use Rattle.yspec.specs.linking.Parts.{Part, defines_node, own_of, part_of, case_
 use Rattle.yspec.specs.linking.Expansion.{Grouping, laid, is_uses, grouping_at, groupings_of, row_in, row_used, is_refine, refine_steps, is_step, changed_at, others, owned_by, replaced}
 use Rattle.yspec.specs.linking.Augments.{Augment, augments_in, augments_of, target_steps, marked, first_that, done_first, in_turn}
 use Rattle.yspec_wide.specs.Language.{Language}
-use Rattle.yspec_wide.specs.Sources.{is_condition, condition_row, without_conditions}
+use Rattle.yspec_wide.specs.Sources.{is_guard, guard_row, without_guards}
+use Rattle.yspec_wide.specs.Standing.{is_all_cut, is_default_off, is_implied_case, left_with, standing_by, with_default_on, without_default}
 use Rattle.yspec_wide.specs.Expansion.{conditioned, is_fit_in, overridden_in, after_refine_in, refined_in, stands_for_in, expanded_in, expanded_in_from, expanded_parts_in, added_nodes_in, is_ready_in, added_below_in, applied_in, augmented_in}
 
 module _ (P : Source → Type 0) where
@@ -49,11 +50,11 @@ module _ (P : Source → Type 0) where
       by true rest = rest
       by false rest = (all.0, all.1, rest)
 
-  each_condition : (language : Language) (f : Forest Source) → Each f → Each (condition_row language f)
-  each_condition language end all = tt
-  each_condition language (node s below after) all = by (is_condition language s) (each_condition language after all.2)
+  each_guard : (language : Language) (f : Forest Source) → Each f → Each (guard_row language f)
+  each_guard language end all = tt
+  each_guard language (node s below after) all = by (is_guard language s) (each_guard language after all.2)
     where
-      by : (b : Bool) → Each (condition_row language after) → Each (cond b (node s below (condition_row language after)) (condition_row language after))
+      by : (b : Bool) → Each (guard_row language after) → Each (cond b (node s below (guard_row language after)) (guard_row language after))
       by true rest = (all.0, all.1, rest)
       by false rest = rest
 
@@ -97,7 +98,7 @@ module _ (P : Source → Type 0) where
   own_conditioned : (language : Language) (given : Forest Source) (f : Forest Part) → Each given → EachOwn f → EachOwn (conditioned language given f)
   own_conditioned language given end all own = tt
   own_conditioned language given (node p below after) all own = (
-    each_joined p.own (condition_row language given) own.0 (each_condition language given all),
+    each_joined p.own (guard_row language given) own.0 (each_guard language given all),
     own.1,
     own_conditioned language given after all own.2,
   )
@@ -133,7 +134,7 @@ module _ (P : Source → Type 0) where
       where
         by : (b : Bool) → EachOwn (cond b (changed_at (refine_steps modules owner s) (overridden_in language given) f) f)
         by true = own_at (overridden_in language given)
-            (λ p below after mine under rest. (each_joined (others (without_conditions language given) p.own) given (each_other (without_conditions language given) p.own mine) all, under, rest))
+            (λ p below after mine under rest. (each_joined (others (without_guards language given) p.own) given (each_other (without_guards language given) p.own mine) all, under, rest))
             (refine_steps modules owner s) f own
         by false = own
 
@@ -297,3 +298,37 @@ module _ (P : Source → Type 0) where
     pub own_augmented : EachOwn (augmented_in language modules).0
     own_augmented = own_in_turn (length (augments_of modules)) (expanded_parts_in language modules) (augments_of modules)
         (own_from modules all) (given_of modules all)
+
+  -- ---- those that stand
+
+  each_default : (f : Forest Source) → Each f → Each (without_default f)
+  each_default end all = tt
+  each_default (node s below after) all = by (is_source_of word.default_word s) (each_default after all.2)
+    where
+      by : (b : Bool) → Each (without_default after) → Each (cond b (without_default after) (node s below (without_default after)))
+      by true rest = rest
+      by false rest = (all.0, all.1, rest)
+
+  each_left : (p : Part) (cases standing : Forest Part) → Each p.own → Each (with_default_on p cases standing).own
+  each_left p cases standing own = by (is_default_off p cases standing)
+    where
+      by : (b : Bool) → Each (cond b (record p { own = without_default p.own }) p).own
+      by true = each_default p.own own
+      by false = own
+
+  own_left : (p : Part) (below standing after : Forest Part) → Each p.own → EachOwn standing → EachOwn after → EachOwn (left_with p below standing after)
+  own_left p below standing after own inner rest = by (is_implied_case p && is_all_cut below standing)
+    where
+      by : (b : Bool) → EachOwn (cond b after (node (with_default_on p below standing) standing after))
+      by true = rest
+      by false = (each_left p below standing own, inner, rest)
+
+  pub own_left_standing : (holds : Forest Source → Bool) (f : Forest Part) → EachOwn f → EachOwn (standing_by holds f)
+  unfolding standing_by
+  own_left_standing holds end all = tt
+  own_left_standing holds (node p below after) all = by (holds p.own) (own_left_standing holds below all.1) (own_left_standing holds after all.2)
+    where
+      by : (b : Bool) → EachOwn (standing_by holds below) → EachOwn (standing_by holds after)
+          → EachOwn (cond b (left_with p below (standing_by holds below) (standing_by holds after)) (standing_by holds after))
+      by true inner rest = own_left p below (standing_by holds below) (standing_by holds after) all.0 inner rest
+      by false inner rest = rest

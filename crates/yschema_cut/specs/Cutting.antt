@@ -1,10 +1,11 @@
 -- Which statements hold, and which parts stand themselves, by their numbers.
-use Rattle.std.specs.Prelude.{◌≡◌, ℕ, ◌+◌, Bool, true, List, [], ◌∷◌, Some, get_or, slice_get}
+use Rattle.std.specs.Prelude.{◌≡◌, ℕ, ◌+◌, Bool, true, not, List, [], ◌∷◌, Some, get_or, slice_get}
 use Rattle.yspec.specs.Forest.{Forest, preorder}
 use Rattle.yspec.specs.linking.Parts.{Part}
 use Rattle.yspec.specs.linking.Source.{Source}
 use Rattle.yspec_wide.specs.Features.{stands}
 use Rattle.yspec_wide.specs.Language.{Language}
+use Rattle.yspec_wide.specs.Sources.{bears_when}
 
 -- of each of some statements, from a number on, what is told of that
 abbrev pub told_from : {A : Type 0} → (ℕ → Bool) → ℕ → List A → List Bool
@@ -15,3 +16,8 @@ told_from tell number (x ∷ xs) = tell number ∷ told_from tell (number + 1) x
 abbrev pub TellsStanding : List Bool → Language → Forest Source → Forest Part → Type 0
 TellsStanding standing language modules parts = (number : ℕ) (p : Part) → slice_get (preorder parts) number ≡ Some p
     → get_or standing number true ≡ stands language modules p.own
+
+-- and whether it bears no `when`
+abbrev pub TellsUnguarded : List Bool → Language → Forest Part → Type 0
+TellsUnguarded unguarded language parts = (number : ℕ) (p : Part) → slice_get (preorder parts) number ≡ Some p
+    → get_or unguarded number true ≡ not (bears_when language p.own)

@@ -3,9 +3,11 @@
 
 mod cutting;
 mod defaults;
+mod guarding;
 mod holding;
 mod keeping;
 mod nodes;
 mod totals;
 
 pub use cutting::{cut, cut_by, standing_in};
+pub use guarding::unguarded_in;

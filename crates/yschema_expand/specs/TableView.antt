@@ -5,7 +5,7 @@ use Rattle.yspec.specs.linking.Source.{Source}
 use Rattle.yspec.specs.linking.Parts.{Part}
 use Rattle.yspec.specs.linking.Expansion.{others}
 use Rattle.yspec_wide.specs.Language.{Language}
-use Rattle.yspec_wide.specs.Sources.{condition_row, without_conditions}
+use Rattle.yspec_wide.specs.Sources.{guard_row, without_guards}
 use Rattle.ybase_preorder.specs.Layout.{Place, forest_of, laid, numbered_by, seen}
 use Rattle.ybase_preorder.specs.declared.slot.Slot.{Slot}
 use Rattle.yschema_expand.specs.declared.nodes.ExpandedNode.{ExpandedNode}
@@ -25,11 +25,11 @@ nodes_in t = numbered_by numbered_part 0 (forest_of (slots_of t))
 
 -- a part once a refine has given it a row
 abbrev pub refined_part : Language → Forest Source → Part → Part
-refined_part language given p = record p { own = join (others (without_conditions language given) p.own) given }
+refined_part language given p = record p { own = join (others (without_guards language given) p.own) given }
 
 -- and once the conditions of a row are asked of it
 abbrev pub conditioned_part : Language → Forest Source → Part → Part
-conditioned_part language given p = record p { own = join p.own (condition_row language given) }
+conditioned_part language given p = record p { own = join p.own (guard_row language given) }
 
 -- the places with the part at one of them changed
 abbrev pub changed_place : ℕ → (Part → Part) → List (Place Part) → List (Place Part)

@@ -24,7 +24,7 @@ use std::alloc::{AllocError, Global};
 use ybase_preorder::{Node, Siblings};
 use ybase_words::Keyword;
 use ylink_grammar::Source;
-use yschema_given::bears_condition;
+use yschema_given::bears_guard;
 
 /// Adds what a statement of an augment defines or uses, and asks the conditions of a row of it.
 fn add_asked<'a, 't>(
@@ -51,7 +51,7 @@ fn add_asked<'a, 't>(
     let first = made.table.len();
     add_one(alloc, context, place, statement, made)?;
     let language = context.named.language();
-    if !bears_condition(language, given) {
+    if !bears_guard(language, given) {
         return Ok(());
     }
     made.table.condition_from(language, first, given)

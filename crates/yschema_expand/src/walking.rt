@@ -25,7 +25,7 @@ use std::alloc::{AllocError, Global};
 use ybase_preorder::{Node, Siblings};
 use ybase_words::Keyword;
 use ylink_grammar::Source;
-use yschema_given::bears_condition;
+use yschema_given::bears_guard;
 
 /// What is still to be done.
 #[derive(Clone, Copy)]
@@ -145,7 +145,7 @@ fn change<'a, 't>(
     let language = context.named.language();
     let prefixes = context.named.prefixes();
     refine(alloc, language, prefixes, owner, first, statements, made)?;
-    if !bears_condition(language, statements) {
+    if !bears_guard(language, statements) {
         return Ok(());
     }
     made.table.condition_from(language, first, statements)

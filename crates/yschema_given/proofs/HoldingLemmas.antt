@@ -8,7 +8,7 @@ use Rattle.yspec.specs.linking.Expansion.{others}
 use Rattle.yspec.specs.linking.Source.{Source, is_source_of}
 use Rattle.yspec.proofs.LinkingProofs.KeywordLemmas.{same_is}
 use Rattle.yspec_wide.specs.Language.{Language}
-use Rattle.yspec_wide.specs.Sources.{is_condition, condition_row, without_conditions}
+use Rattle.yspec_wide.specs.Sources.{is_guard, guard_row, without_guards}
 use Rattle.yspec_wide.specs.Standing.{without_default}
 use Rattle.yschema_given.specs.Keeping.{are_kept_right, is_kept, is_kept_right}
 use Rattle.yschema_given.specs.Holding.{kept_hold, asked_hold, has_other}
@@ -74,9 +74,9 @@ module _ (holds : ℕ → Bool) where
       by false is false k rest = unkept s k (kept_hold holds (others given after)) ∙ rest
 
   module _ (language : Language) where
-    other_is : (f : Forest Source) → list_any (is_source_of extension_word) (row (without_conditions language f)) ≡ has_other language f
+    other_is : (f : Forest Source) → list_any (is_source_of extension_word) (row (without_guards language f)) ≡ has_other language f
     other_is end = refl
-    other_is (node s below after) = by (is_condition language s) (other_is after)
+    other_is (node s below after) = by (is_guard language s) (other_is after)
       where
         neither : (b : Bool) → (b && false) ≡ false
         neither true = refl
@@ -86,34 +86,34 @@ module _ (holds : ℕ → Bool) where
         both true = refl
         both false = refl
 
-        by : (c : Bool) → list_any (is_source_of extension_word) (row (without_conditions language after)) ≡ has_other language after
-            → list_any (is_source_of extension_word) (row (cond c (without_conditions language after) (node s below (without_conditions language after))))
+        by : (c : Bool) → list_any (is_source_of extension_word) (row (without_guards language after)) ≡ has_other language after
+            → list_any (is_source_of extension_word) (row (cond c (without_guards language after) (node s below (without_guards language after))))
             ≡ ((is_kept s && not c) || has_other language after)
         by true rest = rest ∙ sym (ap (λ b. b || has_other language after) (neither (is_kept s)))
         by false rest = ap₂ (λ a b. a || b) (sym (both (is_kept s))) rest
 
     pub refined_kept : (given own : Forest Source) → has_other language given ≡ false
-        → kept_hold holds (join (others (without_conditions language given) own) given) ≡ (kept_hold holds own && kept_hold holds given)
-    refined_kept given own none = hold_joined (others (without_conditions language given) own) given
-        ∙ ap (λ b. b && kept_hold holds given) (others_hold (without_conditions language given) own (other_is given ∙ none))
+        → kept_hold holds (join (others (without_guards language given) own) given) ≡ (kept_hold holds own && kept_hold holds given)
+    refined_kept given own none = hold_joined (others (without_guards language given) own) given
+        ∙ ap (λ b. b && kept_hold holds given) (others_hold (without_guards language given) own (other_is given ∙ none))
 
     pub refined_lost : (given own : Forest Source) → has_other language given ≡ true
-        → kept_hold holds (join (others (without_conditions language given) own) given) ≡ kept_hold holds given
-    refined_lost given own some = hold_joined (others (without_conditions language given) own) given
-        ∙ ap (λ b. b && kept_hold holds given) (others_lost (without_conditions language given) own (other_is given ∙ some))
+        → kept_hold holds (join (others (without_guards language given) own) given) ≡ kept_hold holds given
+    refined_lost given own some = hold_joined (others (without_guards language given) own) given
+        ∙ ap (λ b. b && kept_hold holds given) (others_lost (without_guards language given) own (other_is given ∙ some))
 
-    asked_kept : (f : Forest Source) → are_kept_right language f ≡ true → kept_hold holds (condition_row language f) ≡ asked_hold language holds f
+    asked_kept : (f : Forest Source) → are_kept_right language f ≡ true → kept_hold holds (guard_row language f) ≡ asked_hold language holds f
     asked_kept end kept = refl
     asked_kept (node s below after) kept =
         let parts = kept_parts language s below after kept in
-        by (is_condition language s) refl parts.0 (asked_kept after parts.2)
+        by (is_guard language s) refl parts.0 (asked_kept after parts.2)
       where
-        by : (c : Bool) → is_condition language s ≡ c → is_kept_right language s ≡ true → kept_hold holds (condition_row language after) ≡ asked_hold language holds after
-            → kept_hold holds (cond c (node s below (condition_row language after)) (condition_row language after)) ≡ ((not c || holds s.number) && asked_hold language holds after)
+        by : (c : Bool) → is_guard language s ≡ c → is_kept_right language s ≡ true → kept_hold holds (guard_row language after) ≡ asked_hold language holds after
+            → kept_hold holds (cond c (node s below (guard_row language after)) (guard_row language after)) ≡ ((not c || holds s.number) && asked_hold language holds after)
         by true is right rest = ap₂ (λ k b. (not k || holds s.number) && b) (as_kept language s right is) rest
         by false is right rest = rest
 
     pub conditioned_holds : (given own : Forest Source) → are_kept_right language given ≡ true
-        → kept_hold holds (join own (condition_row language (own_of given))) ≡ (kept_hold holds own && asked_hold language holds given)
-    conditioned_holds given own kept = hold_joined own (condition_row language (own_of given))
+        → kept_hold holds (join own (guard_row language (own_of given))) ≡ (kept_hold holds own && asked_hold language holds given)
+    conditioned_holds given own kept = hold_joined own (guard_row language (own_of given))
         ∙ ap (λ b. kept_hold holds own && b) (ap (kept_hold holds) (own_conditions language given kept) ∙ asked_kept given kept)

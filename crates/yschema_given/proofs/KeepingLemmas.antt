@@ -16,7 +16,7 @@ use Rattle.yspec.specs.linking.Expansion.{is_borne}
 use Rattle.yspec.proofs.ForestLemmas.{join_end}
 use Rattle.yspec.proofs.LinkingProofs.KeywordLemmas.{same_is}
 use Rattle.yspec_wide.specs.Language.{Language, core, rfc}
-use Rattle.yspec_wide.specs.Sources.{is_condition, bears_condition, condition_row, without_conditions}
+use Rattle.yspec_wide.specs.Sources.{is_guard, bears_guard, guard_row, without_guards}
 use Rattle.yspec_wide.specs.Expansion.{conditioned, is_borne_in}
 use Rattle.ybase_preorder.specs.Layout.{forest_of, forest_within, numbered_by}
 use Rattle.ybase_preorder.specs.declared.slot.Slot.{Slot}
@@ -38,7 +38,7 @@ none_kept s stands = by (same_keyword extension_word s.keyword) refl
 module _ (language : Language) where
   -- ---- where conditions are kept so
 
-  pub as_kept : (s : Source) → is_kept_right language s ≡ true → is_condition language s ≡ true → is_kept s ≡ true
+  pub as_kept : (s : Source) → is_kept_right language s ≡ true → is_guard language s ≡ true → is_kept s ≡ true
   as_kept s right is = sym (ap (λ b. not b || is_kept s) is) ∙ right
 
   pub kept_parts : (s : Source) (below after : Forest Source) → are_kept_right language (node s below after) ≡ true
@@ -48,28 +48,28 @@ module _ (language : Language) where
       let rest = and_parts (are_kept_right language below) (are_kept_right language after) first.1 in
       (first.0, rest.0, rest.1)
 
-  no_node : (s : Source) → is_kept_right language s ≡ true → defines_node s.keyword ≡ true → is_condition language s ≡ false
-  no_node s right stands = by (is_condition language s) refl
+  no_node : (s : Source) → is_kept_right language s ≡ true → defines_node s.keyword ≡ true → is_guard language s ≡ false
+  no_node s right stands = by (is_guard language s) refl
     where
-      by : (b : Bool) → is_condition language s ≡ b → b ≡ false
+      by : (b : Bool) → is_guard language s ≡ b → b ≡ false
       by false e = refl
       by true e = absurd (let clash : false ≡ true = sym (none_kept s stands) ∙ as_kept s right e in cc)
 
   -- none of what defines nodes is one
-  pub own_conditions : (f : Forest Source) → are_kept_right language f ≡ true → condition_row language (own_of f) ≡ condition_row language f
+  pub own_conditions : (f : Forest Source) → are_kept_right language f ≡ true → guard_row language (own_of f) ≡ guard_row language f
   own_conditions end kept = refl
   own_conditions (node s below after) kept =
       let parts = kept_parts s below after kept in
       by (defines_node s.keyword) refl parts.0 (own_conditions after parts.2)
     where
-      by : (d : Bool) → defines_node s.keyword ≡ d → is_kept_right language s ≡ true → condition_row language (own_of after) ≡ condition_row language after
-          → condition_row language (cond d (own_of after) (node s below (own_of after)))
-          ≡ cond (is_condition language s) (node s below (condition_row language after)) (condition_row language after)
-      by true d right rest = rest ∙ sym (ap (λ b. cond b (node s below (condition_row language after)) (condition_row language after)) (no_node s right d))
-      by false d right rest = ap (λ r. cond (is_condition language s) (node s below r) r) rest
+      by : (d : Bool) → defines_node s.keyword ≡ d → is_kept_right language s ≡ true → guard_row language (own_of after) ≡ guard_row language after
+          → guard_row language (cond d (own_of after) (node s below (own_of after)))
+          ≡ cond (is_guard language s) (node s below (guard_row language after)) (guard_row language after)
+      by true d right rest = rest ∙ sym (ap (λ b. cond b (node s below (guard_row language after)) (guard_row language after)) (no_node s right d))
+      by false d right rest = ap (λ r. cond (is_guard language s) (node s below r) r) rest
 
   -- rows of the same conditions are asked alike
-  pub asked_alike : (given more : Forest Source) → condition_row language given ≡ condition_row language more → (f : Forest Part)
+  pub asked_alike : (given more : Forest Source) → guard_row language given ≡ guard_row language more → (f : Forest Part)
       → conditioned language given f ≡ conditioned language more f
   asked_alike given more is end = refl
   asked_alike given more is (node p below after) = ap₂ (λ own rest. node (record p { own = own }) below rest)
@@ -81,18 +81,18 @@ module _ (language : Language) where
   neither true b e = absurd cc
   neither false b e = (refl, e)
 
-  pub none_own : (f : Forest Source) → bears_condition language f ≡ false → condition_row language (own_of f) ≡ end
+  pub none_own : (f : Forest Source) → bears_guard language f ≡ false → guard_row language (own_of f) ≡ end
   none_own end none = refl
   none_own (node s below after) none =
-      let both = neither (is_condition language s) (bears_condition language after) none in
+      let both = neither (is_guard language s) (bears_guard language after) none in
       by (defines_node s.keyword) both.0 (none_own after both.1)
     where
-      by : (d : Bool) → is_condition language s ≡ false → condition_row language (own_of after) ≡ end
-          → condition_row language (cond d (own_of after) (node s below (own_of after))) ≡ end
+      by : (d : Bool) → is_guard language s ≡ false → guard_row language (own_of after) ≡ end
+          → guard_row language (cond d (own_of after) (node s below (own_of after))) ≡ end
       by true own rest = rest
-      by false own rest = ap (λ b. cond b (node s below (condition_row language (own_of after))) (condition_row language (own_of after))) own ∙ rest
+      by false own rest = ap (λ b. cond b (node s below (guard_row language (own_of after))) (guard_row language (own_of after))) own ∙ rest
 
-  pub none_conditioned : (given : Forest Source) → condition_row language given ≡ end → (f : Forest Part) → conditioned language given f ≡ f
+  pub none_conditioned : (given : Forest Source) → guard_row language given ≡ end → (f : Forest Part) → conditioned language given f ≡ f
   none_conditioned given none end = refl
   none_conditioned given none (node p below after) = ap₂ (λ own rest. node (record p { own = own }) below rest)
       (ap (join p.own) none ∙ join_end p.own) (none_conditioned given none after)
@@ -206,7 +206,7 @@ module _ (language : Language) where
   count_others j other (node s below after) kept =
       let parts = kept_parts language s below after kept in
       sum_by-cons (λ (x : Source). cond {A = ℕ} (is_source_of j x) 1 0) s (row after)
-      ∙ by (is_condition language s) refl parts.0 (count_others j other after parts.2)
+      ∙ by (is_guard language s) refl parts.0 (count_others j other after parts.2)
     where
       not_it : is_kept s ≡ true → same_keyword j s.keyword ≡ false
       not_it kept = of_it (same_keyword j s.keyword) refl
@@ -216,10 +216,10 @@ module _ (language : Language) where
           of_it true e = let same : j ≡ s.keyword = same_is j s.keyword e in
               let clash : true ≡ false = sym kept ∙ (ap (same_keyword extension_word) (sym same) ∙ other) in absurd cc
 
-      by : (b : Bool) → is_condition language s ≡ b → is_kept_right language s ≡ true
+      by : (b : Bool) → is_guard language s ≡ b → is_kept_right language s ≡ true
           → count_by (is_source_of j) (row after) ≡ count_by (same_keyword j) (other_keywords language after)
           → cond (same_keyword j s.keyword) 1 0 + count_by (is_source_of j) (row after)
-          ≡ count_by (same_keyword j) (keywords (row (cond b (without_conditions language after) (node s below (without_conditions language after)))))
+          ≡ count_by (same_keyword j) (keywords (row (cond b (without_guards language after) (node s below (without_guards language after)))))
       by true is right rest =
           let those = count_by (is_source_of j) (row after) in
           let plain : 0 + those ≡ those = omega arith in
@@ -249,21 +249,21 @@ module _ (language : Language) where
       → list_all (is_borne_in language k f) (row g) ≡ list_all (borne_by k (other_keywords language f)) (other_keywords language g)
   conditions_borne k f end kept = refl
   conditions_borne k f (node s below after) kept =
-      ap (λ b. (is_condition language s || is_borne k f s) && b) (conditions_borne k f after kept) ∙ by (is_condition language s)
+      ap (λ b. (is_guard language s || is_borne k f s) && b) (conditions_borne k f after kept) ∙ by (is_guard language s)
     where
       rest : Bool
       rest = list_all (borne_by k (other_keywords language f)) (other_keywords language after)
 
       by : (b : Bool) → ((b || is_borne k f s) && rest)
-          ≡ list_all (borne_by k (other_keywords language f)) (keywords (row (cond b (without_conditions language after) (node s below (without_conditions language after)))))
+          ≡ list_all (borne_by k (other_keywords language f)) (keywords (row (cond b (without_guards language after) (node s below (without_guards language after)))))
       by true = refl
       by false = ap (λ x. x && rest) (borne_other k f kept s)
 
-pub none_borne : (language : Language) (k : Keyword) (f g : Forest Source) → bears_condition language g ≡ false
+pub none_borne : (language : Language) (k : Keyword) (f g : Forest Source) → bears_guard language g ≡ false
     → list_all (is_borne k f) (row g) ≡ list_all (is_borne_in language k f) (row g)
 none_borne language k f end none = refl
 none_borne language k f (node s below after) none =
-    let both = neither language (is_condition language s) (bears_condition language after) none in
+    let both = neither language (is_guard language s) (bears_guard language after) none in
     ap₂ (λ a b. (a || is_borne k f s) && b) (sym both.0) (none_borne language k f after both.1)
 
 -- ---- statements with nothing below them
@@ -296,7 +296,7 @@ core_keeps (node s below after) = ap₂ (λ x y. x && y) (core_keeps below) (cor
 -- its number says nothing of it
 right_alike : (language : Language) (k : ℕ) (s : held.Source) → is_kept_right language (source_view k s) ≡ is_kept_right language (source_view 0 s)
 right_alike core k s = refl
-right_alike (rfc choosings) k s = refl
+right_alike (rfc wide) k s = refl
 
 abbrev slots_kept : Language → List (Slot held.Source) → Bool
 slots_kept language slots = list_all (λ (r : Slot held.Source). is_kept_right language (source_view 0 r.label)) slots

@@ -1,16 +1,16 @@
--- In whatever language a set is read, its conditions are kept right.
-use Rattle.std.proofs.Common.{◌≡◌, ℕ, suc, ◌+◌, Bool, true, false, not, ◌&&◌, ◌||◌, Option, Some, None, refl, sym, ap, ap₂, ◌∙◌, subst}
-use Rattle.std.specs.Prelude.{option_and_then}
+-- In whatever language a set is read, its conditions are kept right, and each `when`.
+use Rattle.std.proofs.Common.{◌≡◌, ℕ, suc, ◌+◌, Bool, true, false, cond, not, ◌&&◌, ◌||◌, Option, Some, None, refl, sym, ap, ap₂, ◌∙◌, subst}
+use Rattle.std.specs.Prelude.{option_map, option_and_then}
 use Rattle.std.proofs.lemmas.Bool.{and_parts}
 use Rattle.std.proofs.lemmas.Slice.Eq.{bytes_eq-Decides}
 use Rattle.yspec.specs.Forest.{Forest, end, node, join, size}
-use Rattle.yspec.specs.text.Text.{is_text}
+use Rattle.yspec.specs.text.Text.{Text, is_text}
 use Rattle.yspec.specs.text.Statement.{Statement}
 use Rattle.yspec.specs.linking.Keyword.{Keyword, same_keyword, extension_word}
 use Rattle.yspec.specs.linking.Source.{Source, kept_at, numbered}
-use Rattle.yspec_wide.specs.Language.{Language, core, rfc}
-use Rattle.yspec_wide.specs.Sources.{is_condition, keyword_kept, kept_keyword_in, kept_in, sources_in, sources_in_from}
-use Rattle.yspec_wide.specs.Words.{if_feature_word, word_named, word_text}
+use Rattle.yspec_wide.specs.Language.{Language, Wide, core, rfc}
+use Rattle.yspec_wide.specs.Sources.{is_guard, keyword_kept, keyword_restricting, kept_keyword_in, may_restrict, restricts_below, kept_in, module_kept, sources_in, sources_in_from}
+use Rattle.yspec_wide.specs.Words.{if_feature_word, when_word, word_named, word_text}
 use Rattle.yschema_given.specs.Keeping.{are_kept_right, is_kept_right}
 use Rattle.yschema_given.proofs.KeepingLemmas.{core_keeps}
 
@@ -37,42 +37,68 @@ module _ (language : Language) where
       let rest = and_parts (are_kept_right language below) (are_kept_right language after) one.1 in
       ap₂ (λ x y. x && y) one.0 (ap₂ (λ x y. x && y) rest.0 (kept_joined after g rest.1 second))
 
--- ---- `if-feature` is kept with the keyword of `extension`
+-- ---- `if-feature` and `when` are kept with the keyword of `extension`
 
-named_extension : (language : Language) (s : Statement) (k : Keyword) → s.keyword ≡ word_text if_feature_word
-    → option_and_then keyword_kept (word_named language (word_text if_feature_word)) ≡ Some extension_word
-    → kept_keyword_in language s ≡ Some k → k ≡ extension_word
-named_extension language s k is named kept =
+-- so are statements whose text is a word that is kept so, or isn't kept
+named_extension : (language : Language) (restricting : Bool) (s : Statement) (k : Keyword) (t : Text) (is_read : Bool) → s.keyword ≡ t
+    → option_and_then keyword_kept (word_named language t) ≡ cond is_read (Some extension_word) None
+    → kept_keyword_in language restricting s ≡ Some k → k ≡ extension_word
+named_extension language false s k t true is named kept =
     let e : Some k ≡ Some extension_word = sym kept ∙ (ap (λ t. option_and_then keyword_kept (word_named language t)) is ∙ named) in cc
+named_extension language true s k t true is named kept =
+    let e : Some k ≡ Some extension_word = sym kept
+    ∙ (ap (λ t. option_map keyword_restricting (option_and_then keyword_kept (word_named language t))) is ∙ ap (option_map keyword_restricting) named) in cc
+named_extension language false s k t false is named kept =
+    let e : Some k ≡ None = sym kept ∙ (ap (λ t. option_and_then keyword_kept (word_named language t)) is ∙ named) in absurd cc
+named_extension language true s k t false is named kept =
+    let e : Some k ≡ None = sym kept
+    ∙ (ap (λ t. option_map keyword_restricting (option_and_then keyword_kept (word_named language t))) is ∙ ap (option_map keyword_restricting) named) in absurd cc
 
-module _ (language : Language) (each : (s : Statement) (k : Keyword) → kept_keyword_in language s ≡ Some k → IsKept language k s) where
-  all_kept : (f : Forest Statement) → AllKept language (kept_in language f)
+when_named : (wide : Wide) → option_and_then keyword_kept (word_named (rfc wide) (word_text when_word)) ≡ cond wide.unjudged.whens (Some extension_word) None
+when_named wide = by wide.unjudged.whens
+  where
+    by : (whens : Bool) → option_and_then keyword_kept (cond whens (Some when_word) None) ≡ cond whens (Some extension_word) None
+    by true = refl
+    by false = refl
+
+module _ (language : Language) (each : (restricting : Bool) (s : Statement) (k : Keyword) → kept_keyword_in language restricting s ≡ Some k → IsKept language k s)
+    (may : Bool) where
+  all_kept : (restricting : Bool) (f : Forest Statement) → AllKept language (kept_in language may restricting f)
   unfolding kept_in
-  all_kept end = tt
-  all_kept (node s below after) = by (kept_keyword_in language s) refl (all_kept below) (all_kept after)
+  all_kept restricting end = tt
+  all_kept restricting (node s below after) =
+      by (kept_keyword_in language restricting s) refl (λ inner. all_kept inner below) (all_kept restricting after)
     where
-      by : (o : Option Keyword) → kept_keyword_in language s ≡ o → AllKept language (kept_in language below) → AllKept language (kept_in language after)
-          → AllKept language (kept_at o s (kept_in language below) (kept_in language after))
+      by : (o : Option Keyword) → kept_keyword_in language restricting s ≡ o → ((inner : Bool) → AllKept language (kept_in language may inner below))
+          → AllKept language (kept_in language may restricting after)
+          → AllKept language (kept_at o s (kept_in language may (restricts_below may o s) below) (kept_in language may restricting after))
       by None is inner rest = rest
-      by (Some k) is inner rest = (each s k is, inner, rest)
+      by (Some k) is inner rest = (each restricting s k is, inner (restricts_below may (Some k) s), rest)
 
+module _ (language : Language) (each : (restricting : Bool) (s : Statement) (k : Keyword) → kept_keyword_in language restricting s ≡ Some k → IsKept language k s) where
   from_keeps : (home number : ℕ) (modules : Forest Statement) → are_kept_right language (sources_in_from language home number modules) ≡ true
   unfolding sources_in_from
   from_keeps home number end = refl
   from_keeps home number (node s below after) =
-      kept_joined language (numbered home number (kept_in language (node s below end)))
-      (sources_in_from language (home + 1) (number + size (kept_in language (node s below end))) after)
-      (kept_numbered language home number (kept_in language (node s below end)) (all_kept (node s below end)))
-      (from_keeps (home + 1) (number + size (kept_in language (node s below end))) after)
+      kept_joined language (numbered home number (module_kept language s below))
+      (sources_in_from language (home + 1) (number + size (module_kept language s below)) after)
+      (kept_numbered language home number (module_kept language s below) (all_kept language each (may_restrict language below) false (node s below end)))
+      (from_keeps (home + 1) (number + size (module_kept language s below)) after)
 
-each_kept : (language : Language) (s : Statement) (k : Keyword) → kept_keyword_in language s ≡ Some k → IsKept language k s
-each_kept core s k kept home number = refl
-each_kept (rfc choosings) s k kept home number = by (is_text s.keyword (word_text if_feature_word)) refl
+each_kept : (language : Language) (restricting : Bool) (s : Statement) (k : Keyword) → kept_keyword_in language restricting s ≡ Some k → IsKept language k s
+each_kept core restricting s k kept home number = refl
+each_kept (rfc wide) restricting s k kept home number =
+    by (is_text s.keyword (word_text if_feature_word)) refl (is_text s.keyword (word_text when_word)) refl
   where
-    by : (b : Bool) → is_text s.keyword (word_text if_feature_word) ≡ b → (not b || same_keyword extension_word k) ≡ true
-    by false e = refl
-    by true e =
-        let is = named_extension (rfc choosings) s k ((bytes_eq-Decides s.keyword (word_text if_feature_word)).0 e) refl kept in
+    by : (b : Bool) → is_text s.keyword (word_text if_feature_word) ≡ b → (c : Bool) → is_text s.keyword (word_text when_word) ≡ c
+        → (not (b || c) || same_keyword extension_word k) ≡ true
+    by false e false w = refl
+    by true e c w =
+        let is = named_extension (rfc wide) restricting s k (word_text if_feature_word) true ((bytes_eq-Decides s.keyword (word_text if_feature_word)).0 e) refl kept in
+        ap (same_keyword extension_word) is
+    by false e true w =
+        let is = named_extension (rfc wide) restricting s k (word_text when_word) wide.unjudged.whens
+        ((bytes_eq-Decides s.keyword (word_text when_word)).0 w) (when_named wide) kept in
         ap (same_keyword extension_word) is
 
 pub sources_keep : (language : Language) (modules : Forest Statement) → are_kept_right language (sources_in language modules) ≡ true

@@ -12,7 +12,7 @@ use Rattle.std.specs.Prelude.{option_map}
 use Rattle.yspec.proofs.LinkingProofs.KeywordLemmas.{same_is}
 use Rattle.yspec.proofs.LinkingProofs.RefineLemmas.{first_stated, all_stated}
 use Rattle.yspec_wide.specs.Language.{Language}
-use Rattle.yspec_wide.specs.Sources.{is_condition, condition_row, without_conditions}
+use Rattle.yspec_wide.specs.Sources.{is_guard, guard_row, without_guards}
 use Rattle.yspec_wide.specs.Standing.{without_default}
 use Rattle.yschema_given.specs.Keeping.{is_kept, is_kept_right, are_kept_right}
 use Rattle.yschema_given.specs.GivenView.{language_of, row_of, stated_after, stated_with, stated_with_row}
@@ -169,16 +169,16 @@ module _ (k : Keyword) where
 
     module _ (language : Language) where
       none_kept : (f : Forest Source) → are_kept_right language f ≡ true
-          → (found_with k (condition_row language (own_of f)) ≡ None) × (all_with k (condition_row language (own_of f)) ≡ [])
+          → (found_with k (guard_row language (own_of f)) ≡ None) × (all_with k (guard_row language (own_of f)) ≡ [])
       none_kept end kept = (refl, refl)
       none_kept (node s below after) kept =
           let parts = kept_parts language s below after kept in
           by (defines_node s.keyword) parts.0 (none_kept after parts.2)
         where
           rest : Forest Source
-          rest = condition_row language (own_of after)
+          rest = guard_row language (own_of after)
 
-          one : (b : Bool) → is_condition language s ≡ b → is_kept_right language s ≡ true → (found_with k rest ≡ None) × (all_with k rest ≡ [])
+          one : (b : Bool) → is_guard language s ≡ b → is_kept_right language s ≡ true → (found_with k rest ≡ None) × (all_with k rest ≡ [])
               → (found_with k (cond b (node s below rest) rest) ≡ None) × (all_with k (cond b (node s below rest) rest) ≡ [])
           one true is right none =
               let other_word = not_of_it s (as_kept language s right is) in (
@@ -188,26 +188,26 @@ module _ (k : Keyword) where
           one false is right none = none
 
           by : (d : Bool) → is_kept_right language s ≡ true → (found_with k rest ≡ None) × (all_with k rest ≡ [])
-              → (found_with k (condition_row language (cond d (own_of after) (node s below (own_of after)))) ≡ None)
-              × (all_with k (condition_row language (cond d (own_of after) (node s below (own_of after)))) ≡ [])
+              → (found_with k (guard_row language (cond d (own_of after) (node s below (own_of after)))) ≡ None)
+              × (all_with k (guard_row language (cond d (own_of after) (node s below (own_of after)))) ≡ [])
           by true right none = none
-          by false right none = one (is_condition language s) refl right none
+          by false right none = one (is_guard language s) refl right none
 
       conditions_same : (own f : Forest Source) → are_kept_right language f ≡ true
-          → SameFor k (join own (condition_row language (own_of f))) own
-      conditions_same own f kept = let none = none_kept f kept in join_none own (condition_row language (own_of f)) none.0 none.1
+          → SameFor k (join own (guard_row language (own_of f))) own
+      conditions_same own f kept = let none = none_kept f kept in join_none own (guard_row language (own_of f)) none.0 none.1
 
       without_both : (f : Forest Source) → are_kept_right language f ≡ true
-          → SameFor k (without_conditions language f) f × (has (without_conditions language f) ≡ has f)
+          → SameFor k (without_guards language f) f × (has (without_guards language f) ≡ has f)
       without_both end kept = ((refl, refl), refl)
       without_both (node s below after) kept =
           let parts = kept_parts language s below after kept in
-          by (is_condition language s) refl parts.0 (without_both after parts.2)
+          by (is_guard language s) refl parts.0 (without_both after parts.2)
         where
-          by : (b : Bool) → is_condition language s ≡ b → is_kept_right language s ≡ true
-              → SameFor k (without_conditions language after) after × (has (without_conditions language after) ≡ has after)
-              → SameFor k (cond b (without_conditions language after) (node s below (without_conditions language after))) (node s below after)
-              × (has (cond b (without_conditions language after) (node s below (without_conditions language after))) ≡ has (node s below after))
+          by : (b : Bool) → is_guard language s ≡ b → is_kept_right language s ≡ true
+              → SameFor k (without_guards language after) after × (has (without_guards language after) ≡ has after)
+              → SameFor k (cond b (without_guards language after) (node s below (without_guards language after))) (node s below after)
+              × (has (cond b (without_guards language after) (node s below (without_guards language after))) ≡ has (node s below after))
           by true is right rest =
               let other_word = not_of_it s (as_kept language s right is) in (
                 (
@@ -227,7 +227,7 @@ module _ (k : Keyword) where
       -- a refine
       module _ (f : Forest Source) (kept : are_kept_right language f ≡ true) where
         abbrev w : Forest Source
-        w = without_conditions language f
+        w = without_guards language f
 
         abbrev whole : Forest Source → Forest Source
         whole own = join (others w own) f
@@ -249,28 +249,28 @@ module _ (k : Keyword) where
             (turned (whole more) (join (others w more) w) (joined more)))
 
         -- conditions
-        pub keeps_own : (own : Forest Source) → SameFor k own (join own (condition_row language (own_of f)))
-        keeps_own own = turned (join own (condition_row language (own_of f))) own (conditions_same own f kept)
+        pub keeps_own : (own : Forest Source) → SameFor k own (join own (guard_row language (own_of f)))
+        keeps_own own = turned (join own (guard_row language (own_of f))) own (conditions_same own f kept)
 
         asked_alike : (own more : Forest Source) → SameFor k own more
-            → SameFor k (join own (condition_row language (own_of f))) (join more (condition_row language (own_of f)))
-        asked_alike own more same = same_both (join own (condition_row language (own_of f))) own (join more (condition_row language (own_of f)))
-            (conditions_same own f kept) (same_both own more (join more (condition_row language (own_of f))) same (keeps_own more))
+            → SameFor k (join own (guard_row language (own_of f))) (join more (guard_row language (own_of f)))
+        asked_alike own more same = same_both (join own (guard_row language (own_of f))) own (join more (guard_row language (own_of f)))
+            (conditions_same own f kept) (same_both own more (join more (guard_row language (own_of f))) same (keeps_own more))
 
     -- ---- one row or the one before
 
     pub picks_refine : (given : GivenRow) (own : Forest Source) → given.is_refine ≡ true → has (row_of given) ≡ true → SameFor k (row_of given) (stated_with_row given own)
     picks_refine given own refines some =
-        subst (λ b. SameFor k (row_of given) (cond b (join (others (without_conditions (language_of given) (row_of given)) own) (row_of given))
-        (join own (condition_row (language_of given) (own_of (row_of given)))))) (sym refines)
+        subst (λ b. SameFor k (row_of given) (cond b (join (others (without_guards (language_of given) (row_of given)) own) (row_of given))
+        (join own (guard_row (language_of given) (own_of (row_of given)))))) (sym refines)
         (joined_given (language_of given) (row_of given) given.kept own some)
 
     pub picks_before : (given : GivenRow) (own : Forest Source) → (given.is_refine ≡ true → has (row_of given) ≡ false) → SameFor k own (stated_with_row given own)
     picks_before given own none = by given.is_refine none
       where
         by : (b : Bool) → (b ≡ true → has (row_of given) ≡ false)
-            → SameFor k own (cond b (join (others (without_conditions (language_of given) (row_of given)) own) (row_of given))
-            (join own (condition_row (language_of given) (own_of (row_of given)))))
+            → SameFor k own (cond b (join (others (without_guards (language_of given) (row_of given)) own) (row_of given))
+            (join own (guard_row (language_of given) (own_of (row_of given)))))
         by true none = joined_kept (language_of given) (row_of given) given.kept own (none refl)
         by false none = keeps_own (language_of given) (row_of given) given.kept own
 
@@ -285,8 +285,8 @@ module _ (k : Keyword) where
         r : Forest Source
         r = row_of given
 
-        by : (b : Bool) → SameFor k (cond b (join (others (without_conditions l r) f) r) (join f (condition_row l (own_of r))))
-            (cond b (join (others (without_conditions l r) g) r) (join g (condition_row l (own_of r))))
+        by : (b : Bool) → SameFor k (cond b (join (others (without_guards l r) f) r) (join f (guard_row l (own_of r))))
+            (cond b (join (others (without_guards l r) g) r) (join g (guard_row l (own_of r))))
         by true = joined_alike l r given.kept f g same
         by false = asked_alike l r given.kept f g same
 

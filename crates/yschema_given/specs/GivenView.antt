@@ -6,7 +6,7 @@ use Rattle.yspec.specs.linking.Source.{Source}
 use Rattle.yspec.specs.linking.Expansion.{others}
 use Rattle.yspec.specs.linking.Parts.{own_of}
 use Rattle.yspec_wide.specs.Language.{Language}
-use Rattle.yspec_wide.specs.Sources.{condition_row, without_conditions}
+use Rattle.yspec_wide.specs.Sources.{guard_row, without_guards}
 use Rattle.yspec_wide.specs.Standing.{without_default}
 use Rattle.ybase_preorder.specs.View.{row_by}
 use Rattle.ybase_preorder.specs.declared.siblings.Siblings.{Siblings}
@@ -30,8 +30,8 @@ row_of g = row_by source_view g.row
 -- What a node states once it is given a row: what a refine gives takes the place of all of those kinds, but conditions
 -- come to its own.
 abbrev pub stated_with_row : GivenRow → Forest Source → Forest Source
-stated_with_row g own = if g.is_refine then join (others (without_conditions (language_of g) (row_of g)) own) (row_of g)
-    else join own (condition_row (language_of g) (own_of (row_of g)))
+stated_with_row g own = if g.is_refine then join (others (without_guards (language_of g) (row_of g)) own) (row_of g)
+    else join own (guard_row (language_of g) (own_of (row_of g)))
 
 abbrev pub stated_with : Given → Forest Source → Forest Source
 stated_with (Row g) own = stated_with_row g own

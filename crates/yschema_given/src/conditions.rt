@@ -1,4 +1,4 @@
-//! Conditions among the statements that nodes are given (RFC 7950, 7.20.2).
+//! Conditions among the statements that nodes are given (RFC 7950, 7.20.2 and 7.21.5).
 
 ghost use Rattle.std.specs.Prelude.{◌≡◌, ◌≤◌, IfOk, length, true};
 ghost use Rattle.std.specs.List.{list_all};
@@ -14,15 +14,28 @@ ghost use Rattle.yschema_given.specs.Keeping.{are_kept_right, are_leaves, leaf_k
 use std::alloc::{AllocError, Global};
 use ybase_preorder::{Siblings, Slot};
 use ybase_words::Keyword;
-use ylink_grammar::{Language, Source, is_condition, may_bear};
+use ylink_grammar::{Language, Source, is_guard, is_when, may_bear};
 
-/// Whether a row bears a condition.
-pub fn bears_condition(language: &Language, statements: Siblings<'_, Source<'_>>) -> bool
-    ensures { result ≡ spec.bears_condition (language_view language.now)
+/// Whether a row bears a condition or a `when`.
+pub fn bears_guard(language: &Language, statements: Siblings<'_, Source<'_>>) -> bool
+    ensures { result ≡ spec.bears_guard (language_view language.now)
         (row_by source_view statements.entry) }
 {
     for statement in statements {
-        if is_condition(language, statement.label()) {
+        if is_guard(language, statement.label()) {
+            return true;
+        }
+    }
+    false
+}
+
+/// Whether a row bears a `when`.
+pub fn bears_when(language: &Language, statements: Siblings<'_, Source<'_>>) -> bool
+    ensures { result ≡ spec.bears_when (language_view language.now)
+        (row_by source_view statements.entry) }
+{
+    for statement in statements {
+        if is_when(language, statement.label()) {
             return true;
         }
     }
@@ -43,7 +56,7 @@ fn others_of<'t>(
     let mut others = Vec::new(alloc);
     for statement in statements {
         let source = statement.label();
-        if is_condition(language, source) {
+        if is_guard(language, source) {
             continue;
         }
         others.push(Slot {
@@ -84,7 +97,7 @@ pub fn may_bear_in(
         IfOk result (λ may. may ≡ list_all (is_borne_in (language_view language.now)
         (keyword_view keyword) statements) (row statements)) }
 {
-    if bears_condition(language, given) {
+    if bears_guard(language, given) {
         may_bear_conditions(alloc, language, keyword, given)
     } else {
         Ok(may_bear(keyword, given))

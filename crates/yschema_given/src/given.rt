@@ -26,7 +26,7 @@ impl<'a, 't> Given<'a, 't> {
     ghost use Rattle.yspec.specs.linking.Keyword.{extension_word, same_keyword};
     ghost use Rattle.yspec.specs.linking.Parts.{own_of};
     ghost use Rattle.yspec.specs.linking.Source as sources;
-    ghost use Rattle.yspec_wide.specs.Sources.{condition_row, without_conditions};
+    ghost use Rattle.yspec_wide.specs.Sources.{guard_row, without_guards};
     ghost use Rattle.yspec_wide.specs.Standing.{without_default};
     ghost use Rattle.ybase_preorder.specs.View.{row_by};
     ghost use Rattle.ybase_words.specs.KeywordView.{keyword_view};
@@ -41,7 +41,7 @@ impl<'a, 't> Given<'a, 't> {
     pub fn of_refine(language: &'a Language, row: Siblings<'a, Source<'t>>) -> Given<'a, 't>
         requires { are_kept_right (language_view language.now) (row_by source_view row) ≡ true }
         ensures { let l = language_view language.entry.now in let given = row_by source_view row.entry in
-            (own : Forest sources.Source) → stated_with result own ≡ join (others (without_conditions l given) own) given }
+            (own : Forest sources.Source) → stated_with result own ≡ join (others (without_guards l given) own) given }
     {
         Given::Row(GivenRow::of_refine(language, row))
     }
@@ -50,7 +50,7 @@ impl<'a, 't> Given<'a, 't> {
     pub fn of_conditions(language: &'a Language, row: Siblings<'a, Source<'t>>) -> Given<'a, 't>
         requires { are_kept_right (language_view language.now) (row_by source_view row) ≡ true }
         ensures { let l = language_view language.entry.now in let given = row_by source_view row.entry in
-            (own : Forest sources.Source) → stated_with result own ≡ join own (condition_row l (own_of given)) }
+            (own : Forest sources.Source) → stated_with result own ≡ join own (guard_row l (own_of given)) }
     {
         Given::Row(GivenRow::of_conditions(language, row))
     }

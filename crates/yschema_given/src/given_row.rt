@@ -5,7 +5,7 @@ ghost use Rattle.std.specs.List.{list_any};
 ghost use Rattle.yspec.specs.Forest.{row as tops, Forest, join};
 ghost use Rattle.yspec.specs.linking.Expansion.{others};
 ghost use Rattle.yspec.specs.linking.Source as sources;
-ghost use Rattle.yspec_wide.specs.Sources.{without_conditions};
+ghost use Rattle.yspec_wide.specs.Sources.{without_guards};
 ghost use Rattle.yschema_given.specs.Holding.{holds_in, kept_hold};
 ghost use Rattle.yspec.specs.linking.Source.{is_source_of};
 ghost use Rattle.ybase_preorder.specs.View.{row_by};
@@ -35,7 +35,7 @@ impl<'a, 't> GivenRow<'a, 't> {
     ghost use Rattle.yspec.specs.linking.Keyword.{extension_word, same_keyword};
     ghost use Rattle.yspec.specs.linking.Parts.{own_of};
     ghost use Rattle.yspec.specs.linking.Source as sources;
-    ghost use Rattle.yspec_wide.specs.Sources.{condition_row, without_conditions};
+    ghost use Rattle.yspec_wide.specs.Sources.{guard_row, without_guards};
     ghost use Rattle.ybase_preorder.specs.View.{row_by};
     ghost use Rattle.ybase_words.specs.KeywordView.{keyword_view};
     ghost use Rattle.ylink_grammar.specs.LanguageView.{language_view};
@@ -49,7 +49,7 @@ impl<'a, 't> GivenRow<'a, 't> {
     pub fn of_refine(language: &'a Language, row: Siblings<'a, Source<'t>>) -> GivenRow<'a, 't>
         requires { are_kept_right (language_view language.now) (row_by source_view row) ≡ true }
         ensures { let l = language_view language.entry.now in let given = row_by source_view row.entry in
-            (own : Forest sources.Source) → stated_with_row result own ≡ join (others (without_conditions l given) own) given }
+            (own : Forest sources.Source) → stated_with_row result own ≡ join (others (without_guards l given) own) given }
     {
         GivenRow {
             is_refine: true,
@@ -62,7 +62,7 @@ impl<'a, 't> GivenRow<'a, 't> {
     pub fn of_conditions(language: &'a Language, row: Siblings<'a, Source<'t>>) -> GivenRow<'a, 't>
         requires { are_kept_right (language_view language.now) (row_by source_view row) ≡ true }
         ensures { let l = language_view language.entry.now in let given = row_by source_view row.entry in
-            (own : Forest sources.Source) → stated_with_row result own ≡ join own (condition_row l (own_of given)) }
+            (own : Forest sources.Source) → stated_with_row result own ≡ join own (guard_row l (own_of given)) }
     {
         GivenRow {
             is_refine: false,
@@ -129,7 +129,7 @@ fn refined_stands(
 ) -> bool
     ensures { let l = language_view language.now in let given = row_by source_view row.entry in
         (own : Forest sources.Source) → before ≡ kept_hold (holds_in holding.now) own
-        → result ≡ kept_hold (holds_in holding.now) (join (others (without_conditions l given) own) given) }
+        → result ≡ kept_hold (holds_in holding.now) (join (others (without_guards l given) own) given) }
 {
     let holds = kept_hold(holding, row);
     if has_other(language, row) {

@@ -8,7 +8,7 @@ ghost use Rattle.yschema_given.specs.Holding as spec;
 
 use ybase_preorder::Siblings;
 use ybase_words::Keyword;
-use ylink_grammar::{Language, Source, is_condition};
+use ylink_grammar::{Language, Source, is_guard};
 
 /// Whether the statement of a number holds; that it does where nothing is told of it.
 fn holds_in(holding: &[bool], number: usize) -> bool
@@ -41,7 +41,7 @@ pub(crate) fn asked_hold(
         (row_by source_view statements.entry) }
 {
     for statement in statements {
-        if is_condition(language, statement.label())
+        if is_guard(language, statement.label())
             && !holds_in(holding, statement.number() as usize)
         {
             return false;
@@ -56,7 +56,7 @@ pub(crate) fn has_other(language: &Language, statements: Siblings<'_, Source<'_>
 {
     for statement in statements {
         if Keyword::Extension.is(statement.label().keyword)
-            && !is_condition(language, statement.label())
+            && !is_guard(language, statement.label())
         {
             return true;
         }

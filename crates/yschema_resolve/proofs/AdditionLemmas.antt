@@ -1,5 +1,5 @@
 -- What is told at the `augment` that adds a node, and of all nodes by which of them stand.
-use Rattle.std.proofs.Common.{◌≡◌, ℕ, suc, ◌<◌, Bool, true, false, ◌&&◌, ◌||◌, List, [], ◌∷◌, ◌++◌, length, get_or, Option, Some, None, refl, sym, ap, ap₂, ◌∙◌, arith}
+use Rattle.std.proofs.Common.{◌≡◌, ℕ, suc, ◌<◌, Bool, true, false, cond, not, ◌&&◌, ◌||◌, List, [], ◌∷◌, ◌++◌, length, get_or, Option, Some, None, refl, sym, ap, ap₂, ◌∙◌, arith}
 use Rattle.std.specs.Prelude.{option_map, option_and_then, slice_get}
 use Rattle.std.specs.List.{Contains, flat_map}
 use Rattle.std.specs.Option.{option_map_or}
@@ -11,8 +11,10 @@ use Rattle.yspec.specs.linking.Source.{Source}
 use Rattle.yspec.specs.linking.Scopes.{Placed, statement_at}
 use Rattle.yspec.specs.linking.Planned.{Plan, Planned, node_of, nodes_of}
 use Rattle.yspec.specs.linking.NodeBreaks.{broken_in, is_foreign, must_be, row_below}
-use Rattle.yspec_wide.specs.Language.{Language}
-use Rattle.yspec_wide.specs.Additions.{stands_itself, has_mandatory_standing, is_needed_standing, addition_breaks_in}
+use Rattle.yspec_wide.specs.Guards.{is_let_add}
+use Rattle.yspec_wide.specs.Language.{Language, is_yang_1, version_of}
+use Rattle.yspec_wide.specs.Sources.{bears_when}
+use Rattle.yspec_wide.specs.Additions.{stands_itself, has_mandatory_standing, is_needed_standing, broken_unless_let, addition_breaks_in}
 use Rattle.ybase_preorder.specs.Layout.{forest_of, numbered_by}
 use Rattle.ybase_preorder.specs.View.{forest_in}
 use Rattle.ybase_preorder.specs.declared.slot.Slot.{Slot}
@@ -23,7 +25,7 @@ use Rattle.yschema_plan.specs.Needs.{has_mandatory_by, is_needed_by, is_told, mu
 use Rattle.yschema_plan.specs.PlanView.{view}
 use Rattle.yschema_plan.specs.declared.plan.Plan as code
 use Rattle.yschema_plan.proofs.NeedLemmas.{told_at}
-use Rattle.yschema_resolve.specs.Standing.{TellsStanding, addition_breaks_by}
+use Rattle.yschema_resolve.specs.Standing.{TellsStanding, addition_breaks_unless_let}
 use Rattle.yschema_resolve.proofs.TypeLemmas.{number_is}
 
 told_in : Source → List Break
@@ -66,6 +68,58 @@ no_augment start plan added wrong rows n are is at =
     (sym (ap (λ o. option_map_or told_in (option_map (λ (x : Slot held.Source). source_view n x.label) o) []) at)
     ∙ (by_slot plan rows n are ∙ ap (λ o. option_map_or (broken_in plan) o []) is))
 
+-- ---- at an `augment` that is let add it
+
+pub let_off : (language : Language) (plan : Plan) (added : Option ℕ) (start : Option Break) (wrong : Bool)
+    → option_map_or (is_let_add language plan) added false ≡ true
+    → start ≡ least_from start (when wrong (option_map_or (broken_unless_let language plan) added []))
+let_off language plan None start wrong is = absurd cc
+let_off language plan (Some n) start wrong is = nothing_told start wrong
+    ∙ sym (ap (λ b. least_from start (when wrong (cond b [] (broken_in plan n)))) is)
+
+pub not_let : (language : Language) (plan : Plan) (added : Option ℕ) (start : Option Break) (wrong : Bool)
+    → option_map_or (is_let_add language plan) added false ≡ false
+    → least_from start (when wrong (option_map_or (broken_in plan) added []))
+    ≡ least_from start (when wrong (option_map_or (broken_unless_let language plan) added []))
+not_let language plan None start wrong is = refl
+not_let language plan (Some n) start wrong is = sym (ap (λ b. least_from start (when wrong (cond b [] (broken_in plan n)))) is)
+
+-- the version of a statement's module, by the slot in which the statement lies
+pub first_at : (language : Language) (plan : Plan) (rows : List (Slot held.Source)) (n : ℕ) → numbered_by source_view 0 (forest_of rows) ≡ plan.modules
+    → option_map_or (λ (r : Slot held.Source). is_yang_1 (version_of language plan.modules r.label.home)) (slice_get rows n) false
+    ≡ option_map_or (λ (a : Placed). is_yang_1 (version_of language plan.modules a.source.home)) (statement_at plan.modules n) false
+first_at language plan rows n are =
+    of_slot (slice_get rows n)
+    ∙ (ap (λ o. option_map_or first o false) (source_at rows n ∙ ap (λ modules. option_map (λ (p : Placed). p.source) (statement_at modules n)) are)
+    ∙ of_placed (statement_at plan.modules n))
+  where
+    first : Source → Bool
+    first s = is_yang_1 (version_of language plan.modules s.home)
+
+    of_slot : (o : Option (Slot held.Source)) → option_map_or (λ (r : Slot held.Source). is_yang_1 (version_of language plan.modules r.label.home)) o false
+        ≡ option_map_or first (option_map (λ (r : Slot held.Source). source_view n r.label) o) false
+    of_slot None = refl
+    of_slot (Some r) = refl
+
+    of_placed : (o : Option Placed) → option_map_or first (option_map (λ (p : Placed). p.source) o) false
+        ≡ option_map_or (λ (a : Placed). is_yang_1 (version_of language plan.modules a.source.home)) o false
+    of_placed None = refl
+    of_placed (Some p) = refl
+
+-- it bears a `when` and isn't of YANG 1
+pub let_by_both : (language : Language) (plan : Plan) (n : ℕ) (bears is_first : Bool)
+    → bears ≡ option_map_or (λ (a : Placed). bears_when language a.below) (statement_at plan.modules n) false
+    → is_first ≡ option_map_or (λ (a : Placed). is_yang_1 (version_of language plan.modules a.source.home)) (statement_at plan.modules n) false
+    → (bears && not is_first) ≡ is_let_add language plan n
+let_by_both language plan n bears is_first bears_is first_is =
+    ap₂ (λ b f. b && not f) bears_is first_is ∙ by (statement_at plan.modules n)
+  where
+    by : (o : Option Placed) → (option_map_or (λ (a : Placed). bears_when language a.below) o false
+        && not (option_map_or (λ (a : Placed). is_yang_1 (version_of language plan.modules a.source.home)) o false))
+        ≡ option_map_or (λ (a : Placed). bears_when language a.below && not (is_yang_1 (version_of language plan.modules a.source.home))) o false
+    by None = refl
+    by (Some a) = refl
+
 -- ---- all nodes
 
 same_of_all : {A B : Type 0} (f g : A → List B) (xs : List A) → ((x : A) → Contains xs x → f x ≡ g x) → flat_map f xs ≡ flat_map g xs
@@ -93,7 +147,7 @@ module _ (language : Language) (plan : Plan) where
       (mandatory_is below) (mandatory_is after)
 
 pub breaks_same : (language : Language) (plan : code.Plan) (standing : List Bool) → TellsStanding standing language (view plan)
-    → flat_map (addition_breaks_by (stands_in standing) (view plan)) (nodes_of (view plan))
+    → flat_map (addition_breaks_unless_let language (stands_in standing) (view plan)) (nodes_of (view plan))
     ≡ flat_map (addition_breaks_in language (view plan)) (nodes_of (view plan))
 breaks_same language plan standing tells =
     let v = view plan in
@@ -105,6 +159,6 @@ breaks_same language plan standing tells =
     let below : (n : ℕ) → has_mandatory_by (stands_in standing) (row_below v n) ≡ has_mandatory_standing language v (row_below v n) =
     λ n. sym (told_at (stands_in standing) (forest_in plan.table) n) ∙ (ap (λ told. is_told told n) needs
     ∙ (told_at (stands_itself language v) (forest_in plan.table) n ∙ mandatory_is language v (row_below v n))) in
-    same_of_all (addition_breaks_by (stands_in standing) v) (addition_breaks_in language v) (nodes_of v) (λ p at.
+    same_of_all (addition_breaks_unless_let language (stands_in standing) v) (addition_breaks_in language v) (nodes_of v) (λ p at.
     ap₂ (λ own inside. when (is_foreign p (option_and_then (node_of v) p.parent) && (p.config && (own && must_be p inside)))
-    (option_map_or (broken_in v) p.part.added_by [])) (each p at) (below p.number))
+    (option_map_or (broken_unless_let language v) p.part.added_by [])) (each p at) (below p.number))

@@ -1,5 +1,5 @@
--- What callers need: which nodes of a plan stand themselves, by what is told of parts.
-use Rattle.std.proofs.Common.{◌≡◌, ℕ, suc, ◌+◌, Bool, true, false, List, [], ◌∷◌, ◌++◌, map, get_or, Option, Some, None, refl, sym, ap, ap₂, ◌∙◌}
+-- What callers need: which nodes of a plan stand themselves, and which bear no `when`, by what is told of parts.
+use Rattle.std.proofs.Common.{◌≡◌, ℕ, suc, ◌+◌, Bool, true, false, not, List, [], ◌∷◌, ◌++◌, map, get_or, Option, Some, None, refl, sym, ap, ap₂, ◌∙◌}
 use Rattle.std.specs.Prelude.{option_map, slice_get}
 use Rattle.std.proofs.lemmas.List.{append-nil, map-append}
 use Rattle.std.proofs.lemmas.Option.{slice_get-map}
@@ -11,14 +11,24 @@ use Rattle.yspec.specs.schema.Breaks.{Break, least_from, or_told}
 use Rattle.yspec.proofs.SchemaProofs.LeastLemmas.{least_of_both}
 use Rattle.yspec_wide.specs.Features.{stands}
 use Rattle.yspec_wide.specs.Language.{Language, core}
+use Rattle.yspec_wide.specs.Sources.{bears_when}
 use Rattle.yspec_wide.proofs.CoreLinkingLemmas.{all_stand_in_core}
 use Rattle.yspec_wide.proofs.LeastLemmas.{told_in_two}
 use Rattle.yschema_plan.specs.PlanView.{plan_with}
+use Rattle.yschema_resolve.specs.Guarding.{TellsUnguarded}
 use Rattle.yschema_resolve.specs.Standing.{TellsStanding}
 
 -- under the core all nodes stand, and nothing needs to be told
 pub none_told : (plan : Plan) → TellsStanding [] core plan
 none_told plan number p at = sym (ap (λ holds. holds p.part.own) (all_stand_in_core plan.modules))
+
+-- and no node bears a `when`
+pub none_unguarded : (plan : Plan) → TellsUnguarded [] core plan
+none_unguarded plan number p at = sym (ap not (no_when p.part.own))
+  where
+    no_when : (f : Forest Source) → bears_when core f ≡ false
+    no_when end = refl
+    no_when (node s below after) = no_when after
 
 parts_planned : (k : ℕ) (a : Around) (parts : Forest Part) → map (λ (p : Planned). p.part) (preorder (planned k a parts)) ≡ preorder parts
 unfolding planned
@@ -30,12 +40,22 @@ parts_planned k a (node x below after) =
     ∙ ap₂ (λ xs ys. xs ++ ys) (parts_planned (k + 1) (around_below k a x) below) (parts_planned (k + suc (size below)) a after))
 
 -- what is told of parts is told of their nodes
+told_of_parts : (told : List Bool) (test : Part → Bool) (modules : Forest Source) (parts : Forest Part)
+    → ((number : ℕ) (p : Part) → slice_get (preorder parts) number ≡ Some p → get_or told number true ≡ test p)
+    → (number : ℕ) (p : Planned) → slice_get (nodes_of (plan_with modules parts)) number ≡ Some p → get_or told number true ≡ test p.part
+told_of_parts told test modules parts tells number p at =
+    tells number p.part (ap (λ ps. slice_get ps number) (sym (parts_planned 0 at_top parts))
+    ∙ (slice_get-map (λ (q : Planned). q.part) (nodes_of (plan_with modules parts)) number ∙ ap (option_map (λ (q : Planned). q.part)) at))
+
 pub parts_told : (standing : List Bool) (language : Language) (modules : Forest Source) (parts : Forest Part)
     → ((number : ℕ) (p : Part) → slice_get (preorder parts) number ≡ Some p → get_or standing number true ≡ stands language modules p.own)
     → TellsStanding standing language (plan_with modules parts)
-parts_told standing language modules parts told number p at =
-    told number p.part (ap (λ ps. slice_get ps number) (sym (parts_planned 0 at_top parts))
-    ∙ (slice_get-map (λ (q : Planned). q.part) (nodes_of (plan_with modules parts)) number ∙ ap (option_map (λ (q : Planned). q.part)) at))
+parts_told standing language modules parts told = told_of_parts standing (λ (p : Part). stands language modules p.own) modules parts told
+
+pub unguarded_told : (unguarded : List Bool) (language : Language) (modules : Forest Source) (parts : Forest Part)
+    → ((number : ℕ) (p : Part) → slice_get (preorder parts) number ≡ Some p → get_or unguarded number true ≡ not (bears_when language p.own))
+    → TellsUnguarded unguarded language (plan_with modules parts)
+unguarded_told unguarded language modules parts told = told_of_parts unguarded (λ (p : Part). not (bears_when language p.own)) modules parts told
 
 -- ---- the least of a phase, its rules in either order
 

@@ -1,26 +1,26 @@
 -- Which names of values are kept is asked of rows below statements of a set alone: where two say the same of these, types are the
 -- same.
-use Rattle.std.proofs.Common.{◌≡◌, ℕ, not, zero, suc, Bool, true, false, cond, List, [], ◌∷◌, ◌++◌, Option, Some, None, refl, sym, ap, ap₂, ◌∙◌, subst}
+use Rattle.std.proofs.Common.{◌≡◌, ℕ, ℤ, zero, suc, Bool, true, false, cond, List, [], ◌∷◌, ◌++◌, Option, Some, None, refl, sym, ap, ap₂, ◌∙◌, subst}
 use Rattle.std.proofs.Math.Path.{fun_ext}
 use Rattle.std.specs.Prelude.{⊤, ◌&&◌, find, filter, map, pos, option_map, option_and_then}
 use Rattle.std.specs.List.{Contains, list_any, list_all}
 use Rattle.std.specs.Option.{option_map_or}
-use Rattle.yspec.specs.Forest.{Forest, end, node, size, first_of}
-use Rattle.yspec.specs.text.Text.{is_text}
-use Rattle.yspec.specs.types.Names.{enum_names, bit_names}
+use Rattle.yspec.specs.Forest.{Forest, end, node, row, size, first_of}
+use Rattle.yspec.specs.text.Text.{Text, is_text}
+use Rattle.yspec.specs.types.Names.{Naming, enum_names, bit_names}
+use Rattle.yspec.specs.types.Restriction.{Restriction, of_enums, of_bits, has_name, narrowed}
 use Rattle.yspec.specs.types.Types.{YangType, enumeration_base, bits_base, identity_base, plain, type_in}
 use Rattle.yspec.specs.linking.Keyword.{Keyword}
 use Rattle.yspec.specs.linking.Keyword as word
 use Rattle.yspec.specs.linking.Source.{Source, is_source_of, argument_in, first_with, found_with, stated_with}
 use Rattle.yspec.specs.linking.Scopes.{Placed, placed, statements_of, statement_at}
 use Rattle.yspec.specs.linking.Identities.{module_name, assigned_identity, identities_of, is_identity, derives, bases_in}
-use Rattle.yspec.specs.linking.TypeStatements.{BuiltIn, integer, decimal64, string, boolean, empty, enumeration, bits, union, leafref, identityref, Meant, own, Verdict, means, wrong, built_in_meant, are_in_place, of_names, namings, value_stated, position_stated, derived, meaning_of}
+use Rattle.yspec.specs.linking.TypeStatements.{BuiltIn, integer, decimal64, string, boolean, empty, enumeration, bits, union, leafref, identityref, binary, Meant, own, Verdict, means, wrong, built_in_meant, are_in_place, of_names, namings, value_stated, position_stated, derived, meaning_of, namings_where, is_restricting, enum_text, bit_text, restricted_to, derived_by}
 use Rattle.yspec.specs.linking.DerivedTypes.{Known, unknown, named, verdict_by, typedef_row, is_member}
 use Rattle.yspec.specs.linking.Planned.{Planned, Plan, type_by}
 use Rattle.yspec_wide.specs.Features.{stands}
-use Rattle.yspec_wide.specs.Language.{Language, core}
-use Rattle.yspec_wide.specs.Sources.{bears_condition}
-use Rattle.yspec_wide.specs.Types.{bears_none, names_kept, single_type_of, numbers_kept, identity_verdict_of, verdict_in_place_of, verdict_of, verdicts_of, verdict_on_of, known_of, known_in_row_of, known_within_of, known_named_of, verdict_at, meant_of, meant_in_of, type_within_of, type_of_kept}
+use Rattle.yspec_wide.specs.Language.{Language}
+use Rattle.yspec_wide.specs.Types.{names_where, is_restriction_kept, named_kept, names_kept, single_type_of, numbers_kept, identity_verdict_of, verdict_in_place_of, verdict_of, verdicts_of, verdict_on_of, known_of, known_in_row_of, known_within_of, known_named_of, verdict_at, meant_of, meant_in_of, type_within_of, type_of_kept}
 use Rattle.ylink_names.specs.ScopeView.{placed_at}
 use Rattle.ylink_standing.specs.ConditionView.{is_in}
 use Rattle.ylink_standing.specs.StandingView.{row_stands, IsOf}
@@ -90,12 +90,12 @@ module _ (one other : Forest Source → Bool) where
 
   -- ---- names
 
-  names_alike : (k : Keyword) (below : Forest Source) → Alike below → names_kept one k below ≡ names_kept other k below
+  names_alike : (k : Keyword) (below : Forest Source) → Alike below → names_kept (names_where one) k below ≡ names_kept (names_where other) k below
   names_alike k end a = refl
   names_alike k (node s below after) a =
       ap₂ (λ b rest. cond (is_source_of k s && b) (argument_in s ∷ rest) rest) a.0 (names_alike k after a.1.1)
 
-  single_alike : (type : BuiltIn) (below : Forest Source) → Alike below → single_type_of one type below ≡ single_type_of other type below
+  single_alike : (type : BuiltIn) (below : Forest Source) → Alike below → single_type_of (names_where one) type below ≡ single_type_of (names_where other) type below
   single_alike (integer i) below a = refl
   single_alike decimal64 below a = refl
   single_alike string below a = refl
@@ -108,23 +108,44 @@ module _ (one other : Forest Source → Bool) where
   single_alike union below a = refl
   single_alike leafref below a = refl
   single_alike identityref below a = refl
+  single_alike binary below a = refl
+
+  -- ---- names that restrict types
+
+  left_alike : (name : Text) (type : YangType) (number : Forest Source → Option ℤ) (below : Forest Source) → Alike below
+      → namings_where (λ s inner. is_restricting name s && is_restriction_kept (names_where one) type s inner) number below
+      ≡ namings_where (λ s inner. is_restricting name s && is_restriction_kept (names_where other) type s inner) number below
+  left_alike name type number end a = refl
+  left_alike name type number (node s below after) a =
+      ap₂ (λ (b : Bool) (rest : List Naming). cond (is_restricting name s && (b && has_name type (argument_in s))) (record { name = argument_in s; number = number below } ∷ rest) rest)
+      a.0 (left_alike name type number after a.1.1)
+
+  restricted_alike : (restriction : List Naming → Restriction) (name : Text) (type : YangType) (number : Forest Source → Option ℤ) (below : Forest Source) → Alike below
+      → restricted_to restriction name (is_restriction_kept (names_where one) type) number below type
+      ≡ restricted_to restriction name (is_restriction_kept (names_where other) type) number below type
+  restricted_alike restriction name type number below a =
+      ap (λ (ns : List Naming). cond (list_any (is_restricting name) (row below)) (narrowed type (restriction ns)) (Some type)) (left_alike name type number below a)
+
+  named_alike : (below : Forest Source) → Alike below → (type : YangType) → named_kept (names_where one) below type ≡ named_kept (names_where other) below type
+  named_alike below a type = ap₂ (λ (behind : YangType → Option YangType) made. option_and_then behind made) (fun_ext (λ left. restricted_alike of_bits bit_text left position_stated below a))
+      (restricted_alike of_enums enum_text type value_stated below a)
 
   -- ---- a set of modules
 
   module _ (modules : Forest Source) (all : Alike modules) where
-    numbers_alike : (bases : List ℕ) → numbers_kept one modules bases ≡ numbers_kept other modules bases
+    numbers_alike : (bases : List ℕ) → numbers_kept (names_where one) modules bases ≡ numbers_kept (names_where other) modules bases
     numbers_alike bases = ap (map (λ (p : Placed). pos p.source.number))
         (same_filtered (λ p. list_all (derives modules p) bases) (identities_of modules)
         (alike_filtered is_identity (statements_of modules) (alike_placed [] modules all)))
 
-    identity_alike : (home : ℕ) (bases : List ℕ) → identity_verdict_of one modules home bases ≡ identity_verdict_of other modules home bases
+    identity_alike : (home : ℕ) (bases : List ℕ) → identity_verdict_of (names_where one) modules home bases ≡ identity_verdict_of (names_where other) modules home bases
     identity_alike home [] = refl
     identity_alike home (base ∷ bases) = ap (λ numbers. means (own (plain (identity_base (module_name modules home)
         (map (assigned_identity modules) (identities_of modules)) numbers)))) (numbers_alike (base ∷ bases))
 
     module _ (below : Forest Source) (a : Alike below) where
       in_place_alike : (member : Bool) (s : Source) (type : BuiltIn) (members : List Verdict)
-          → verdict_in_place_of one modules member s type below members ≡ verdict_in_place_of other modules member s type below members
+          → verdict_in_place_of (names_where one) modules member s type below members ≡ verdict_in_place_of (names_where other) modules member s type below members
       in_place_alike member s (integer i) members = refl
       in_place_alike member s decimal64 members = refl
       in_place_alike member s string members = refl
@@ -135,27 +156,29 @@ module _ (one other : Forest Source → Bool) where
       in_place_alike member s union members = refl
       in_place_alike member s leafref members = refl
       in_place_alike member s identityref members = identity_alike s.home (bases_in modules below)
+      in_place_alike member s binary members = refl
 
       verdict_alike : (names : ℕ → Verdict) (member : Bool) (s : Source) (members : List Verdict)
-          → verdict_of one modules names member s below members ≡ verdict_of other modules names member s below members
+          → verdict_of (names_where one) modules names member s below members ≡ verdict_of (names_where other) modules names member s below members
       verdict_alike names member s members =
-          ap (λ meant. option_map_or meant (built_in_meant modules s) (derived member below (names s.number)))
+          ap₂ (λ (meant : BuiltIn → Verdict) (names_make : YangType → Option YangType). option_map_or meant (built_in_meant modules s) (derived_by names_make member below (names s.number)))
           (fun_ext (λ type. ap (λ v. cond (are_in_place type below) v wrong) (in_place_alike member s type members)))
+          (fun_ext (λ type. named_alike below a type))
 
-    verdicts_alike : (names : ℕ → Verdict) (f : Forest Source) → Alike f → verdicts_of one modules names f ≡ verdicts_of other modules names f
+    verdicts_alike : (names : ℕ → Verdict) (f : Forest Source) → Alike f → verdicts_of (names_where one) modules names f ≡ verdicts_of (names_where other) modules names f
     unfolding verdicts_of
     verdicts_alike names end a = refl
     verdicts_alike names (node s below after) a =
         ap₂ (λ v rest. cond (is_source_of word.type_word s) (v ∷ rest) rest)
-        (ap (verdict_of one modules names true s below) (verdicts_alike names below a.1.0)
-        ∙ verdict_alike below a.1.0 names true s (verdicts_of other modules names below))
+        (ap (verdict_of (names_where one) modules names true s below) (verdicts_alike names below a.1.0)
+        ∙ verdict_alike below a.1.0 names true s (verdicts_of (names_where other) modules names below))
         (verdicts_alike names after a.1.1)
 
     verdict_on_alike : (names : ℕ → Verdict) (member : Bool) (s : Source) (below : Forest Source) → Alike below
-        → verdict_on_of one modules names member s below ≡ verdict_on_of other modules names member s below
+        → verdict_on_of (names_where one) modules names member s below ≡ verdict_on_of (names_where other) modules names member s below
     verdict_on_alike names member s below a =
-        ap (verdict_of one modules names member s below) (verdicts_alike names below a)
-        ∙ verdict_alike below a names member s (verdicts_of other modules names below)
+        ap (verdict_of (names_where one) modules names member s below) (verdicts_alike names below a)
+        ∙ verdict_alike below a names member s (verdicts_of (names_where other) modules names below)
 
     -- ---- typedefs
 
@@ -168,11 +191,11 @@ module _ (one other : Forest Source → Bool) where
         by true is rest = let same : (s, below) ≡ t = cc in subst (λ (u : Source × Forest Source). Alike u.1) same a.1.0
         by false is rest = rest is
 
-    in_row_alike : (names : ℕ → Known) (row : Forest Source) → Alike row → known_in_row_of one modules names row ≡ known_in_row_of other modules names row
+    in_row_alike : (names : ℕ → Known) (row : Forest Source) → Alike row → known_in_row_of (names_where one) modules names row ≡ known_in_row_of (names_where other) modules names row
     in_row_alike names row a = by (found_with word.type_word row) refl
       where
         by : (o : Option (Source × Forest Source)) → found_with word.type_word row ≡ o
-            → option_map_or (known_of one modules names row) o unknown ≡ option_map_or (known_of other modules names row) o unknown
+            → option_map_or (known_of (names_where one) modules names row) o unknown ≡ option_map_or (known_of (names_where other) modules names row) o unknown
         by None e = refl
         by (Some t) e = ap (λ (v : Verdict). record {
           verdict = v;
@@ -180,62 +203,62 @@ module _ (one other : Forest Source → Bool) where
         }) (verdict_on_alike (verdict_by names) false t.0 t.1 (type_below row a t e))
 
     -- of the typedef of a number
-    typedef_alike : (names : ℕ → Known) (number : ℕ) → option_map_or (known_in_row_of one modules names) (typedef_row modules number) unknown
-        ≡ option_map_or (known_in_row_of other modules names) (typedef_row modules number) unknown
+    typedef_alike : (names : ℕ → Known) (number : ℕ) → option_map_or (known_in_row_of (names_where one) modules names) (typedef_row modules number) unknown
+        ≡ option_map_or (known_in_row_of (names_where other) modules names) (typedef_row modules number) unknown
     typedef_alike names number = by (statement_at modules number) refl
       where
         by : (o : Option Placed) → statement_at modules number ≡ o
-            → option_map_or (known_in_row_of one modules names) (option_and_then (λ p. cond (is_source_of word.typedef_word p.source) (Some p.below) None) o) unknown
-            ≡ option_map_or (known_in_row_of other modules names) (option_and_then (λ p. cond (is_source_of word.typedef_word p.source) (Some p.below) None) o) unknown
+            → option_map_or (known_in_row_of (names_where one) modules names) (option_and_then (λ p. cond (is_source_of word.typedef_word p.source) (Some p.below) None) o) unknown
+            ≡ option_map_or (known_in_row_of (names_where other) modules names) (option_and_then (λ p. cond (is_source_of word.typedef_word p.source) (Some p.below) None) o) unknown
         by None e = refl
         by (Some p) e = is (is_source_of word.typedef_word p.source)
           where
-            is : (b : Bool) → option_map_or (known_in_row_of one modules names) (cond b (Some p.below) None) unknown
-                ≡ option_map_or (known_in_row_of other modules names) (cond b (Some p.below) None) unknown
+            is : (b : Bool) → option_map_or (known_in_row_of (names_where one) modules names) (cond b (Some p.below) None) unknown
+                ≡ option_map_or (known_in_row_of (names_where other) modules names) (cond b (Some p.below) None) unknown
             is true = in_row_alike names p.below (alike_found _ (statements_of modules) p (alike_placed [] modules all) e).1
             is false = refl
 
-    known_within_alike : (steps : ℕ) → known_within_of one modules steps ≡ known_within_of other modules steps
+    known_within_alike : (steps : ℕ) → known_within_of (names_where one) modules steps ≡ known_within_of (names_where other) modules steps
     unfolding known_within_of
     known_within_alike zero = refl
     known_within_alike (suc steps) = fun_ext (λ number.
-        ap (λ within. option_map_or (known_in_row_of one modules (named modules within)) (typedef_row modules number) unknown) (known_within_alike steps)
-        ∙ typedef_alike (named modules (known_within_of other modules steps)) number)
+        ap (λ within. option_map_or (known_in_row_of (names_where one) modules (named modules within)) (typedef_row modules number) unknown) (known_within_alike steps)
+        ∙ typedef_alike (named modules (known_within_of (names_where other) modules steps)) number)
 
-    pub known_named_alike : known_named_of one modules ≡ known_named_of other modules
+    pub known_named_alike : known_named_of (names_where one) modules ≡ known_named_of (names_where other) modules
     known_named_alike = ap (named modules) (known_within_alike (size modules))
 
     -- ---- what `type` statements mean
 
     -- that of a number
-    pub meant_alike : (number : ℕ) → option_and_then (meant_of one modules) (statement_at modules number) ≡ option_and_then (meant_of other modules) (statement_at modules number)
+    pub meant_alike : (number : ℕ) → option_and_then (meant_of (names_where one) modules) (statement_at modules number) ≡ option_and_then (meant_of (names_where other) modules) (statement_at modules number)
     meant_alike number = by (statement_at modules number) refl
       where
-        by : (o : Option Placed) → statement_at modules number ≡ o → option_and_then (meant_of one modules) o ≡ option_and_then (meant_of other modules) o
+        by : (o : Option Placed) → statement_at modules number ≡ o → option_and_then (meant_of (names_where one) modules) o ≡ option_and_then (meant_of (names_where other) modules) o
         by None e = refl
         by (Some p) e = ap (λ v. cond (is_source_of word.type_word p.source) (meaning_of v) None)
-            (ap (λ known. verdict_on_of one modules (verdict_by known) (is_member p.ancestors) p.source p.below) known_named_alike
-            ∙ verdict_on_alike (verdict_by (known_named_of other modules)) (is_member p.ancestors) p.source p.below
+            (ap (λ known. verdict_on_of (names_where one) modules (verdict_by known) (is_member p.ancestors) p.source p.below) known_named_alike
+            ∙ verdict_on_alike (verdict_by (known_named_of (names_where other) modules)) (is_member p.ancestors) p.source p.below
             (alike_found _ (statements_of modules) p (alike_placed [] modules all) e).1)
 
   -- ---- types of nodes
 
   module _ (plan : Plan) (all : Alike plan.modules) where
-    pub meant_in_alike : meant_in_of one plan ≡ meant_in_of other plan
+    pub meant_in_alike : meant_in_of (names_where one) plan ≡ meant_in_of (names_where other) plan
     meant_in_alike = fun_ext (λ p. by p (first_with word.type_word p.part.own))
       where
-        by : (p : Planned) (o : Option Source) → option_and_then (λ (s : Source). option_and_then (meant_of one plan.modules) (statement_at plan.modules s.number)) o
-            ≡ option_and_then (λ (s : Source). option_and_then (meant_of other plan.modules) (statement_at plan.modules s.number)) o
+        by : (p : Planned) (o : Option Source) → option_and_then (λ (s : Source). option_and_then (meant_of (names_where one) plan.modules) (statement_at plan.modules s.number)) o
+            ≡ option_and_then (λ (s : Source). option_and_then (meant_of (names_where other) plan.modules) (statement_at plan.modules s.number)) o
         by p None = refl
         by p (Some s) = meant_alike plan.modules all s.number
 
-    pub type_within_alike : (steps : ℕ) → type_within_of one plan steps ≡ type_within_of other plan steps
+    pub type_within_alike : (steps : ℕ) → type_within_of (names_where one) plan steps ≡ type_within_of (names_where other) plan steps
     unfolding type_within_of
     type_within_alike zero = refl
     type_within_alike (suc steps) = fun_ext (λ p. ap₂ (λ others (meant : Planned → Option Meant). option_and_then (type_by plan others p) (meant p))
         (type_within_alike steps) meant_in_alike)
 
-    pub type_alike : (p : Planned) → type_of_kept one plan p ≡ type_of_kept other plan p
+    pub type_alike : (p : Planned) → type_of_kept (names_where one) plan p ≡ type_of_kept (names_where other) plan p
     type_alike p = ap (λ (within : Planned → Option YangType). option_map (type_in (module_name plan.modules p.part.owner)) (within p))
         (type_within_alike (suc (size plan.nodes)))
 
@@ -248,12 +271,3 @@ stands_alike language modules features is =
     let on = is_in features.on.items in
     alike_from (row_stands features) (stands language modules) [] modules
     (λ p at. row_says asked on language modules is.asked p at ∙ tells_standing language modules on is.tells p.below)
-
--- ---- the core
-
-none_borne : (below : Forest Source) → bears_condition core below ≡ false
-none_borne end = refl
-none_borne (node s below after) = none_borne after
-
-pub none_marked : bears_none core ≡ (λ below. true)
-none_marked = fun_ext (λ below. ap not (none_borne below))

@@ -13,4 +13,5 @@ mod MarkLemmas
 pub mod JudgingLemmas
 pub mod AdditionLemmas
 pub mod UnfitKeyLemmas
+pub mod GuardLemmas
 pub mod CallerLemmas

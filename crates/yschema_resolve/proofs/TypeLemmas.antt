@@ -15,7 +15,7 @@ use Rattle.yspec.specs.linking.TypeStatements as stated
 use Rattle.yspec.specs.linking.TypeStatements.{own, of_target}
 use Rattle.yspec.specs.linking.Planned as spec
 use Rattle.yspec.specs.linking.Planned.{nodes_of, is_data, same_number, is_called, data_child_called, data_node_at, leaf_found, is_leaf_or_leaf_list, meant_in, target_meant, is_on_circle}
-use Rattle.yspec_wide.specs.Types.{meant_in_of, type_of_kept, type_within_of}
+use Rattle.yspec_wide.specs.Types.{Keeping, meant_in_of, type_of_kept, type_within_of}
 use Rattle.yspec.specs.linking.SchemaNodes.{number_in}
 use Rattle.ybase_preorder.specs.View.{slots_in, forest_in}
 use Rattle.ybase_preorder.specs.declared.slot.Slot.{Slot}
@@ -260,7 +260,7 @@ module _ (plan : Plan) where
 
 -- ---- types over the names that are kept
 
-module _ (kept : Forest Source → Bool) (plan : spec.Plan) where
+module _ (kept : Keeping) (plan : spec.Plan) where
   pub none_within : (p : spec.Planned) → type_within_of kept plan zero p ≡ None
   unfolding type_within_of
   none_within p = refl
@@ -271,7 +271,7 @@ module _ (kept : Forest Source → Bool) (plan : spec.Plan) where
   one_more_within s p = refl
 
 -- what their statements mean, by the numbers of these
-pub meant_alike : (means : ℕ → Option stated.Meant) (kept : Forest Source → Bool) (plan : spec.Plan)
+pub meant_alike : (means : ℕ → Option stated.Meant) (kept : Keeping) (plan : spec.Plan)
     → ((number : ℕ) → means number ≡ type_meant_of kept plan.modules number) → meant_as means ≡ meant_in_of kept plan
 meant_alike means kept plan are = fun_ext (λ p. by (first_with type_word p.part.own))
   where
@@ -280,7 +280,7 @@ meant_alike means kept plan are = fun_ext (λ p. by (first_with type_word p.part
     by (Some s) = are s.number
 
 -- all of a plan, from what is held of it
-module _ (plan : Plan) (kept : Forest Source → Bool) (means : ℕ → Option stated.Meant)
+module _ (plan : Plan) (kept : Keeping) (means : ℕ → Option stated.Meant)
     (are : (number : ℕ) → means number ≡ type_meant_of kept (view plan).modules number) (meants : List (Option stated.Meant)) (next : List (Option ℕ))
     (meants_are : meants ≡ map (meant_as means) (nodes_of (view plan)))
     (next_is : next ≡ map (target_number (view plan) (meant_as means)) (nodes_of (view plan))) where

@@ -5,5 +5,6 @@ pub mod TypesView
 pub mod Values
 pub mod TuplesView
 pub mod ResolvedView
+pub mod Guarding
 pub mod Standing
 pub mod UnfitKeys

@@ -5,7 +5,7 @@ use Rattle.yspec.specs.linking.Planned.{Planned, Plan, node_of, nodes_of}
 use Rattle.yspec.specs.linking.NodeBreaks.{is_foreign, broken_in}
 use Rattle.yspec.specs.schema.Breaks.{Break, when}
 use Rattle.yspec_wide.specs.Language.{Language}
-use Rattle.yspec_wide.specs.Additions.{stands_itself}
+use Rattle.yspec_wide.specs.Additions.{broken_unless_let, stands_itself}
 use Rattle.yschema_plan.specs.Needs.{is_needed_by}
 
 -- it is told of each node of a plan, by its number; one of which nothing is told stands itself
@@ -17,5 +17,10 @@ abbrev pub is_wrong_addition : (Planned → Bool) → Plan → Planned → Bool
 is_wrong_addition stands plan p =
     is_foreign p (option_and_then (node_of plan) p.parent) && (p.config && is_needed_by stands plan p)
 
+-- told at every augment, and at those that aren't let
 abbrev pub addition_breaks_by : (Planned → Bool) → Plan → Planned → List Break
 addition_breaks_by stands plan p = when (is_wrong_addition stands plan p) (option_map_or (broken_in plan) p.part.added_by [])
+
+abbrev pub addition_breaks_unless_let : Language → (Planned → Bool) → Plan → Planned → List Break
+addition_breaks_unless_let language stands plan p =
+    when (is_wrong_addition stands plan p) (option_map_or (broken_unless_let language plan) p.part.added_by [])

@@ -6,7 +6,7 @@ use Rattle.yspec.specs.types.Types.{YangType, type_in}
 use Rattle.yspec.specs.linking.TypeStatements as spec
 use Rattle.yspec.specs.linking.Planned.{Planned, Plan, nodes_of, meant_in, is_on_circle}
 use Rattle.yspec_wide.specs.Language.{Language}
-use Rattle.yspec_wide.specs.Types.{bears_none, standing_type, type_of_kept}
+use Rattle.yspec_wide.specs.Types.{unmarked, standing_type, type_of_kept}
 use Rattle.ylink.specs.TypeView.{meant_view}
 use Rattle.ylink_types.specs.declared.types.Meant.{Meant}
 use Rattle.ybase_graph.specs.declared.chains.Chain.{Chain}
@@ -52,7 +52,7 @@ unmarked_types told = option_map_or (λ types. types.items) told.unmarked told.s
 -- They are the types that nodes have in a language.
 pub record AreTyped (told : Types) (language : Language) (plan : Plan) : Type 0 where
   pub standing : told.standing.items ≡ map (standing_type language plan) (nodes_of plan)
-  pub unmarked : unmarked_types told ≡ map (type_of_kept (bears_none language) plan) (nodes_of plan)
+  pub unmarked : unmarked_types told ≡ map (type_of_kept (unmarked language) plan) (nodes_of plan)
 
 -- the type of a node over the names that bear no condition, given that over the names that stand
 abbrev pub unmarked_view : YangType → Unmarked → Option YangType

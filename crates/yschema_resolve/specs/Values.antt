@@ -6,7 +6,7 @@ use Rattle.yspec.specs.types.Types.{YangType, Val}
 use Rattle.yspec.specs.linking.Planned.{Planned, Plan}
 use Rattle.yspec.specs.linking.Source.{Stated}
 use Rattle.yspec_wide.specs.Language.{Language}
-use Rattle.yspec_wide.specs.Types.{are_wrong_defaults_in, bears_none, is_wrong_default_in, same_if_any, type_of_kept}
+use Rattle.yspec_wide.specs.Types.{are_wrong_defaults_in, unmarked, is_wrong_default_in, same_if_any, type_of_kept}
 use Rattle.yschema_resolve.specs.ModulesView.{value_by}
 use Rattle.yschema_resolve.specs.declared.modules.ModuleTable.{ModuleTable}
 
@@ -28,7 +28,7 @@ is_refused_by table type unmarked t = not (is_right_by table type unmarked t)
 
 -- the type of a node over the names that bear no condition
 abbrev pub unmarked_type : Language → Plan → Planned → Option YangType
-unmarked_type language plan p = type_of_kept (bears_none language) plan p
+unmarked_type language plan p = type_of_kept (unmarked language) plan p
 
 -- of a leaf, by whether it is a key, and its type
 abbrev pub wrong_leaf : Language → Plan → Planned → Bool → Option YangType → Bool

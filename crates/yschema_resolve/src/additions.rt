@@ -1,12 +1,18 @@
-//! Configuration that must be stored, added to nodes of other modules (RFC 7950, 7.17).
+//! Configuration that must be stored, added to nodes of other modules (RFC 7950, 7.17; RFC 6020, 7.15).
 
-ghost use Rattle.std.specs.Prelude.{◌≡◌, IfOk, None, option_and_then};
+ghost use Rattle.std.specs.Prelude.{◌≡◌, IfOk, None, false, option_and_then};
 ghost use Rattle.std.specs.List.{flat_map};
+ghost use Rattle.std.specs.Option.{option_map_or};
 ghost use Rattle.yspec.specs.schema.Breaks.{least_from};
 ghost use Rattle.yspec.specs.linking.Planned.{node_of, nodes_of};
 ghost use Rattle.yspec.specs.linking.NodeBreaks as breaks;
+ghost use Rattle.yspec.specs.linking.Scopes.{statement_at};
 ghost use Rattle.yspec_wide.specs.Additions.{addition_breaks_in};
-ghost use Rattle.yspec_wide.specs.Language.{Language};
+ghost use Rattle.yspec_wide.specs.Guards as guards;
+ghost use Rattle.yspec_wide.specs.Language as languages;
+ghost use Rattle.yspec_wide.specs.Sources as sources;
+ghost use Rattle.ylink_features.specs.VersionView.{AreVersionsOf};
+ghost use Rattle.ylink_grammar.specs.LanguageView.{language_view};
 ghost use Rattle.ylink_grammar.specs.BreakView.{seen};
 ghost use Rattle.yschema_plan.specs.Needs.{needs_below, stands_in};
 ghost use Rattle.yschema_plan.specs.NodesView.{node_view};
@@ -15,7 +21,9 @@ ghost use Rattle.yschema_plan.specs.PlanView.{view};
 ghost use Rattle.yschema_resolve.specs.Standing as spec;
 
 use std::alloc::{AllocError, Global};
-use ylink_grammar::{BrokenRule, CompileCode, broken, least_when};
+use ylink_features::Versions;
+use ylink_grammar::{BrokenRule, CompileCode, Language, broken, least_when};
+use yschema_given::bears_when;
 use yschema_plan::{Plan, PlanNode, Planned};
 
 /// Whether it stands right below a node of another module.
@@ -47,6 +55,35 @@ fn is_wrong_addition<'a, 't>(
         && (node.planned.config && plan.is_needed_standing(node, standing, needs))
 }
 
+/// Whether the statement of a number stands in a module of YANG 1.
+fn is_of_yang_1(versions: &Versions, plan: &Plan<'_, '_>, number: u32) -> bool
+    ensures { (l : languages.Language) → AreVersionsOf versions.now l (view plan.now).modules
+        → result ≡ option_map_or (λ a. languages.is_yang_1 (languages.version_of l (view plan.now).modules a.source.home))
+        (statement_at (view plan.now).modules number) false }
+{
+    match plan.sources().slots().get(number as usize) {
+        Some(row) => versions.is_yang_1(row.label.home),
+        None => false,
+    }
+}
+
+/// Whether the statement of a number bears a `when`.
+fn bears_when_at(language: &Language, plan: &Plan<'_, '_>, number: u32) -> bool
+    ensures { result ≡ option_map_or (λ a. sources.bears_when (language_view language.now) a.below)
+        (statement_at (view plan.now).modules number) false }
+{
+    bears_when(language, plan.sources().below(number))
+}
+
+/// Whether the `augment` of a number is let add what must be stored: it bears a `when`, in YANG 1.1.
+fn is_let_add(language: &Language, versions: &Versions, plan: &Plan<'_, '_>, number: u32) -> bool
+    requires { AreVersionsOf versions.now (language_view language.now) (view plan.now).modules }
+    ensures { result ≡ guards.is_let_add (language_view language.now) (view plan.now) number }
+{
+    let is_first = is_of_yang_1(versions, plan, number);
+    bears_when_at(language, plan, number) && !is_first
+}
+
 /// The lesser of one so far and of what is told of a node at the `augment` that adds it.
 fn least_addition<'a, 't>(
     plan: &Plan<'a, 't>,
@@ -76,31 +113,80 @@ fn least_addition<'a, 't>(
     }
 }
 
+/// Whether an `augment` adds a node that is let add what must be stored.
+fn is_let(
+    language: &Language,
+    versions: &Versions,
+    plan: &Plan<'_, '_>,
+    planned: &Planned<'_, '_>,
+) -> bool
+    requires { AreVersionsOf versions.now (language_view language.now) (view plan.now).modules }
+    ensures { (number : _) → result ≡ option_map_or (guards.is_let_add (language_view language.now) (view plan.now))
+        (planned_view number planned.now).part.added_by false }
+{
+    match planned.added_by() {
+        Some(number) => is_let_add(language, versions, plan, number),
+        None => false,
+    }
+}
+
+/// The lesser of one so far and of what is told of a node at the `augment` that adds it, unless that is let add it.
+fn least_unless_let<'a, 't>(
+    language: &Language,
+    versions: &Versions,
+    plan: &Plan<'a, 't>,
+    standing: &[bool],
+    needs: &[bool],
+    node: PlanNode<'a, 't>,
+    so_far: Option<BrokenRule>,
+) -> Option<BrokenRule>
+    requires needs { needs.now ≡ needs_below (stands_in standing.now) (view plan.now).nodes }
+    requires versions { AreVersionsOf versions.now (language_view language.now) (view plan.now).modules }
+    ensures { seen result ≡ least_from (seen so_far) (spec.addition_breaks_unless_let
+        (language_view language.now) (stands_in standing.now) (view plan.now) (node_view node.entry)) }
+{
+    if is_let(language, versions, plan, &node.planned) {
+        so_far
+    } else {
+        least_addition(plan, standing, needs, node, so_far)
+    }
+}
+
 /// The least of all that are told, where it is told of each node whether one right below it must be stored.
-fn least_of_all(plan: &Plan<'_, '_>, standing: &[bool], needs: &[bool]) -> Option<BrokenRule>
-    requires { needs.now ≡ needs_below (stands_in standing.now) (view plan.now).nodes }
-    ensures { let p = view plan.now in seen result
-        ≡ least_from None (flat_map (spec.addition_breaks_by (stands_in standing.now) p) (nodes_of p)) }
+fn least_of_all(
+    language: &Language,
+    versions: &Versions,
+    plan: &Plan<'_, '_>,
+    standing: &[bool],
+    needs: &[bool],
+) -> Option<BrokenRule>
+    requires needs { needs.now ≡ needs_below (stands_in standing.now) (view plan.now).nodes }
+    requires versions { AreVersionsOf versions.now (language_view language.now) (view plan.now).modules }
+    ensures { let p = view plan.now in seen result ≡ least_from None
+        (flat_map (spec.addition_breaks_unless_let (language_view language.now) (stands_in standing.now) p) (nodes_of p)) }
 {
     let mut told = None;
     for node in plan.iter() {
-        told = least_addition(plan, standing, needs, node, told);
+        told = least_unless_let(language, versions, plan, standing, needs, node, told);
     }
     told
 }
 
 /// The least of the configuration that must be stored, added to nodes of other modules, of all that a set of modules defines:
 /// whether what it is added to stands or not. It is told by number which nodes stand themselves; those of which nothing is told
-/// do.
+/// do. An `augment` with a `when` may add such in YANG 1.1.
 pub fn broken_addition_rule(
     alloc: Global,
+    language: &Language,
+    versions: &Versions,
     plan: &Plan<'_, '_>,
     standing: &[bool],
 ) -> Result<Option<BrokenRule>, AllocError>
-    ensures { (l : Language) → let p = view plan.now in spec.TellsStanding standing.now l p
+    requires { AreVersionsOf versions.now (language_view language.now) (view plan.now).modules }
+    ensures { let l = language_view language.now in let p = view plan.now in spec.TellsStanding standing.now l p
         → IfOk result (λ told. seen told
         ≡ least_from None (flat_map (addition_breaks_in l p) (nodes_of p))) }
 {
     let needs = plan.needs_standing(alloc, standing)?;
-    Ok(least_of_all(plan, standing, needs.as_slice()))
+    Ok(least_of_all(language, versions, plan, standing, needs.as_slice()))
 }

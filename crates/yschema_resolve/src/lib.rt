@@ -4,6 +4,7 @@
 mod additions;
 mod config;
 mod defaults;
+mod guarding;
 mod judging;
 mod meanings;
 mod modules;

@@ -7,6 +7,7 @@ ghost use Rattle.yspec_wide.specs.VersionBreaks.{has_distinct_items};
 ghost use Rattle.ylink_features.specs.VersionView.{AreVersionsOf};
 ghost use Rattle.yschema_plan.specs.PlannedView.{planned_view};
 
+use crate::guarding::guarded_of;
 use crate::modules::ModuleTable;
 use crate::tuples::keys;
 use crate::types::{Types, types_of};
@@ -17,12 +18,13 @@ use ylink_standing::FeaturesOn;
 use yschema_plan::{Plan, Planned};
 use ytype::YType;
 
-/// The types of a plan's nodes in a language, to what leafrefs refer, which leafs are keys, what modules are called and which
-/// version of YANG they have, and the statements, linked.
+/// The types of a plan's nodes in a language, to what leafrefs refer, which leafs are keys and which nodes hang on a `when`, what
+/// modules are called and which version of YANG they have, and the statements, linked.
 #[derive(Drop)]
 pub struct Resolved<'l, 't> {
     pub(crate) types: Types<'l, 't>,
     keys: Vec<bool>,
+    guarded: Vec<bool>,
     pub(crate) modules: ModuleTable<'t>,
     pub(crate) versions: Versions,
     pub(crate) linked: &'l Linked<'t>,
@@ -42,6 +44,7 @@ impl<'l, 't> Resolved<'l, 't> {
     ghost use Rattle.yspec.specs.linking.Planned as spec;
     ghost use Rattle.yspec.specs.linking.SchemaNodes as nodes;
     ghost use Rattle.yspec_wide.specs.Language as languages;
+    ghost use Rattle.yspec_wide.specs.Guards.{is_guarded};
     ghost use Rattle.yspec_wide.specs.Types.{standing_type};
     ghost use Rattle.yspec_wide.specs.VersionBreaks.{has_distinct_items};
     ghost use Rattle.ylink_grammar.specs.LanguageView.{language_view};
@@ -49,28 +52,34 @@ impl<'l, 't> Resolved<'l, 't> {
     ghost use Rattle.ylink.specs.LinkedView as linked_as;
     ghost use Rattle.yschema_plan.specs.PlannedView.{planned_view};
     ghost use Rattle.yschema_plan.specs.PlanView.{view};
+    ghost use Rattle.yschema_resolve.specs.Guarding.{TellsUnguarded};
     ghost use Rattle.yschema_resolve.specs.ResolvedView.{IsOf};
 
-    /// Those of a plan in a language, given its statements, linked, and which features are on.
+    /// Those of a plan in a language, given its statements, linked, which features are on, and by number which nodes bear no
+    /// `when` themselves; those of which nothing is told don't.
     pub fn of(
         alloc: Global,
         language: &Language,
         features: &FeaturesOn,
+        unguarded: &[bool],
         plan: &Plan<'_, 't>,
         linked: &'l Linked<'t>,
     ) -> Result<Resolved<'l, 't>, AllocError>
         requires named { linked_as.IsOf linked.now (view plan.now).modules }
         requires on { AreOn features.now (language_view language.now) (view plan.now).modules }
+        requires told { TellsUnguarded unguarded.now (language_view language.now) (view plan.now) }
         ensures { IfOk result (λ resolved.
             IsOf resolved (language_view language.now) (view plan.now)) }
     {
         let modules = ModuleTable::of(alloc, linked)?;
         let types = types_of(alloc, language, features, plan, linked, &modules)?;
         let keys = keys(alloc, plan)?;
+        let guarded = guarded_of(alloc, plan, unguarded)?;
         let versions = Versions::of(alloc, language, linked.sources())?;
         Ok(Resolved {
             types,
             keys,
+            guarded,
             modules,
             versions,
             linked,
@@ -110,6 +119,19 @@ impl<'l, 't> Resolved<'l, 't> {
     {
         match self.keys.get(number as usize) {
             Some(is_key) => *is_key,
+            None => false,
+        }
+    }
+
+    /// Whether the node of a number hangs on a `when`, its own or that of a node above it.
+    pub fn is_guarded(&self, number: u32) -> bool
+        ensures { (language : languages.Language) (plan : spec.Plan) (p : spec.Planned)
+            → IsOf self.now language plan
+            → slice_get (spec.nodes_of plan) number ≡ Some p
+            → result ≡ is_guarded language plan p }
+    {
+        match self.guarded.get(number as usize) {
+            Some(is_guarded) => *is_guarded,
             None => false,
         }
     }

@@ -286,7 +286,7 @@ impl Types<'_, '_> {
             → slice_get (spec.nodes_of plan) number ≡ Some p
             → wide.standing_type language plan p ≡ Some standing
             → unmarked_view standing result
-            ≡ wide.type_of_kept (wide.bears_none language) plan p }
+            ≡ wide.type_of_kept (wide.unmarked language) plan p }
     {
         match &self.unmarked {
             None => Unmarked::Same,

@@ -1,4 +1,4 @@
-//! Keys that bear conditions (RFC 7950, 7.8.2), and keys of YANG 1 without a value (RFC 7950, 12; RFC 6020, 7.8.2).
+//! Keys that bear conditions or a `when` (RFC 7950, 7.8.2), and keys of YANG 1 without a value (RFC 7950, 12; RFC 6020, 7.8.2).
 
 ghost use Rattle.std.specs.Prelude.{◌≡◌, ◌&&◌, [], Some, false, IfOk, option_and_then, option_map, slice_get};
 ghost use Rattle.std.specs.Option.{option_map_or};
@@ -24,15 +24,15 @@ use std::alloc::{AllocError, Global};
 use ybase_words::Keyword;
 use ylink::means_empty;
 use ylink_grammar::{BrokenRule, CompileCode, Language, least_when};
-use yschema_given::bears_condition;
+use yschema_given::bears_guard;
 use yschema_plan::{Plan, PlanNode, Planned};
 
-/// Whether the statement of a node bears a condition itself.
+/// Whether the statement of a node bears a condition or a `when` itself.
 fn bears_itself(language: &Language, plan: &Plan<'_, '_>, planned: &Planned<'_, '_>) -> bool
     ensures { (number : _) → result ≡ spec.bears_itself
         (language_view language.now) (view plan.now) (planned_view number planned.now) }
 {
-    bears_condition(language, plan.sources().below(planned.statement_number()))
+    bears_guard(language, plan.sources().below(planned.statement_number()))
 }
 
 /// Whether the type of the node of a number is `empty`.
@@ -47,7 +47,7 @@ fn is_empty_at(alloc: Global, types: &Types<'_, '_>, number: u32) -> Result<bool
     }
 }
 
-/// Whether a key is unfit: in YANG 1 one that is `empty`, and else one that bears a condition itself.
+/// Whether a key is unfit: in YANG 1 one that is `empty`, and else one that bears a condition or a `when` itself.
 fn is_unfit(
     alloc: Global,
     language: &Language,
@@ -102,7 +102,10 @@ fn is_unfit_key(
 }
 
 /// The node above one.
-fn node_above<'a, 't>(plan: &Plan<'a, 't>, planned: &Planned<'_, '_>) -> Option<PlanNode<'a, 't>>
+pub(crate) fn node_above<'a, 't>(
+    plan: &Plan<'a, 't>,
+    planned: &Planned<'_, '_>,
+) -> Option<PlanNode<'a, 't>>
     ensures { (number : _) → option_map node_view result
         ≡ option_and_then (node_of (view plan.now)) (planned_view number planned.now).parent }
 {

@@ -9,6 +9,7 @@ pub mod checking;
 pub mod compiling;
 pub mod editing;
 pub mod expansion;
+pub mod octets;
 pub mod reading;
 pub mod spelling;
 pub mod text;

@@ -5,9 +5,9 @@ ghost use Rattle.yspec.specs.types.Names.{enum_names, bit_names};
 ghost use Rattle.yspec.specs.types.Ranges.{number};
 ghost use Rattle.yspec.specs.types.Types.{text, int, bool, int8, int32, int64, uint8, uint16, uint64, text_value, number_value, integer_type, uint8_type, string_type, value, type_in, taken, app_tag_of, message_of};
 ghost use Rattle.yspec.specs.types.Order.{same_value, TellsValues};
-ghost use Rattle.yspec.specs.types.Restriction.{require_instance, narrowed, union_type, leafref_type};
+ghost use Rattle.yspec.specs.types.Restriction.{of_enums, of_bits, require_instance, narrowed, union_type, leafref_type};
 ghost use Rattle.yspec.specs.types.Values.{canonical, value_of_text};
-ghost use Rattle.yspec.specs.types.TypeExamples.{decimal, shown, number_is, default_of, from_to, one, at, tagged, explained, untagged, measured, gaps, twice_narrowed, all_narrowed, matched, hex_digits, no_xml_name, is_taken, tag_by, named, numbered, five_enums, enumeration, bits, three_bits, taken_by, shown_by, identity_sample, names_sample};
+ghost use Rattle.yspec.specs.types.TypeExamples.{decimal, shown, number_is, default_of, from_to, one, at, tagged, explained, untagged, measured, gaps, twice_narrowed, all_narrowed, matched, hex_digits, no_xml_name, is_taken, tag_by, named, numbered, five_enums, enumeration, bits, three_bits, three_colours, coloured, bits_among, taken_by, shown_by, identity_sample, names_sample};
 
 /// Numbers with a point, of two digits after it and of eighteen.
 pub fn decimals()
@@ -227,6 +227,32 @@ pub fn patterns()
         ∷ matched (codes "a*") ∷ measured (from_to (pos 0) (pos 5) ∷ []) ∷ []) ≡ None }
     ensures of_a_number { narrowed uint8_type (matched (codes "1")) ≡ None }
     ensures of_a_union { narrowed (union_type (string_type ∷ [])) (matched (codes "1")) ≡ None }
+{}
+
+/// A type may name some of the names of another, which keep their numbers; what it doesn't name is no value any longer.
+pub fn restricted_names()
+    ensures number_kept { taken_by (coloured (named (codes "red") ∷ [])) (codes "red") ≡ number_is (pos 7) }
+    ensures number_said { taken_by (coloured (numbered (codes "yellow") (pos 1) ∷ [])) (codes "yellow")
+        ≡ number_is (pos 1) }
+    ensures named_no_more { taken_by (coloured (named (codes "white") ∷ named (codes "yellow") ∷ [])) (codes "red")
+        ≡ None }
+    ensures order_of_numbers { shown_by (coloured (named (codes "red") ∷ named (codes "white") ∷ [])) (codes "white")
+        ≡ Some (codes "white") }
+    ensures none_of_these { coloured (named (codes "white") ∷ named (codes "black") ∷ []) ≡ None }
+    ensures another_number { coloured (named (codes "white") ∷ numbered (codes "red") (pos 1) ∷ []) ≡ None }
+    ensures named_twice { coloured (named (codes "red") ∷ numbered (codes "red") (pos 7) ∷ []) ≡ None }
+    ensures of_one_that_is_gone { option_and_then (λ t. narrowed t (of_enums (named (codes "red") ∷ [])))
+        (coloured (named (codes "white") ∷ named (codes "yellow") ∷ [])) ≡ None }
+    ensures again { taken_by (option_and_then (λ t. narrowed t (of_enums (named (codes "yellow") ∷ [])))
+        (coloured (named (codes "white") ∷ named (codes "yellow") ∷ []))) (codes "yellow") ≡ number_is (pos 1) }
+    ensures bits_by_position { shown_by (bits_among (named (codes "y") ∷ named (codes "z") ∷ [])) (codes "y z")
+        ≡ Some (codes "z y") }
+    ensures bit_named_no_more { taken_by (bits_among (named (codes "y") ∷ named (codes "z") ∷ [])) (codes "x z") ≡ None }
+    ensures another_position { bits_among (numbered (codes "z") (pos 1) ∷ []) ≡ None }
+    ensures bits_of_enums { option_and_then (λ t. narrowed t (of_bits (named (codes "red") ∷ []))) (enumeration three_colours)
+        ≡ None }
+    ensures enums_of_bits { option_and_then (λ t. narrowed t (of_enums (named (codes "x") ∷ []))) (bits three_bits) ≡ None }
+    ensures of_a_number { narrowed uint8_type (of_enums (named (codes "red") ∷ [])) ≡ None }
 {}
 
 /// Two values are the same where the same member took them and their contents are the same.

@@ -1,5 +1,5 @@
 -- Worked examples: runs of the commands over modules and documents whose faults and refusals are known from the standard's rules.
-use Rattle.std.specs.Prelude.{Bool, true, ◌++◌, [], ◌∷◌, codes, Option, Some, None, option_map, option_and_then}
+use Rattle.std.specs.Prelude.{Bool, true, false, ◌++◌, [], ◌∷◌, codes, Option, Some, None, option_map, option_and_then}
 use Rattle.std.specs.Result.{result_ok}
 use Rattle.yspec.specs.text.Text.{Text}
 use Rattle.yspec.specs.text.Statement.{module_of}
@@ -9,7 +9,8 @@ use Rattle.yspec.specs.document.Reading.{document_of}
 use Rattle.yspec.specs.document.Writing.{written_text}
 use Rattle.yspec.specs.edit.Examples.{module_p, module_text}
 use Rattle.ysay_codes.specs.Codes.{reason_of}
-use Rattle.yspec_wide.specs.Language.{Choosing, Language, core}
+use Rattle.yspec_wide.specs.Language.{Choosing, Language, core, rfc}
+use Rattle.yspec_run.specs.Unjudged.{outcome_said}
 use Rattle.yspec_run.specs.Output.{Options, Printed, a_directory, as_dump, compile, draw, edit, outcome, plainly, printed, printed_with, told_as_json, validate}
 use Rattle.yspec_examples.specs.Printing.{found, printed_by}
 
@@ -186,3 +187,13 @@ no_features name = record { module_name = name; features = [] }
 abbrev pub validated_in : Language → Text → Text → Printed
 validated_in language module_bytes document =
     printed_by (validate language plainly (codes "d.json") (codes "m.yang" ∷ [])) (Some module_bytes ∷ Some document ∷ [])
+
+-- a module with conditions, and what `validate d.json m.yang` prints of it and an empty document where some aren't judged
+abbrev pub conditions_module : Text
+conditions_module = codes "module b {\n  yang-version 1.1;\n  namespace \"urn:b\";\n  prefix b;\n"
+    ++ codes "  leaf x { must \"../y\"; when \"../z\"; type string; mandatory true; }\n  leaf y { must \"../x\"; type string; mandatory true; }\n}\n"
+
+abbrev pub validated_unjudged : Bool → Bool → Text → Printed
+validated_unjudged musts whens module_bytes = printed false (outcome_said (validate
+    (rfc (record { choosings = []; unjudged = record { musts = musts; whens = whens } })) plainly (codes "d.json") (codes "m.yang" ∷ []))
+    (Some module_bytes ∷ Some (codes "{}") ∷ []))

@@ -3,13 +3,13 @@
 ghost use Rattle.std.specs.Prelude.{◌≡◌, ◌++◌, [], ◌∷◌, None, Some, codes, false, true};
 ghost use Rattle.yspec_examples.specs.CompilingSamples.{net_module, k_module, t_module, restricted_module};
 ghost use Rattle.yspec_examples.specs.Printing.{failed, found, printed_by};
-ghost use Rattle.yspec_wide.specs.Language.{core, rfc};
+ghost use Rattle.yspec_wide.specs.Language.{core, rfc_with};
 ghost use Rattle.yspec_run.specs.Output.{a_directory, as_dump, compile, draw_all, edit, explain, outcome, plainly, printed, printed_with, told_as_json, validate};
 ghost use Rattle.ysay_codes.specs.Codes.{reason_of};
 ghost use Rattle.yspec_run.specs.Script.{lines_of};
 ghost use Rattle.yspec_examples.specs.SchemaExamples.{hosts, one_host};
 ghost use Rattle.yspec.specs.edit.Examples.{module_p, module_text};
-ghost use Rattle.yspec_examples.specs.RunExamples.{and_saved, configured, counted, counted_in, drawn_as, dumped, edited_configuration, edited_with_reasons, faulty, feature_module, keyed_module, line_with_reasons, no_features, of_configuration, refused_alone, refused_beside, saved_by, scripted, shown, shown_as_json, shown_of_configuration, shown_of_two, state_module, without_faults, one_with_reasons, refused_with_reasons, shown_with_reasons, strictly_edited, strictly_shown, validated_in, with_reasons};
+ghost use Rattle.yspec_examples.specs.RunExamples.{and_saved, conditions_module, configured, counted, counted_in, drawn_as, dumped, edited_configuration, edited_with_reasons, faulty, feature_module, keyed_module, line_with_reasons, no_features, of_configuration, refused_alone, refused_beside, saved_by, scripted, shown, shown_as_json, shown_of_configuration, shown_of_two, state_module, without_faults, one_with_reasons, refused_with_reasons, shown_with_reasons, strictly_edited, strictly_shown, validated_in, validated_unjudged, with_reasons};
 
 /// How many nodes modules define.
 pub fn counts()
@@ -22,16 +22,26 @@ pub fn counts()
 /// what rests on it, and of a module that isn't named all are chosen.
 pub fn languages()
     ensures counted_in_the_core { counted feature_module ≡ failed 2 (codes "m.yang:1: C4") }
-    ensures counted_with_all { counted_in (rfc []) feature_module ≡ found 0 (codes "2 nodes\n") }
-    ensures counted_without { counted_in (rfc (no_features (codes "a") ∷ [])) feature_module
+    ensures counted_with_all { counted_in (rfc_with []) feature_module ≡ found 0 (codes "2 nodes\n") }
+    ensures counted_without { counted_in (rfc_with (no_features (codes "a") ∷ [])) feature_module
         ≡ found 0 (codes "1 nodes\n") }
-    ensures counted_under_another_name { counted_in (rfc (no_features (codes "b") ∷ [])) feature_module
+    ensures counted_under_another_name { counted_in (rfc_with (no_features (codes "b") ∷ [])) feature_module
         ≡ found 0 (codes "2 nodes\n") }
-    ensures validated_with_all { validated_in (rfc []) feature_module (codes "{}")
+    ensures validated_with_all { validated_in (rfc_with []) feature_module (codes "{}")
         ≡ found 1 (codes "V3 data-missing - /a:x -\n1 faults\n") }
-    ensures validated_without { validated_in (rfc (no_features (codes "a") ∷ [])) feature_module (codes "{}")
+    ensures validated_without { validated_in (rfc_with (no_features (codes "a") ∷ [])) feature_module (codes "{}")
         ≡ found 0 (codes "0 faults\n") }
-    ensures core_modules { counted_in (rfc []) module_p ≡ found 0 (codes "3 nodes\n") }
+    ensures core_modules { counted_in (rfc_with []) module_p ≡ found 0 (codes "3 nodes\n") }
+{}
+
+/// What is said of conditions that aren't judged, ahead of all else on the error side; nothing where a module is refused or has
+/// none.
+pub fn unjudged()
+    ensures both { validated_unjudged true true conditions_module
+        ≡ faulty (codes "not judged: 2 must, 1 when\n") (codes "V3 data-missing - /b:y -\n1 faults\n") }
+    ensures musts { validated_unjudged true false conditions_module ≡ failed 2 (codes "m.yang:5: C1") }
+    ensures whens { validated_unjudged false true conditions_module ≡ failed 2 (codes "m.yang:5: C1") }
+    ensures none { validated_unjudged true true module_p ≡ found 1 (codes "V3 data-missing - /p:c/id -\n1 faults\n") }
 {}
 
 /// The diagram of a module by its name, and names that no module has.

@@ -1,5 +1,6 @@
 -- Told as JSON and as text, runs are alike but for the output.
-use Rattle.std.proofs.Common.{ℕ, Bool, true, false, List, [], ◌∷◌, ◌++◌, Option, Some, None, Result, Ok, Err, refl}
+use Rattle.std.proofs.Common.{◌≡◌, ℕ, Bool, true, false, List, [], ◌∷◌, ◌++◌, Option, Some, None, Result, Ok, Err, ap, refl}
+use Rattle.std.specs.Prelude.{nat_le, if◌then◌else◌}
 use Rattle.std.specs.Option.{option_map_or}
 use Rattle.yspec.specs.Forest.{Forest, end, join}
 use Rattle.yspec.specs.text.Text.{Text}
@@ -9,12 +10,14 @@ use Rattle.yspec.specs.schema.Schema.{Schema}
 use Rattle.yspec.specs.document.Document.{Step, Tree}
 use Rattle.yspec.specs.document.Reading.{Refusal, document_of}
 use Rattle.yspec_wide.specs.Texts.{module_in}
-use Rattle.yspec_wide.specs.Language.{Language}
+use Rattle.yspec_wide.specs.Language.{Language, Unjudged, core, rfc}
 use Rattle.yspec_wide.specs.Compiling.{compiled_in}
 use Rattle.ysay_repeated.specs.Repeated.{repeated_in}
-use Rattle.yspec_run.specs.Output.{Options, Outcome, edit, edited, first_file, other_files, outcome, repeated_document, told_too, unless_repeated, validate, with_compiled, with_document, with_files, with_first, with_module, with_modules, with_schema, with_tree}
+use Rattle.yspec_run.specs.Output.{Options, Outcome, edit, edited, first_file, other_files, repeated_document, told_too, unless_repeated, validate, with_compiled, with_document, with_files, with_first, with_module, with_modules, with_schema, with_tree}
 use Rattle.yspec_run.specs.Script.{lines_of}
 use Rattle.yspec_run.specs.Format.{AlikeBesides, in_format}
+use Rattle.yspec_run.specs.Part.{Part}
+use Rattle.yspec_run.specs.Unjudged.{is_any, note_of, note_parts, noted_by, noted_of, outcome_said, with_note}
 
 same : (o : Outcome) → AlikeBesides o o
 same o = record { errors = refl; status = refl; saved = refl; aside = refl }
@@ -60,6 +63,31 @@ schema_alike language names contents next other alike =
     by modules files (Err broken) = same (with_compiled language names contents modules (Err broken) (λ schema. next schema files))
     by modules files (Ok schema) = alike schema files
 
+-- ---- what is said of conditions
+
+note_alike : (note : Text) (o p : Outcome) → AlikeBesides o p → AlikeBesides (with_note note o) (with_note note p)
+note_alike note o p alike =
+    record { errors = ap (λ (parts : List Part). note_parts note ++ parts) alike.errors; status = alike.status; saved = alike.saved; aside = alike.aside }
+
+either_alike : (b c : Bool) (x y o p : Outcome) → b ≡ c → AlikeBesides x y → AlikeBesides o p → AlikeBesides (if b then x else o) (if c then y else p)
+either_alike true true x y o p is first second = first
+either_alike true false x y o p is first second = absurd cc
+either_alike false true x y o p is first second = absurd cc
+either_alike false false x y o p is first second = second
+
+noted_by_alike : (language : Language) (unjudged : Unjudged) (names : List Text) (contents : List (List ℕ)) (o p : Outcome) → AlikeBesides o p
+    → AlikeBesides (noted_by language unjudged names contents o) (noted_by language unjudged names contents p)
+noted_by_alike language unjudged names contents o p alike =
+    either_alike (nat_le o.status 1) (nat_le p.status 1) _ _ o p (ap (λ (s : ℕ). nat_le s 1) alike.status)
+    (modules_alike language names contents (λ modules files. with_note (note_of unjudged modules) o) (λ modules files. with_note (note_of unjudged modules) p)
+    (λ top files. note_alike (note_of unjudged top) o p alike)) alike
+
+noted_alike : (language : Language) (names : List Text) (contents : List (List ℕ)) (o p : Outcome) → AlikeBesides o p
+    → AlikeBesides (noted_of language names contents o) (noted_of language names contents p)
+noted_alike core names contents o p alike = alike
+noted_alike (rfc wide) names contents o p alike =
+    either_alike (is_any wide.unjudged) (is_any wide.unjudged) _ _ o p refl (noted_by_alike (rfc wide) wide.unjudged names contents o p alike) alike
+
 -- ---- the document
 
 unless_alike : (is_strict : Bool) (schema : Schema) (name : Text) (bytes : List ℕ) (next other : Tree → Outcome) (tree : Tree) → AlikeBesides (next tree) (other tree)
@@ -102,20 +130,21 @@ module _ (language : Language) (options : Options) (document : Text) (names : Li
       (λ schema tree files. edited (in_format false options) schema tree (lines files))
       (λ schema tree files. edited_alike options schema tree (lines files))
 
-  -- what is found, told so
+  -- what is found and said, told so
   abbrev run : (List (List ℕ) → List Text) → Bool → List (List ℕ) → Outcome
-  run lines as_json contents = with_document language options.is_strict document names contents (λ schema tree files. edited (in_format as_json options) schema tree (lines files))
+  run lines as_json contents = noted_of language names contents
+      (with_document language options.is_strict document names contents (λ schema tree files. edited (in_format as_json options) schema tree (lines files)))
 
   runs_alike : (files : List Text) (lines : List (List ℕ) → List Text)
       → AlikeBesides (told_too true (with_files files answers (run lines true))) (told_too false (with_files files answers (run lines false)))
   runs_alike files lines = told_alike (with_files files answers (run lines true)) (with_files files answers (run lines false))
-      (files_alike files answers (run lines true) (run lines false) (made_alike lines))
+      (files_alike files answers (run lines true) (run lines false) (λ contents. noted_alike language names contents _ _ (made_alike lines contents)))
 
-  pub validated_alike : AlikeBesides (outcome (validate language (in_format true options) document names) answers) (outcome (validate language (in_format false options) document names) answers)
-  unfolding outcome
+  pub validated_alike : AlikeBesides (outcome_said (validate language (in_format true options) document names) answers) (outcome_said (validate language (in_format false options) document names) answers)
+  unfolding outcome_said
   validated_alike = runs_alike (names ++ document ∷ []) (λ files. [])
 
   pub edits_alike : (script : Text)
-      → AlikeBesides (outcome (edit language (in_format true options) document script names) answers) (outcome (edit language (in_format false options) document script names) answers)
-  unfolding outcome
+      → AlikeBesides (outcome_said (edit language (in_format true options) document script names) answers) (outcome_said (edit language (in_format false options) document script names) answers)
+  unfolding outcome_said
   edits_alike script = runs_alike (names ++ document ∷ script ∷ []) (λ files. lines_of (first_file files))

@@ -7,7 +7,8 @@ use Rattle.ysay_text.specs.Sentence.{of_line}
 use Rattle.ysay_refusal.specs.Sentence.{said_of_refusal}
 use Rattle.ysay_repeated.specs.Repeated.{has_repeated, repeated_in}
 use Rattle.yspec_run.specs.Output.{outcome}
+use Rattle.yspec_run.specs.Unjudged.{outcome_said}
 
 unfoldable pub yprogram_on_literals : ⊤
-unfolding ywide_on_literals outcome shown_line of_line is_near nearest said_of_refusal repeated_in has_repeated
+unfolding ywide_on_literals outcome outcome_said shown_line of_line is_near nearest said_of_refusal repeated_in has_repeated
 yprogram_on_literals = tt

@@ -9,7 +9,7 @@ use Rattle.yspec.specs.schema.Breaks.{Break}
 use Rattle.yspec.specs.schema.Schema.{Schema}
 use Rattle.yspec.specs.document.Document.{Step}
 use Rattle.yspec.specs.document.Reading.{Refusal}
-use Rattle.yspec_wide.specs.Language.{Language, core, rfc}
+use Rattle.yspec_wide.specs.Language.{Language, core, rfc, rfc_with}
 use Rattle.yspec_wide.specs.Compiling.{compiled_in}
 use Rattle.ysay_text.specs.Line.{shown, shown_line}
 use Rattle.ysay_text.specs.Sentence.{of_line}
@@ -75,8 +75,8 @@ is_told b (Ok schema) = false
 
 -- whether the wide language, all features on, doesn't tell what the core tells of modules
 abbrev pub is_read_in_rfc : Language → Forest Statement → Break → Bool
-is_read_in_rfc core modules b = is_of_language b.code && not (is_told b (compiled_in (rfc []) modules))
-is_read_in_rfc (rfc choosings) modules b = false
+is_read_in_rfc core modules b = is_of_language b.code && not (is_told b (compiled_in (rfc_with []) modules))
+is_read_in_rfc (rfc wide) modules b = false
 
 abbrev pub language_hint : Bool → Text
 language_hint is_read = if is_read then codes "  with --profile rfc this is read.\n" else []

@@ -4,4 +4,5 @@ pub mod Part
 pub mod Hint
 pub mod Script
 pub mod Output
+pub mod Unjudged
 pub mod Format

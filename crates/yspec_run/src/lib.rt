@@ -4,3 +4,4 @@
 
 pub mod dumping;
 pub mod formats;
+pub mod unjudged;

@@ -2,7 +2,7 @@
 use Rattle.std.specs.Prelude.{ℕ, zero, suc, ◌++◌, Bool, false, true, List, [], ◌∷◌, map, codes, Option, Some, None, if◌then◌else◌}
 use Rattle.std.specs.Option.{option_map_or}
 use Rattle.yspec.specs.text.Text.{Text, is_text}
-use Rattle.yspec_wide.specs.Language.{rfc}
+use Rattle.yspec_wide.specs.Language.{rfc_with}
 use Rattle.yspec_wide.specs.Texts.{module_in}
 use Rattle.yspec_search.specs.Search.{Answers, Found, Search, Wanted, meets, search_for, wanted_of}
 
@@ -12,7 +12,7 @@ module_text name below = codes "module " ++ (name ++ (codes " { " ++ (below ++ c
 
 -- what a module with this below it imports
 abbrev pub imports : Text → List Wanted
-imports below = wanted_of (module_in (rfc []) (module_text (codes "m") below))
+imports below = wanted_of (module_in (rfc_with []) (module_text (codes "m") below))
 
 abbrev pub plainly : Text → Wanted
 plainly name = record { name = name; date = None; is_augmented = false }
@@ -25,17 +25,17 @@ augmented name = record (plainly name) { is_augmented = true }
 
 -- whether a text has module n
 abbrev pub has_n : Text → Bool
-has_n text = meets (plainly (codes "n")) (module_in (rfc []) text)
+has_n text = meets (plainly (codes "n")) (module_in (rfc_with []) text)
 
 abbrev pub has_augmented_n : Text → Bool
-has_augmented_n text = meets (augmented (codes "n")) (module_in (rfc []) text)
+has_augmented_n text = meets (augmented (codes "n")) (module_in (rfc_with []) text)
 
 abbrev pub has_dated_n : Text → Bool
-has_dated_n text = meets (of_date (codes "n") (codes "2020-01-01")) (module_in (rfc []) text)
+has_dated_n text = meets (of_date (codes "n") (codes "2020-01-01")) (module_in (rfc_with []) text)
 
 -- the search in folders a and b for what a module m with this below it imports, where files answer so
 abbrev pub searched : Text → Answers → Search
-searched below answers = search_for (rfc []) (codes "a" ∷ codes "b" ∷ []) (module_text (codes "m") below ∷ []) answers
+searched below answers = search_for (rfc_with []) (codes "a" ∷ codes "b" ∷ []) (module_text (codes "m") below ∷ []) answers
 
 abbrev pub finds : List Found → List Text → Search
 finds found asked = record { found = found; asked = asked }

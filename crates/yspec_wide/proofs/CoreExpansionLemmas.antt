@@ -12,7 +12,7 @@ use Rattle.yspec.specs.linking.Expansion.{Grouping, groupings_of, laid, row_used
 use Rattle.yspec.specs.linking.Augments.{Augment, augments_of, target_steps, may_be_augmented, kept_out, in_turn, may_take, is_ready, added_below, applied, augmented, body_breaks, augment_breaks}
 use Rattle.yspec.proofs.ForestLemmas.{join_end}
 use Rattle.yspec_wide.specs.Language.{core}
-use Rattle.yspec_wide.specs.Sources.{condition_row, without_conditions}
+use Rattle.yspec_wide.specs.Sources.{guard_row, without_guards}
 use Rattle.yspec_wide.specs.Features.{stands}
 use Rattle.yspec_wide.specs.Expansion.{conditioned, overridden_in, after_refine_in, refined_in, stands_for_in, expanded_in, expanded_in_from, expanded_parts_in, refine_breaks_in, unfit_for_in, unfit_in_from, unfit_breaks_in, added_nodes_in, may_take_in, is_ready_in, applied_in, augmented_in, body_breaks_in, augment_breaks_in}
 use Rattle.yspec_wide.specs.Standing.{standing, all_stand}
@@ -21,11 +21,11 @@ use Rattle.yspec_wide.proofs.StandingLemmas.{all_stand_alike}
 
 -- ---- conditions that nodes get
 
-pub row_none : (given : Forest Source) → condition_row core given ≡ end
+pub row_none : (given : Forest Source) → guard_row core given ≡ end
 row_none end = refl
 row_none (node s below after) = row_none after
 
-pub row_whole : (given : Forest Source) → without_conditions core given ≡ given
+pub row_whole : (given : Forest Source) → without_guards core given ≡ given
 row_whole end = refl
 row_whole (node s below after) = ap (node s below) (row_whole after)
 

@@ -1,5 +1,5 @@
 -- Under the core the rules of the table that are broken, and the statements that are kept, are what they are without a language.
-use Rattle.std.proofs.Common.{◌≡◌, ℕ, ◌+◌, ◌++◌, false, not, ◌&&◌, ◌||◌, List, [], ◌∷◌, Option, Some, None, refl, ap, ap₂, ◌∙◌}
+use Rattle.std.proofs.Common.{◌≡◌, ℕ, ◌+◌, ◌++◌, Bool, true, false, not, ◌&&◌, ◌||◌, List, [], ◌∷◌, Option, Some, None, refl, ap, ap₂, ◌∙◌}
 use Rattle.std.proofs.Math.Path.{fun_ext}
 use Rattle.std.specs.Prelude.{count_by, option_map, option_and_then, if◌then◌else◌}
 use Rattle.std.specs.List.{list_any}
@@ -17,7 +17,7 @@ use Rattle.yspec_wide.specs.Language.{core, yang_1_1}
 use Rattle.yspec_wide.specs.Words.{known, same_word}
 use Rattle.yspec_wide.specs.Table.{allowed_before, row_before, rule_in}
 use Rattle.yspec_wide.specs.StatementBreaks.{has_word, occurrences, is_miscounted, own_breaks, is_allowed, known_breaks, named_breaks, breaks_at, row_breaks_in, top_breaks, breaks_in_from, statement_phase_in}
-use Rattle.yspec_wide.specs.Sources.{keyword_kept, kept_in, sources_in_from, sources_in}
+use Rattle.yspec_wide.specs.Sources.{keyword_kept, kept_keyword_in, is_derived_type, restricts_below, kept_in, sources_in_from, sources_in}
 
 -- ---- keywords and counts
 
@@ -104,12 +104,22 @@ keyword_alike : (found : Option Keyword) → option_and_then keyword_kept (optio
 keyword_alike None = refl
 keyword_alike (Some k) = refl
 
-kept_alike : (f : Forest Statement) → kept_in core f ≡ kept f
+-- no names restrict types
+none_below : (k : Option Keyword) (s : Statement) → restricts_below false k s ≡ false
+none_below None s = refl
+none_below (Some k) s = by (is_derived_type k s)
+  where
+    by : (b : Bool) → (b && false) ≡ false
+    by true = refl
+    by false = refl
+
+kept_alike : (f : Forest Statement) → kept_in core false false f ≡ kept f
 unfolding kept_in kept
 kept_alike end = refl
 kept_alike (node s below after) =
-    ap (λ k. kept_at k s (kept_in core below) (kept_in core after)) (keyword_alike (keyword_named s.keyword))
-    ∙ ap₂ (λ f g. kept_at (kept_keyword s) s f g) (kept_alike below) (kept_alike after)
+    ap (λ b. kept_at (kept_keyword_in core false s) s (kept_in core false b below) (kept_in core false false after)) (none_below (kept_keyword_in core false s) s)
+    ∙ (ap (λ k. kept_at k s (kept_in core false false below) (kept_in core false false after)) (keyword_alike (keyword_named s.keyword))
+    ∙ ap₂ (λ f g. kept_at (kept_keyword s) s f g) (kept_alike below) (kept_alike after))
 
 sources_alike : (home number : ℕ) (f : Forest Statement) → sources_in_from core home number f ≡ sources_from home number f
 unfolding sources_in_from sources_from

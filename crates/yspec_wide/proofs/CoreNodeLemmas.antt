@@ -1,11 +1,11 @@
 -- Under the core nodes break the same rules and stand for the same schema nodes.
-use Rattle.std.proofs.Common.{◌≡◌, Bool, true, false, not, ◌&&◌, ◌||◌, ◌++◌, List, [], Option, Some, None, is_some, option_and_then, filter_map, refl, ap, ap₂, subst, ◌∙◌, append_assoc, nat_lt}
+use Rattle.std.proofs.Common.{◌≡◌, ℕ, zero, suc, Bool, true, false, not, ◌&&◌, ◌||◌, ◌++◌, List, [], Option, Some, None, is_some, option_and_then, filter_map, refl, ap, ap₂, subst, ◌∙◌, append_assoc, nat_lt}
 use Rattle.std.proofs.Math.Path.{fun_ext}
 use Rattle.std.proofs.lemmas.Bool.{and_right}
 use Rattle.std.specs.Prelude.{unwrap_or, option_map, if◌then◌else◌}
 use Rattle.std.specs.List.{list_any, flat_map}
 use Rattle.std.specs.Option.{option_map_or}
-use Rattle.yspec.specs.Forest.{Forest, end, node, relabelled}
+use Rattle.yspec.specs.Forest.{Forest, end, node, relabelled, size}
 use Rattle.yspec.specs.types.Types.{YangType, Val, string_type}
 use Rattle.yspec.proofs.TypeProofs.OrderLemmas.{tells_values}
 use Rattle.yspec.specs.linking.Keyword.{Keyword, same_keyword, leaf_word, leaf_list_word, choice_word, default_word}
@@ -16,11 +16,12 @@ use Rattle.yspec.specs.linking.Planned.{Planned, Plan, node_of, nodes_of, is_a, 
 use Rattle.yspec.specs.linking.SchemaNodes.{is_mandatory, min_elements_of, own_defaults, default_texts, value_stated, default_values, default_case, absent_by, first_value, absence_of, leaf_type, amount_of, type_name, number_in, is_key, kind_by, schema_node, schema_nodes}
 use Rattle.yspec.specs.linking.NodeBreaks.{config_breaks, tuple_breaks, reference_breaks, default_breaks, addition_breaks, is_empty, is_refused, is_wrong_default, are_wrong_defaults, has_equal, is_wrong_case, must_be, has_mandatory, row_below, is_needed, is_foreign, broken_in, broken_at, own_breaks, node_breaks}
 use Rattle.yspec.specs.schema.Breaks.{Break, when, or_told}
-use Rattle.yspec.specs.schema.Schema.{Kind, leaf, leaf_list, LeafType, Absence, mandatory, key}
+use Rattle.yspec.specs.schema.Schema.{Kind, container, leaf, leaf_list, list, choice, case, LeafType, Absence, mandatory, key}
 use Rattle.yspec_wide.specs.Language.{core}
-use Rattle.yspec_wide.specs.Sources.{bears_condition}
+use Rattle.yspec_wide.specs.Sources.{bears_condition, bears_when, bears_guard}
+use Rattle.yspec_wide.specs.Guards.{is_guarded_within, is_guarded, is_let_add, asked_kind}
 use Rattle.yspec_wide.specs.VersionBreaks.{key_break}
-use Rattle.yspec_wide.specs.Types.{type_of_kept, default_texts_in, bears_none, same_if_any, is_refused_in, is_wrong_default_in, are_wrong_defaults_in, standing_type, default_breaks_in, default_values_in, leaf_type_in, absence_in, kind_in, schema_node_in, schema_nodes_in}
+use Rattle.yspec_wide.specs.Types.{type_of_kept, default_texts_in, unmarked, same_if_any, is_refused_in, is_wrong_default_in, are_wrong_defaults_in, standing_type, default_breaks_in, default_values_in, leaf_type_in, absence_in, kind_stated, kind_in, schema_node_in, schema_nodes_in}
 use Rattle.yspec_wide.specs.Additions.{stands_itself, has_mandatory_standing, is_needed_standing, addition_breaks_in}
 use Rattle.yspec_wide.specs.Compiling.{own_breaks_in, node_breaks_in}
 use Rattle.yspec_wide.proofs.CoreLinkingLemmas.{all_stand_in_core}
@@ -44,19 +45,47 @@ none_borne : (below : Forest Source) → bears_condition core below ≡ false
 none_borne end = refl
 none_borne (node s below after) = none_borne after
 
+no_guard : (below : Forest Source) → bears_guard core below ≡ false
+no_guard end = refl
+no_guard (node s below after) = no_guard after
+
+no_when : (below : Forest Source) → bears_when core below ≡ false
+no_when end = refl
+no_when (node s below after) = no_when after
+
 pub key_none : (plan : Plan) (p : Planned) → key_break core plan p ≡ []
 key_none plan p = ap (λ b. when b (option_map_or (broken_at 12) (option_and_then (node_of plan) p.parent) []))
     (and_right (is_a leaf_word p) _ (and_right (is_key plan p) _
-    (never (λ (s : Placed). bears_condition core s.below) (statement_at plan.modules p.part.source.number) (λ s. none_borne s.below))))
+    (never (λ (s : Placed). bears_guard core s.below) (statement_at plan.modules p.part.source.number) (λ s. no_guard s.below))))
+
+-- nothing hangs on a `when`
+module _ (plan : Plan) where
+  none_within : (steps : ℕ) (p : Planned) → is_guarded_within core plan steps p ≡ false
+  unfolding is_guarded_within
+  none_within zero p = refl
+  none_within (suc steps) p = ap (λ b. b || option_map_or (is_guarded_within core plan steps) (option_and_then (node_of plan) p.parent) false) (no_when p.part.own)
+      ∙ never (is_guarded_within core plan steps) (option_and_then (node_of plan) p.parent) (none_within steps)
+
+  none_let : (number : ℕ) → is_let_add core plan number ≡ false
+  none_let number = never (λ (a : Placed). bears_when core a.below && true) (statement_at plan.modules number)
+      (λ a. ap (λ b. b && true) (no_when a.below))
+
+asked_whole : (kind : Kind) → asked_kind false kind ≡ kind
+asked_whole (container presence) = refl
+asked_whole (leaf type absence) = refl
+asked_whole (leaf_list type defaults amount) = refl
+asked_whole (list tuples amount) = refl
+asked_whole (choice default_case is_mandatory) = refl
+asked_whole case = refl
 
 module _ (plan : Plan) (p : Planned) where
   -- ---- types
 
   standing_alike : standing_type core plan p ≡ type_of plan p
-  standing_alike = ap (λ kept. type_of_kept kept plan p) (all_stand_in_core plan.modules) ∙ type_alike plan p
+  standing_alike = type_alike plan p
 
-  unmarked_alike : type_of_kept (bears_none core) plan p ≡ type_of plan p
-  unmarked_alike = ap (λ kept. type_of_kept kept plan p) (fun_ext (λ below. ap not (none_borne below))) ∙ type_alike plan p
+  unmarked_alike : type_of_kept (unmarked core) plan p ≡ type_of plan p
+  unmarked_alike = type_alike plan p
 
   -- ---- defaults
 
@@ -120,14 +149,18 @@ module _ (plan : Plan) (p : Planned) where
       (same_is leaf_list_word k is) refl
   by_keyword k false false other another = refl
 
-  kind_alike : kind_in core plan p ≡ kind_by plan p p.part.source.keyword
+  stated_alike : kind_stated core plan p ≡ kind_by plan p p.part.source.keyword
   unfolding kinds
-  kind_alike =
+  stated_alike =
       ap₂ (λ type absence. kinds type absence (default_values_in core plan p) (kind_by plan p p.part.source.keyword)
       (is_a leaf_word p) (is_a leaf_list_word p)) leaf_type_alike absence_alike
       ∙ (ap (λ values. kinds (leaf_type plan p) (absence_of plan (is_key plan p) p) values (kind_by plan p p.part.source.keyword)
       (is_a leaf_word p) (is_a leaf_list_word p)) values_alike
       ∙ by_keyword p.part.source.keyword (is_a leaf_word p) (is_a leaf_list_word p) refl refl)
+
+  kind_alike : kind_in core plan p ≡ kind_by plan p p.part.source.keyword
+  kind_alike = ap (λ guarded. asked_kind guarded (kind_stated core plan p)) (none_within plan (size plan.nodes) p)
+      ∙ (asked_whole (kind_stated core plan p) ∙ stated_alike)
 
   node_alike : schema_node_in core plan p ≡ schema_node plan p
   node_alike = ap (λ kind. record (schema_node plan p) { kind = kind }) kind_alike
@@ -151,8 +184,9 @@ module _ (plan : Plan) where
   needed_alike p = ap₂ (λ own inside. own && must_be p inside) (itself p) (mandatory_alike (row_below plan p.number))
 
   addition_alike : addition_breaks_in core plan ≡ addition_breaks plan
-  addition_alike = fun_ext (λ p. ap (λ needed. when (is_foreign p (option_and_then (node_of plan) p.parent) && (p.config && needed))
-      (option_map_or (broken_in plan) p.part.added_by [])) (needed_alike p))
+  addition_alike = fun_ext (λ p. ap₂ (λ needed told. when (is_foreign p (option_and_then (node_of plan) p.parent) && (p.config && needed))
+      (option_map_or told p.part.added_by [])) (needed_alike p)
+      (fun_ext (λ number. ap (λ b. if b then [] else broken_in plan number) (none_let plan number))))
 
   -- ---- all of them
 

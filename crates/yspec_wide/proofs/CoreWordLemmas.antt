@@ -10,7 +10,7 @@ use Rattle.yspec.specs.text.Text.{Text, is_text}
 use Rattle.yspec.specs.text.Statement.{Statement}
 use Rattle.yspec.specs.linking.Keyword.{Keyword, keyword_named}
 use Rattle.yspec.specs.linking.Source.{Source, unless_extension, kept_keyword, kept_at, kept, numbered, sources_from}
-use Rattle.yspec_wide.specs.Language.{Choosing, core, rfc}
+use Rattle.yspec_wide.specs.Language.{Wide, core, rfc}
 use Rattle.yspec.specs.linking.TypeStatements.{is_pattern_statement}
 use Rattle.yspec_wide.specs.Words.{word_text, feature_word, if_feature_word, pattern_word}
 use Rattle.yspec_wide.specs.Sources.{is_feature, is_condition, sources_in}
@@ -69,11 +69,11 @@ module _ (word : Text) (unknown : keyword_named word ≡ None) where
   pub none_in_core : (modules : Forest Statement) → list_any (λ (s : Source). has_it s.statement) (preorder (sources_in core modules)) ≡ false
   none_in_core modules = ap (λ sources. list_any (λ (s : Source). has_it s.statement) (preorder sources)) (kept_of_all_alike modules) ∙ none_from 0 0 modules
 
-pub no_feature : (choosings : List Choosing) (modules : Forest Statement) → list_any (is_feature (rfc choosings)) (preorder (sources_in core modules)) ≡ false
-no_feature choosings modules = none_in_core (word_text feature_word) refl modules
+pub no_feature : (wide : Wide) (modules : Forest Statement) → list_any (is_feature (rfc wide)) (preorder (sources_in core modules)) ≡ false
+no_feature wide modules = none_in_core (word_text feature_word) refl modules
 
-pub no_condition : (choosings : List Choosing) (modules : Forest Statement) → list_any (is_condition (rfc choosings)) (preorder (sources_in core modules)) ≡ false
-no_condition choosings modules = none_in_core (word_text if_feature_word) refl modules
+pub no_condition : (wide : Wide) (modules : Forest Statement) → list_any (is_condition (rfc wide)) (preorder (sources_in core modules)) ≡ false
+no_condition wide modules = none_in_core (word_text if_feature_word) refl modules
 
 pub no_pattern : (modules : Forest Statement) → list_any is_pattern_statement (preorder (sources_in core modules)) ≡ false
 no_pattern modules = none_in_core (word_text pattern_word) refl modules

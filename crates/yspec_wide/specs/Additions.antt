@@ -1,6 +1,6 @@
 -- Configuration that must be, added to a node of another module: C15. It is asked of each augment, whether its target stands or
--- not (RFC 7950, 7.17).
-use Rattle.std.specs.Prelude.{◌&&◌, ◌||◌, Bool, false, List, [], option_and_then}
+-- not (RFC 7950, 7.17); one with a `when` may add such in YANG 1.1.
+use Rattle.std.specs.Prelude.{ℕ, ◌&&◌, ◌||◌, Bool, false, List, [], option_and_then, if◌then◌else◌}
 use Rattle.std.specs.Option.{option_map_or}
 use Rattle.yspec.specs.Forest.{Forest, end, node}
 use Rattle.yspec.specs.linking.Planned.{Planned, Plan, node_of}
@@ -8,6 +8,7 @@ use Rattle.yspec.specs.linking.NodeBreaks.{must_be, row_below, is_foreign, broke
 use Rattle.yspec.specs.schema.Breaks.{Break, when}
 use Rattle.yspec_wide.specs.Language.{Language}
 use Rattle.yspec_wide.specs.Features.{stands}
+use Rattle.yspec_wide.specs.Guards.{is_let_add}
 
 module _ (language : Language) (plan : Plan) where
   -- whether all conditions of a node itself hold
@@ -22,8 +23,12 @@ module _ (language : Language) (plan : Plan) where
   abbrev pub is_needed_standing : Planned → Bool
   is_needed_standing p = stands_itself p && must_be p (has_mandatory_standing (row_below plan p.number))
 
+-- told at the `augment` of a number
+abbrev pub broken_unless_let : Language → Plan → ℕ → List Break
+broken_unless_let language plan number = if is_let_add language plan number then [] else broken_in plan number
+
 -- of the nodes of a whole set
 abbrev pub addition_breaks_in : Language → Plan → Planned → List Break
 addition_breaks_in language plan p =
     when (is_foreign p (option_and_then (node_of plan) p.parent) && (p.config && is_needed_standing language plan p))
-    (option_map_or (broken_in plan) p.part.added_by [])
+    (option_map_or (broken_unless_let language plan) p.part.added_by [])

@@ -1,5 +1,5 @@
--- Groupings and augments with conditions: those of a `uses`, a refine or an `augment` are asked of each node that it brings or
--- changes (RFC 7950, 7.13, 7.13.2, 7.17 and 7.20.2).
+-- Groupings and augments with guards: the conditions of a `uses`, a refine or an `augment` are asked of each node that it brings or
+-- changes, and its `when` too (RFC 7950, 7.13, 7.13.2, 7.17, 7.20.2 and 7.21.5).
 use Rattle.std.specs.Prelude.{ℕ, zero, suc, ◌&&◌, ◌||◌, Bool, not, false, List, [], ◌++◌, length, is_some, if◌then◌else◌}
 use Rattle.std.specs.List.{list_all, flat_map}
 use Rattle.std.specs.Option.{option_map_or}
@@ -12,22 +12,22 @@ use Rattle.yspec.specs.linking.Parts.{Part, within}
 use Rattle.yspec.specs.linking.Expansion.{Grouping, groupings_of, laid, row_used, is_refine, refine_steps, is_borne, part_at, changed_at, others, replaced, unfit_in}
 use Rattle.yspec.specs.linking.Augments.{Augment, augments_of, target_steps, may_be_augmented, kept_out, marked, in_turn}
 use Rattle.yspec_wide.specs.Language.{Language, version_of, is_yang_1}
-use Rattle.yspec_wide.specs.Sources.{is_condition, condition_row, without_conditions}
+use Rattle.yspec_wide.specs.Sources.{is_guard, guard_row, without_guards}
 
 module _ (language : Language) where
-  -- ---- conditions that nodes get
+  -- ---- guards that nodes get
 
-  -- the nodes of a row, each asked the conditions of a row of statements besides its own
+  -- the nodes of a row, each with the guards of a row of statements besides its own
   abbrev pub conditioned : Forest Source → Forest Part → Forest Part
   conditioned given end = end
   conditioned given (node p below after) =
-      node (record p { own = join p.own (condition_row language given) }) below (conditioned given after)
+      node (record p { own = join p.own (guard_row language given) }) below (conditioned given after)
 
   -- ---- refine
 
-  -- every node may bear a condition
+  -- every node may bear a guard
   abbrev pub is_borne_in : Keyword → Forest Source → Source → Bool
-  is_borne_in k given s = is_condition language s || is_borne k given s
+  is_borne_in k given s = is_guard language s || is_borne k given s
 
   abbrev pub may_bear_in : Part → Forest Source → Bool
   may_bear_in p given = list_all (is_borne_in p.source.keyword given) (row given)
@@ -36,9 +36,9 @@ module _ (language : Language) where
   is_fit_in modules owner s given nodes =
       option_map_or (λ p. may_bear_in p given) (part_at (refine_steps modules owner s) nodes) false
 
-  -- The conditions of a refine come to those of its target; what else it gives takes the place of all of those kinds.
+  -- The guards of a refine come to those of its target; what else it gives takes the place of all of those kinds.
   abbrev pub overridden_in : Forest Source → Part → Forest Part → Forest Part → Forest Part
-  overridden_in given p below after = node (record p { own = join (others (without_conditions language given) p.own) given }) below after
+  overridden_in given p below after = node (record p { own = join (others (without_guards language given) p.own) given }) below after
 
   abbrev pub after_refine_in : Forest Source → ℕ → Source → Forest Source → Forest Part → Forest Part
   after_refine_in modules owner s given nodes = if is_refine s && is_fit_in modules owner s given nodes

@@ -15,11 +15,28 @@ pub record Choosing : Type 0 where
   pub module_name : Text
   pub features : List Text
 
+-- which conditions are read and not judged: `must`, and `when` (RFC 7950, 7.5.3 and 7.21.5)
+pub record Unjudged : Type 0 where
+  pub musts : Bool
+  pub whens : Bool
+
+-- what is chosen of the wide language: features, of each module that is named, and conditions that aren't judged
+pub record Wide : Type 0 where
+  pub choosings : List Choosing
+  pub unjudged : Unjudged
+
 pub data Language : Type 0 where
   -- YANG 1.1 without features
   core : Language
-  -- YANG 1 and YANG 1.1, with the features that are chosen of each module that is named
-  rfc : List Choosing → Language
+  -- YANG 1 and YANG 1.1
+  rfc : Wide → Language
+
+abbrev pub none_unjudged : Unjudged
+none_unjudged = record { musts = false; whens = false }
+
+-- with features alone
+abbrev pub rfc_with : List Choosing → Language
+rfc_with choosings = rfc (record { choosings = choosings; unjudged = none_unjudged })
 
 -- whether a feature of a module is chosen: of a module that isn't named all are
 abbrev pub is_chosen_of : List Choosing → Text → Text → Bool
@@ -28,7 +45,7 @@ is_chosen_of choosings module_name feature =
 
 abbrev pub is_chosen : Language → Text → Text → Bool
 is_chosen core module_name feature = false
-is_chosen (rfc choosings) module_name feature = is_chosen_of choosings module_name feature
+is_chosen (rfc wide) module_name feature = is_chosen_of wide.choosings module_name feature
 
 -- ---- versions
 
@@ -61,4 +78,4 @@ version_below below = version_stated (argument_of_version (find (has_keyword yan
 -- that of the module of a number in the set; under the core every module is one of YANG 1.1
 abbrev pub version_of : Language → Forest Source → ℕ → YangVersion
 version_of core modules home = yang_1_1
-version_of (rfc choosings) modules home = version_stated (argument_with yang_version_word (body_at modules home))
+version_of (rfc wide) modules home = version_stated (argument_with yang_version_word (body_at modules home))

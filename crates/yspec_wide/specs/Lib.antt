@@ -12,6 +12,7 @@ pub mod Standing
 pub mod VersionBreaks
 pub mod Patterns
 pub mod Types
+pub mod Guards
 pub mod Additions
 pub mod Compiling
 pub mod Samples

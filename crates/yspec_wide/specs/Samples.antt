@@ -1,5 +1,5 @@
 -- Worked examples: expressions, and what stands of texts of modules.
-use Rattle.std.specs.Prelude.{ℕ, Bool, List, [], ◌∷◌, ◌++◌, codes, map, Option, option_map, option_and_then, Result, Ok, Err}
+use Rattle.std.specs.Prelude.{ℕ, Bool, true, List, [], ◌∷◌, ◌++◌, codes, map, Option, option_map, option_and_then, Result, Ok, Err}
 use Rattle.std.specs.List.{list_any}
 use Rattle.std.specs.Result.{result_ok}
 use Rattle.std.specs.Option.{option_map_or}
@@ -13,7 +13,7 @@ use Rattle.yspec.specs.edit.Examples.{module_text}
 use Rattle.yspec.specs.document.FaultCode.{fault_number}
 use Rattle.yspec.specs.document.Faults.{faults_of}
 use Rattle.yspec.specs.document.Reading.{document_of}
-use Rattle.yspec_wide.specs.Language.{Language, Choosing, rfc, YangVersion}
+use Rattle.yspec_wide.specs.Language.{Language, Choosing, rfc, rfc_with, YangVersion}
 use Rattle.yspec_wide.specs.Expressions.{holds, expression_of}
 use Rattle.yspec_wide.specs.Texts.{version_of_text, module_in}
 use Rattle.yspec_wide.specs.Compiling.{compiled_in}
@@ -64,15 +64,15 @@ text_in_1 lines = codes "module m {\n  yang-version 1;\n  namespace \"urn:m\";\n
 
 -- with these features of it chosen
 abbrev pub with_features : List Text → Text → Outcome
-with_features features lines = outcome_in (rfc (chosen (codes "m") features ∷ [])) (text_in_1_1 lines ∷ [])
+with_features features lines = outcome_in (rfc_with (chosen (codes "m") features ∷ [])) (text_in_1_1 lines ∷ [])
 
 -- with all
 abbrev pub with_all : Text → Outcome
-with_all lines = outcome_in (rfc []) (text_in_1_1 lines ∷ [])
+with_all lines = outcome_in (rfc_with []) (text_in_1_1 lines ∷ [])
 
 -- in YANG 1, with all
 abbrev pub with_all_in_1 : Text → Outcome
-with_all_in_1 lines = outcome_in (rfc []) (text_in_1 lines ∷ [])
+with_all_in_1 lines = outcome_in (rfc_with []) (text_in_1 lines ∷ [])
 
 -- the numbers of the faults of a document under module m, with these features of it chosen
 abbrev pub faults_under : Language → Text → Text → Option (List ℕ)
@@ -80,12 +80,24 @@ faults_under language text document = option_and_then (λ schema. option_map (λ
     (result_ok (document_of schema document))) (result_ok (compiled_in language (statements_in language (text ∷ []))))
 
 abbrev pub faults_with : List Text → Text → Text → Option (List ℕ)
-faults_with features lines document = faults_under (rfc (chosen (codes "m") features ∷ [])) (text_in_1_1 lines) document
+faults_with features lines document = faults_under (rfc_with (chosen (codes "m") features ∷ [])) (text_in_1_1 lines) document
 
 -- of each fault the number and the tag, with all features
 abbrev pub tags_with : Text → Text → Option (List (ℕ × Option Text))
 tags_with lines document = option_and_then (λ schema. option_map (λ tree. map (λ f. (fault_number f.code, f.app_tag)) (faults_of schema tree))
-    (result_ok (document_of schema document))) (result_ok (compiled_in (rfc []) (statements_in (rfc []) (text_in_1_1 lines ∷ []))))
+    (result_ok (document_of schema document))) (result_ok (compiled_in (rfc_with []) (statements_in (rfc_with []) (text_in_1_1 lines ∷ []))))
+
+-- ---- conditions that aren't judged
+
+abbrev pub unjudging : Bool → Bool → Language
+unjudging musts whens = rfc (record { choosings = []; unjudged = record { musts = musts; whens = whens } })
+
+abbrev pub with_unjudged : Bool → Bool → Text → Outcome
+with_unjudged musts whens lines = outcome_in (unjudging musts whens) (text_in_1_1 lines ∷ [])
+
+-- the faults of a document of which no condition is judged
+abbrev pub faults_unjudged : Text → Text → Option (List ℕ)
+faults_unjudged lines document = faults_under (unjudging true true) (text_in_1_1 lines) document
 
 -- ---- texts alone
 
@@ -99,4 +111,12 @@ reading_by version (Err s) = slips s.code s.line
 reading_by version (Ok top) = spells version (map (λ s. (s.keyword, s.argument)) (preorder top))
 
 abbrev pub reading_of : Text → Reading
-reading_of t = reading_by (version_of_text t) (module_in (rfc []) t)
+reading_of t = reading_by (version_of_text t) (module_in (rfc_with []) t)
+
+-- ---- types whose names are restricted, in a line each (RFC 7950, 9.6.5)
+
+abbrev pub colours : Text
+colours = codes "  typedef c { type enumeration { enum white { value 1; } enum yellow { value 2; } enum red { value 3; } } }\n"
+
+abbrev pub speeds : Text
+speeds = codes "  typedef b { type bits { bit half; bit fast; bit slow { position 4; } } }\n"

@@ -1,30 +1,60 @@
--- The statements that linking stands on, with features, conditions and patterns among them (RFC 7950, 7.20.1, 7.20.2, 9.4.5).
-use Rattle.std.specs.Prelude.{ℕ, ◌+◌, Bool, false, List, Option, Some, filter, option_and_then, if◌then◌else◌}
+-- The statements that linking stands on, with features, conditions, patterns, and names that restrict types among them (RFC 7950,
+-- 7.20.1, 7.20.2, 7.21.5, 9.4.5, 9.6.4, 9.7.4).
+use Rattle.std.specs.Prelude.{ℕ, ◌+◌, Bool, true, false, not, ◌&&◌, ◌||◌, List, [], Option, Some, None, filter, is_some, option_map, option_and_then, unwrap_or, if◌then◌else◌}
 use Rattle.std.specs.List.{list_any}
+use Rattle.std.specs.Option.{option_map_or}
 use Rattle.yspec.specs.Forest.{Forest, end, node, row, join, size}
 use Rattle.yspec.specs.text.Text.{is_text}
 use Rattle.yspec.specs.text.Statement.{Statement}
-use Rattle.yspec.specs.linking.Keyword.{Keyword, extension_word}
+use Rattle.yspec.specs.linking.Keyword.{Keyword, same_keyword, extension_word, type_word, enum_word, bit_word}
 use Rattle.yspec.specs.linking.Source.{Source, unless_extension, kept_at, numbered}
-use Rattle.yspec_wide.specs.Language.{Language, core, rfc}
-use Rattle.yspec_wide.specs.Words.{Word, known, feature_word, if_feature_word, word_text, word_named}
+use Rattle.yspec.specs.linking.BuiltIns.{built_in_named}
+use Rattle.yspec_wide.specs.Language.{Language, core, rfc, is_yang_1, version_below}
+use Rattle.yspec_wide.specs.Words.{Word, known, feature_word, if_feature_word, must_word, when_word, word_text, word_named}
 
--- Those that the core doesn't have are kept as `extension` is named; they are told apart by their texts.
+-- Those that the core doesn't have are kept as `extension` is named; they are told apart by their texts. A `must` that isn't
+-- judged says nothing.
 abbrev pub keyword_kept : Word → Option Keyword
 keyword_kept (known k) = unless_extension k
+keyword_kept must_word = None
 keyword_kept _ = Some extension_word
 
-abbrev pub kept_keyword_in : Language → Statement → Option Keyword
-kept_keyword_in language s = option_and_then keyword_kept (word_named language s.keyword)
+-- An `enum` or a `bit` that restricts a type is kept so as well.
+abbrev pub keyword_restricting : Keyword → Keyword
+keyword_restricting k = if same_keyword enum_word k || same_keyword bit_word k then extension_word else k
 
-unfoldable pub kept_in : Language → Forest Statement → Forest (Keyword × Statement)
-kept_in language end = end
-kept_in language (node s below after) = kept_at (kept_keyword_in language s) s (kept_in language below) (kept_in language after)
+-- of a statement in a row, in which names restrict a type or not
+abbrev pub kept_keyword_in : Language → Bool → Statement → Option Keyword
+kept_keyword_in language restricting s = let k = option_and_then keyword_kept (word_named language s.keyword) in
+    if restricting then option_map keyword_restricting k else k
+
+-- a `type` that isn't built in
+abbrev pub is_derived_type : Keyword → Statement → Bool
+is_derived_type k s = same_keyword type_word k && not (is_some (built_in_named (unwrap_or s.argument [])))
+
+-- whether names restrict types in a module, by what stands below its `module` statement: YANG 1 has nothing of it (RFC 6020, 9.6
+-- and 9.7)
+abbrev pub may_restrict : Language → Forest Statement → Bool
+may_restrict core below = false
+may_restrict (rfc wide) below = not (is_yang_1 (version_below below))
+
+-- whether they do below a statement, where they do at all
+abbrev pub restricts_below : Bool → Option Keyword → Statement → Bool
+restricts_below may k s = option_map_or (λ k. is_derived_type k s && may) k false
+
+unfoldable pub kept_in : Language → Bool → Bool → Forest Statement → Forest (Keyword × Statement)
+kept_in language may restricting end = end
+kept_in language may restricting (node s below after) = let k = kept_keyword_in language restricting s in
+    kept_at k s (kept_in language may (restricts_below may k s) below) (kept_in language may restricting after)
+
+-- a `module` with all below it that is kept
+abbrev pub module_kept : Language → Statement → Forest Statement → Forest (Keyword × Statement)
+module_kept language s below = kept_in language (may_restrict language below) false (node s below end)
 
 -- the top statements of a set, from a module and a number on
 unfoldable pub sources_in_from : Language → ℕ → ℕ → Forest Statement → Forest Source
 sources_in_from language home number end = end
-sources_in_from language home number (node s below after) = let module_row = kept_in language (node s below end) in
+sources_in_from language home number (node s below after) = let module_row = module_kept language s below in
     join (numbered home number module_row) (sources_in_from language (home + 1) (number + size module_row) after)
 
 abbrev pub sources_in : Language → Forest Statement → Forest Source
@@ -35,7 +65,7 @@ sources_in language modules = sources_in_from language 0 0 modules
 -- whether a statement is one of those that a language has besides the core's
 abbrev pub is_added : Language → Word → Source → Bool
 is_added core w s = false
-is_added (rfc choosings) w s = is_text s.statement.keyword (word_text w)
+is_added (rfc wide) w s = is_text s.statement.keyword (word_text w)
 
 module _ (language : Language) where
   abbrev pub is_feature : Source → Bool
@@ -44,6 +74,13 @@ module _ (language : Language) where
   abbrev pub is_condition : Source → Bool
   is_condition s = is_added language if_feature_word s
 
+  abbrev pub is_when : Source → Bool
+  is_when s = is_added language when_word s
+
+  -- the statements on which it hangs whether a node is there
+  abbrev pub is_guard : Source → Bool
+  is_guard s = is_condition s || is_when s
+
   -- the `if-feature` statements of a row
   abbrev pub conditions_in : Forest Source → List Source
   conditions_in below = filter is_condition (row below)
@@ -51,12 +88,17 @@ module _ (language : Language) where
   abbrev pub bears_condition : Forest Source → Bool
   bears_condition below = list_any is_condition (row below)
 
-  -- a row of them alone, and the row without them
-  abbrev pub condition_row : Forest Source → Forest Source
-  condition_row end = end
-  condition_row (node s below after) = if is_condition s then node s below (condition_row after) else condition_row after
+  abbrev pub bears_when : Forest Source → Bool
+  bears_when below = list_any is_when (row below)
 
-  abbrev pub without_conditions : Forest Source → Forest Source
-  without_conditions end = end
-  without_conditions (node s below after) =
-      if is_condition s then without_conditions after else node s below (without_conditions after)
+  abbrev pub bears_guard : Forest Source → Bool
+  bears_guard below = list_any is_guard (row below)
+
+  -- a row of guards alone, and the row without them
+  abbrev pub guard_row : Forest Source → Forest Source
+  guard_row end = end
+  guard_row (node s below after) = if is_guard s then node s below (guard_row after) else guard_row after
+
+  abbrev pub without_guards : Forest Source → Forest Source
+  without_guards end = end
+  without_guards (node s below after) = if is_guard s then without_guards after else node s below (without_guards after)

@@ -6,7 +6,7 @@ use Rattle.yspec.specs.Forest.{Forest, end, node, row}
 use Rattle.yspec.specs.text.Text.{Text, is_text}
 use Rattle.yspec.specs.text.Statement.{Statement}
 use Rattle.yspec.specs.schema.Breaks.{Break, broken, when, is_wrong_count}
-use Rattle.yspec.specs.linking.Keyword.{module_word, yang_version_word, extension_word}
+use Rattle.yspec.specs.linking.Keyword.{module_word, yang_version_word, extension_word, type_word}
 use Rattle.yspec.specs.linking.StatementBreaks as narrow
 use Rattle.yspec.specs.linking.StatementBreaks.{is_prefixed}
 use Rattle.yspec_wide.specs.Language.{Language, core, rfc, YangVersion, yang_1_1, version_below}
@@ -16,7 +16,7 @@ use Rattle.yspec_wide.specs.Table.{WideForm, fits_in, Allowed, rule_in}
 -- that in which a module is read: under the core every text is one of YANG 1.1
 abbrev pub version_in : Language → Forest Statement → YangVersion
 version_in core below = yang_1_1
-version_in (rfc choosings) below = version_below below
+version_in (rfc wide) below = version_below below
 
 -- ---- what a statement breaks by itself
 
@@ -38,11 +38,17 @@ is_wrong_version w s = same_word w (known yang_version_word) && not (option_map_
 abbrev pub version_breaks : Language → ℕ → Word → Statement → Forest Statement → List Break
 version_breaks core m (known k) s below = narrow.version_breaks m k s below
 version_breaks core m w s below = []
-version_breaks (rfc choosings) m w s below = when (is_wrong_version w s) (broken 4 m s.line)
+version_breaks (rfc wide) m w s below = when (is_wrong_version w s) (broken 4 m s.line)
 
-abbrev pub type_breaks : ℕ → Word → Statement → List Break
-type_breaks m (known k) s = narrow.type_breaks m k s
-type_breaks m w s = []
+-- a built-in type that the wide language lacks too (RFC 7950, 9.13)
+abbrev pub is_type_outside : Text → Bool
+is_type_outside t = is_text t (codes "instance-identifier")
+
+abbrev pub type_breaks : Language → ℕ → Word → Statement → List Break
+type_breaks core m (known k) s = narrow.type_breaks m k s
+type_breaks core m w s = []
+type_breaks (rfc wide) m w s =
+    when (same_word w (known type_word) && option_map_or is_type_outside s.argument false) (broken 1 m s.line)
 
 -- ---- how many there are of each substatement
 
@@ -63,7 +69,7 @@ count_breaks language m s below allowed = when (list_any (is_miscounted language
 -- ---- statements where they stand
 
 abbrev pub own_breaks : Language → YangVersion → ℕ → Word → Statement → Forest Statement → List Break
-own_breaks language version m w s below = argument_breaks m version (rule_in language version w).form s ++ (type_breaks m w s
+own_breaks language version m w s below = argument_breaks m version (rule_in language version w).form s ++ (type_breaks language m w s
     ++ (version_breaks language m w s below ++ count_breaks language m s below (rule_in language version w).substatements))
 
 abbrev pub is_allowed : Word → List Allowed → Bool

@@ -5,9 +5,9 @@ use Rattle.yspec.specs.linking.Keyword as keyword
 use Rattle.yspec.specs.linking.Keyword.{Keyword, same_keyword}
 use Rattle.yspec.specs.linking.Arguments.{Form, identifier_form, any_form, fits}
 use Rattle.yspec.specs.linking.Table as narrow
-use Rattle.yspec.specs.linking.Table.{Count, exactly_one, at_most_one, any_number, rule_of, in_range, doc}
+use Rattle.yspec.specs.linking.Table.{Count, exactly_one, at_most_one, any_number, rule_of, in_range, doc, texts}
 use Rattle.yspec_wide.specs.Language.{Language, core, rfc, YangVersion, yang_1, yang_1_1}
-use Rattle.yspec_wide.specs.Words.{Word, known, feature_word, if_feature_word, pattern_word, modifier_word, same_word}
+use Rattle.yspec_wide.specs.Words.{Word, known, feature_word, if_feature_word, pattern_word, modifier_word, must_word, when_word, same_word}
 use Rattle.yspec_wide.specs.Expressions.{expression_of}
 
 pub record Allowed : Type 0 where
@@ -64,23 +64,42 @@ many w = record { word = w; count = any_number }
 abbrev pub conditions : List Allowed
 conditions = many if_feature_word ∷ []
 
+-- those of nodes with values or with children in documents
+abbrev pub constraints : List Allowed
+constraints = many if_feature_word ∷ many must_word ∷ []
+
 -- the substatements that a statement of the core may bear besides
 abbrev pub added : Keyword → List Allowed
 added keyword.module_word = many feature_word ∷ []
-added keyword.container_word = conditions
-added keyword.leaf_word = conditions
-added keyword.leaf_list_word = conditions
-added keyword.list_word = conditions
+added keyword.container_word = constraints
+added keyword.leaf_word = constraints
+added keyword.leaf_list_word = constraints
+added keyword.list_word = constraints
 added keyword.choice_word = conditions
 added keyword.case_word = conditions
 added keyword.uses_word = conditions
-added keyword.refine_word = conditions
+added keyword.refine_word = constraints
 added keyword.augment_word = conditions
 added keyword.identity_word = conditions
 added keyword.enum_word = conditions
 added keyword.bit_word = conditions
 added keyword.type_word = many pattern_word ∷ []
 added _ = []
+
+-- A `when` may stand, once, wherever it says whether nodes are there (RFC 7950, 7.21.5).
+abbrev pub one_when : List Allowed
+one_when = record { word = when_word; count = at_most_one } ∷ []
+
+abbrev pub bearing_when : Keyword → List Allowed
+bearing_when keyword.container_word = one_when
+bearing_when keyword.leaf_word = one_when
+bearing_when keyword.leaf_list_word = one_when
+bearing_when keyword.list_word = one_when
+bearing_when keyword.choice_word = one_when
+bearing_when keyword.case_word = one_when
+bearing_when keyword.uses_word = one_when
+bearing_when keyword.augment_word = one_when
+bearing_when _ = []
 
 -- ---- what YANG 1 lacks of YANG 1.1 (RFC 7950, 1.1)
 
@@ -118,7 +137,8 @@ abbrev pub with_version_free : Allowed → Allowed
 with_version_free a = if is_version_row a then record { word = a.word; count = at_most_one } else a
 
 abbrev pub wide_substatements : YangVersion → Keyword → List Allowed
-wide_substatements version k = of_version version k (map with_version_free (row_before (rule_of k).substatements) ++ added k)
+wide_substatements version k =
+    bearing_when k ++ of_version version k (map with_version_free (row_before (rule_of k).substatements) ++ added k)
 
 abbrev pub wide_form : Keyword → Form → WideForm
 wide_form keyword.prefix_word form = prefix_form
@@ -138,6 +158,8 @@ wide_rule version feature_word =
 wide_rule version if_feature_word = record { form = if_feature_form; substatements = [] }
 wide_rule version pattern_word = record { form = as_before any_form; substatements = in_pattern version }
 wide_rule version modifier_word = record { form = modifier_form; substatements = [] }
+wide_rule version must_word = record { form = as_before any_form; substatements = row_before in_range }
+wide_rule version when_word = record { form = as_before any_form; substatements = row_before texts }
 
 -- nothing is known of a keyword that the core doesn't have
 abbrev pub core_rule : Word → Rule
@@ -146,4 +168,4 @@ core_rule _ = record { form = as_before any_form; substatements = [] }
 
 abbrev pub rule_in : Language → YangVersion → Word → Rule
 rule_in core version w = core_rule w
-rule_in (rfc choosings) version w = wide_rule version w
+rule_in (rfc wide) version w = wide_rule version w

@@ -155,8 +155,8 @@ module_by yang_1_1 t = module_of t
 -- whether each text is read by its own version
 abbrev pub reads_versions : Language → Bool
 reads_versions core = false
-reads_versions (rfc choosings) = true
+reads_versions (rfc wide) = true
 
 abbrev pub module_in : Language → Text → Result (Forest Statement) Slip
 module_in core t = module_of t
-module_in (rfc choosings) t = module_by (version_of_text t) t
+module_in (rfc wide) t = module_by (version_of_text t) t

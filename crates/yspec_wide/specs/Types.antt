@@ -6,6 +6,7 @@ use Rattle.std.specs.Option.{option_map_or}
 use Rattle.yspec.specs.Forest.{Forest, end, node, row, size, first_of, relabelled}
 use Rattle.yspec.specs.text.Text.{Text, is_text}
 use Rattle.yspec.specs.types.Names.{Assigned, enum_names, bit_names}
+use Rattle.yspec.specs.types.Restriction.{has_name}
 use Rattle.yspec.specs.types.Types.{YangType, Val, enumeration_base, bits_base, identity_base, plain, type_in, string_type}
 use Rattle.yspec.specs.types.Order.{same_value}
 use Rattle.yspec.specs.linking.Keyword.{Keyword}
@@ -13,7 +14,7 @@ use Rattle.yspec.specs.linking.Keyword as word
 use Rattle.yspec.specs.linking.Source.{Source, Stated, is_source_of, argument_in, first_with, found_with, stated_with}
 use Rattle.yspec.specs.linking.Scopes.{Placed, statement_at}
 use Rattle.yspec.specs.linking.Identities.{module_name, assigned_identity, identities_of, derives, bases_in}
-use Rattle.yspec.specs.linking.TypeStatements.{BuiltIn, enumeration, bits, union, leafref, identityref, Meant, own, Verdict, means, wrong, built_in_meant, are_in_place, of_names, namings, value_stated, position_stated, single_type, union_verdict, leafref_verdict, derived, meaning_of}
+use Rattle.yspec.specs.linking.TypeStatements.{BuiltIn, enumeration, bits, union, leafref, identityref, Meant, own, Verdict, means, wrong, built_in_meant, are_in_place, of_names, namings, value_stated, position_stated, single_type, union_verdict, leafref_verdict, named_where, derived_by, meaning_of}
 use Rattle.yspec.specs.linking.DerivedTypes.{Known, unknown, named, verdict_by, typedef_row, is_member}
 use Rattle.yspec.specs.linking.Planned.{Planned, Plan, is_a, stated_in, type_by, target_of}
 use Rattle.yspec.specs.linking.SchemaNodes as schema_nodes
@@ -21,19 +22,40 @@ use Rattle.yspec.specs.linking.SchemaNodes.{is_mandatory, min_elements_of, own_d
 use Rattle.yspec.specs.linking.NodeBreaks.{is_empty, has_equal, is_wrong_case, broken_at}
 use Rattle.yspec.specs.schema.Breaks.{Break, when}
 use Rattle.yspec.specs.schema.Schema.{SchemaNode, Kind, leaf, leaf_list, LeafType, Absence, mandatory, key}
-use Rattle.yspec_wide.specs.Language.{Language}
+use Rattle.yspec_wide.specs.Language.{Language, core, rfc}
 use Rattle.yspec_wide.specs.Sources.{bears_condition}
 use Rattle.yspec_wide.specs.Features.{stands}
 use Rattle.yspec_wide.specs.VersionBreaks.{is_of_yang_1, has_distinct_items}
+use Rattle.yspec_wide.specs.Guards.{is_guarded, asked_kind}
 
 -- ---- types of the names that are kept, by what stands below their statements
 
-module _ (kept : Forest Source → Bool) where
+pub data Keeping : Type 0 where
+  all_names : Keeping
+  names_where : (Forest Source → Bool) → Keeping
+
+abbrev pub keeps : Keeping → Forest Source → Bool
+keeps all_names below = true
+keeps (names_where test) below = test below
+
+abbrev pub is_all : Keeping → Bool
+is_all all_names = true
+is_all (names_where test) = false
+
+-- Whether a name restricts a type. Where all are kept each has to be one of the type's; else those do that are kept and that the type
+-- still has.
+abbrev pub is_restriction_kept : Keeping → YangType → Source → Forest Source → Bool
+is_restriction_kept kept type s below = is_all kept || (keeps kept below && has_name type (argument_in s))
+
+abbrev pub named_kept : Keeping → Forest Source → YangType → Option YangType
+named_kept kept below type = named_where (is_restriction_kept kept) below type
+
+module _ (kept : Keeping) where
   -- the names that statements of a row with a keyword give, where they are kept
   abbrev pub names_kept : Keyword → Forest Source → List Text
   names_kept k end = []
   names_kept k (node s below after) =
-      if is_source_of k s && kept below then argument_in s ∷ names_kept k after else names_kept k after
+      if is_source_of k s && keeps kept below then argument_in s ∷ names_kept k after else names_kept k after
 
   -- Numbers are given as if all were kept.
   abbrev pub assigned_kept : Keyword → Forest Source → List Assigned → List Assigned
@@ -48,7 +70,7 @@ module _ (kept : Forest Source → Bool) where
 
   abbrev pub numbers_kept : Forest Source → List ℕ → List ℤ
   numbers_kept modules bases =
-      map (λ p. pos p.source.number) (filter (λ p. kept p.below && list_all (derives modules p) bases) (identities_of modules))
+      map (λ p. pos p.source.number) (filter (λ p. keeps kept p.below && list_all (derives modules p) bases) (identities_of modules))
 
   abbrev pub identity_type_of : Forest Source → ℕ → List ℕ → YangType
   identity_type_of modules home bases =
@@ -67,7 +89,7 @@ module _ (kept : Forest Source → Bool) where
   abbrev pub verdict_of : Forest Source → (ℕ → Verdict) → Bool → Source → Forest Source → List Verdict → Verdict
   verdict_of modules names member s below members = option_map_or (λ type. if are_in_place type below
       then verdict_in_place_of modules member s type below members else wrong) (built_in_meant modules s)
-      (derived member below (names s.number))
+      (derived_by (named_kept kept below) member below (names s.number))
 
   unfoldable pub verdicts_of : Forest Source → (ℕ → Verdict) → Forest Source → List Verdict
   verdicts_of modules names end = []
@@ -130,10 +152,19 @@ bears_none language below = not (bears_condition language below)
 abbrev pub same_if_any : Option Val → Option Val → Bool
 same_if_any v w = option_map_or (λ a. option_map_or (same_value a) w false) v false
 
+-- the names that bear no condition, and those that stand
+abbrev pub unmarked : Language → Keeping
+unmarked core = all_names
+unmarked (rfc wide) = names_where (bears_none (rfc wide))
+
+abbrev pub standing_names : Language → Forest Source → Keeping
+standing_names core modules = all_names
+standing_names (rfc wide) modules = names_where (stands (rfc wide) modules)
+
 -- whether a type takes a default, and takes it alike without the names that bear conditions
 abbrev pub is_right_default : Language → Plan → Planned → YangType → Stated → Bool
 is_right_default language plan p type t = same_if_any (schema_nodes.value_stated plan type t)
-    (option_and_then (λ unmarked. schema_nodes.value_stated plan unmarked t) (type_of_kept (bears_none language) plan p))
+    (option_and_then (λ fewer. schema_nodes.value_stated plan fewer t) (type_of_kept (unmarked language) plan p))
 
 abbrev pub is_refused_in : Language → Plan → Planned → YangType → Stated → Bool
 is_refused_in language plan p type t = not (is_right_default language plan p type t)
@@ -148,7 +179,7 @@ are_wrong_defaults_in language plan p type = if nat_lt 0 (min_elements_of p) the
     || (p.config && has_equal plan type (default_texts_in language plan p))
 
 abbrev pub standing_type : Language → Plan → Planned → Option YangType
-standing_type language plan p = type_of_kept (stands language plan.modules) plan p
+standing_type language plan p = type_of_kept (standing_names language plan.modules) plan p
 
 abbrev pub is_default_wrong_in : Language → Plan → Planned → Bool
 is_default_wrong_in language plan p = if is_a word.leaf_word p
@@ -176,11 +207,15 @@ abbrev pub absence_in : Language → Plan → Planned → Absence
 absence_in language plan p = if is_key plan p then key
     else (if is_mandatory p then mandatory else schema_nodes.absent_by (schema_nodes.first_value (default_values_in language plan p)))
 
-abbrev pub kind_in : Language → Plan → Planned → Kind
-kind_in language plan p = if is_a word.leaf_word p then leaf (leaf_type_in language plan p) (absence_in language plan p)
+abbrev pub kind_stated : Language → Plan → Planned → Kind
+kind_stated language plan p = if is_a word.leaf_word p then leaf (leaf_type_in language plan p) (absence_in language plan p)
     else (if is_a word.leaf_list_word p
     then leaf_list (leaf_type_in language plan p) (default_values_in language plan p) (schema_nodes.amount_of p)
     else schema_nodes.kind_by plan p p.part.source.keyword)
+
+-- of what hangs on a `when` nothing is asked
+abbrev pub kind_in : Language → Plan → Planned → Kind
+kind_in language plan p = asked_kind (is_guarded language plan p) (kind_stated language plan p)
 
 abbrev pub schema_node_in : Language → Plan → Planned → SchemaNode
 schema_node_in language plan p =

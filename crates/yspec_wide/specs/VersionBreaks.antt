@@ -16,7 +16,7 @@ use Rattle.yspec.specs.linking.SchemaNodes.{is_key}
 use Rattle.yspec.specs.linking.NodeBreaks.{broken_at}
 use Rattle.yspec.specs.schema.Breaks.{Break, broken, when}
 use Rattle.yspec_wide.specs.Language.{Language, is_yang_1, version_of}
-use Rattle.yspec_wide.specs.Sources.{bears_condition}
+use Rattle.yspec_wide.specs.Sources.{bears_guard}
 
 -- ---- the type `empty`
 
@@ -71,12 +71,12 @@ module _ (language : Language) where
   abbrev pub version_type_breaks : Forest Source → List Break
   version_type_breaks modules = flat_map (version_type_break modules) (statements_of modules)
 
-  -- ---- C12: a key leaf bears no condition; in YANG 1 it isn't `empty`
+  -- ---- C12: a key leaf bears no guard; in YANG 1 it isn't `empty`
 
   -- whether the statement itself bears one, those of a `uses` or an `augment` aside
   abbrev pub bears_itself : Plan → Planned → Bool
   bears_itself plan p =
-      option_map_or (λ s. bears_condition language s.below) (statement_at plan.modules p.part.source.number) false
+      option_map_or (λ s. bears_guard language s.below) (statement_at plan.modules p.part.source.number) false
 
   abbrev pub is_unfit_key : Plan → Planned → Bool
   is_unfit_key plan p = is_key plan p && (if is_of_yang_1 plan.modules p.part.source

@@ -1,7 +1,7 @@
 //! Features that are on, and what is told of them.
 
 ghost use Rattle.std.specs.Prelude.{◌≡◌, [], ◌∷◌, codes, map};
-ghost use Rattle.yspec_wide.specs.Language.{rfc};
+ghost use Rattle.yspec_wide.specs.Language.{rfc_with};
 ghost use Rattle.yspec_wide.specs.Samples.{told, nodes, chosen, outcome_in, with_features, with_all, text_in_1_1};
 
 /// A feature is on where it is chosen and its own conditions hold; of a module that isn't named all are chosen.
@@ -10,7 +10,7 @@ pub fn features_that_are_on()
         ≡ nodes (codes "x" ∷ codes "z" ∷ []) }
     ensures by_others { with_features (codes "a" ∷ codes "c" ∷ []) (codes "  feature a { if-feature \"b or c\"; }\n  feature b;\n  feature c { if-feature \"not b\"; }\n  feature d;\n  leaf x { if-feature a; type string; }\n  leaf y { if-feature \"a and d\"; type string; }\n")
         ≡ nodes (codes "x" ∷ []) }
-    ensures of_another_module { outcome_in (rfc (chosen (codes "n") [] ∷ []))
+    ensures of_another_module { outcome_in (rfc_with (chosen (codes "n") [] ∷ []))
         (codes "module n { yang-version 1.1; namespace urn:n; prefix n; feature a; leaf w { if-feature a; type string; } }"
         ∷ text_in_1_1 (codes "  import n { prefix o; }\n  feature a;\n  leaf x { if-feature o:a; type string; }\n  leaf y { if-feature m:a; type string; }\n") ∷ [])
         ≡ nodes (codes "y" ∷ []) }

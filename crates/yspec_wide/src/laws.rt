@@ -18,7 +18,7 @@ ghost use Rattle.yspec_wide.specs.StatementBreaks.{top_breaks, statement_phase_i
 ghost use Rattle.yspec_wide.specs.Sources.{is_feature, is_condition, sources_in};
 ghost use Rattle.yspec_wide.specs.Compiling.{linking_phases_in, linked_in, compiled_in};
 ghost use Rattle.yspec_wide.specs.Expansion.{augmented_in, unfit_breaks_in, augment_breaks_in};
-ghost use Rattle.yspec_wide.specs.Types.{type_of_kept};
+ghost use Rattle.yspec_wide.specs.Types.{all_names, type_of_kept};
 ghost use Rattle.yspec_wide.specs.Standing.{standing, standing_by, all_stand};
 
 /// Under the core a set of modules compiles to the schema that it has without a language, or the same rule is told of it.
@@ -36,8 +36,8 @@ pub fn core_table()
 
 /// Of what the core keeps no language would say that it is a feature, a condition or a pattern.
 pub fn no_conditions_in_the_core()
-    ensures features { (choosings modules : _) → list_any (is_feature (rfc choosings)) (preorder (sources_in core modules)) ≡ false }
-    ensures conditions { (choosings modules : _) → list_any (is_condition (rfc choosings)) (preorder (sources_in core modules)) ≡ false }
+    ensures features { (wide modules : _) → list_any (is_feature (rfc wide)) (preorder (sources_in core modules)) ≡ false }
+    ensures conditions { (wide modules : _) → list_any (is_condition (rfc wide)) (preorder (sources_in core modules)) ≡ false }
     ensures patterns { (modules : _) → list_any is_pattern_statement (preorder (sources_in core modules)) ≡ false }
 {}
 
@@ -62,7 +62,7 @@ pub fn core_expands()
 
 /// Where all names of values are kept, the type of each leaf and leaf-list is what it is without a language.
 pub fn kept_types()
-    ensures { (plan p : _) → type_of_kept (λ own. true) plan p ≡ type_of plan p }
+    ensures { (plan p : _) → type_of_kept all_names plan p ≡ type_of plan p }
 {}
 
 /// Where all conditions of all parts hold, all of them stand as they are.

@@ -3,9 +3,12 @@
 //! compute both sides.
 #![tactic(auto)]
 
+pub mod binaries;
 pub mod expressions;
 pub mod features;
+pub mod guards;
 pub mod laws;
 pub mod patterns;
+pub mod restricting;
 pub mod standing;
 pub mod versions;

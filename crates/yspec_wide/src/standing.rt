@@ -1,7 +1,7 @@
 //! What is off is as if it weren't there: behind C13 and C14, and ahead of C11, C12 and C17.
 
 ghost use Rattle.std.specs.Prelude.{◌≡◌, [], ◌∷◌, codes, map, Some};
-ghost use Rattle.yspec_wide.specs.Language.{rfc};
+ghost use Rattle.yspec_wide.specs.Language.{rfc_with};
 ghost use Rattle.yspec_wide.specs.Samples.{told, nodes, chosen, outcome_in, with_features, with_all, faults_with, text_in_1_1};
 
 /// Conditions of a `uses`, a refine and an `augment` are those of the nodes that they bring or change.
@@ -24,7 +24,7 @@ pub fn refused()
     ensures marked_default { map with_all (codes "  feature a;\n  leaf x {\n    type enumeration {\n      enum p { if-feature a; }\n      enum q;\n    }\n    default p;\n  }\n"
         ∷ codes "  feature a;\n  identity b;\n  identity p { if-feature a; base b; }\n  leaf x {\n    type identityref { base b; }\n    default p;\n  }\n" ∷ [])
         ≡ told 11 0 6 ∷ told 11 0 8 ∷ [] }
-    ensures mandatory_in_what_is_off { outcome_in (rfc (chosen (codes "n") [] ∷ []))
+    ensures mandatory_in_what_is_off { outcome_in (rfc_with (chosen (codes "n") [] ∷ []))
         (codes "module n { yang-version 1.1; namespace urn:n; prefix n; feature a; container c { if-feature a; } }"
         ∷ text_in_1_1 (codes "  import n { prefix n; }\n  augment /n:c {\n    leaf x { type string; mandatory true; }\n  }\n") ∷ [])
         ≡ told 15 1 6 }

@@ -1,13 +1,13 @@
 //! Versions of YANG: what is read in each.
 
 ghost use Rattle.std.specs.Prelude.{◌≡◌, [], ◌∷◌, codes, map, Some, None};
-ghost use Rattle.yspec_wide.specs.Language.{core, rfc, yang_1, yang_1_1};
+ghost use Rattle.yspec_wide.specs.Language.{core, rfc_with, yang_1, yang_1_1};
 ghost use Rattle.yspec_wide.specs.Samples.{told, nodes, slips, spells, reading_of, outcome_in, with_all, with_all_in_1, text_in_1, text_in_1_1};
 
 /// A module says YANG 1 or YANG 1.1, or nothing, which is YANG 1. The core reads YANG 1.1 alone, and no features.
 pub fn versions()
-    ensures unsaid { outcome_in (rfc []) (codes "module m {\n  namespace urn:m;\n  prefix m;\n  leaf-list l { type string; default x; }\n}\n" ∷ []) ≡ told 1 0 4 }
-    ensures unknown { outcome_in (rfc []) (codes "module m {\n  namespace urn:m;\n  yang-version 1.2;\n  prefix m;\n}\n" ∷ []) ≡ told 4 0 3 }
+    ensures unsaid { outcome_in (rfc_with []) (codes "module m {\n  namespace urn:m;\n  prefix m;\n  leaf-list l { type string; default x; }\n}\n" ∷ []) ≡ told 1 0 4 }
+    ensures unknown { outcome_in (rfc_with []) (codes "module m {\n  namespace urn:m;\n  yang-version 1.2;\n  prefix m;\n}\n" ∷ []) ≡ told 4 0 3 }
     ensures in_the_core { outcome_in core (text_in_1 (codes "  leaf l { type string; }\n") ∷ []) ≡ told 4 0 1 }
     ensures no_feature_in_the_core { outcome_in core (text_in_1_1 (codes "  leaf l { type string; }\n  feature a;\n") ∷ []) ≡ told 1 0 6 }
 {}
@@ -23,7 +23,7 @@ pub fn lacking()
         ∷ codes "  leaf x {\n    type union {\n      type string;\n      type empty;\n    }\n  }\n"
         ∷ codes "  list l {\n    key k;\n    leaf k { type empty; }\n  }\n" ∷ [])
         ≡ told 10 0 7 ∷ told 10 0 8 ∷ told 12 0 5 ∷ [] }
-    ensures later_import { outcome_in (rfc []) (text_in_1 (codes "  import n { prefix n; revision-date 2020-01-01; }\n")
+    ensures later_import { outcome_in (rfc_with []) (text_in_1 (codes "  import n { prefix n; revision-date 2020-01-01; }\n")
         ∷ codes "module n { yang-version 1.1; namespace urn:n; prefix n; revision 2020-01-01; }" ∷ []) ≡ told 5 0 5 }
     ensures of_yang_1_1 { with_all (codes "  leaf-list l { type string; default x; }\n  leaf y {\n    type leafref { path /l; require-instance true; }\n  }\n  leaf XMl-a { type union { type empty; } }\n")
         ≡ nodes (codes "l" ∷ codes "y" ∷ codes "XMl-a" ∷ []) }

@@ -1,6 +1,6 @@
 -- The statements of modules that break no rule of the table in a language, as sources: each stands where it may, and what defines a
 -- node has an identifier for its argument.
-use Rattle.std.proofs.Common.{◌≡◌, ℕ, suc, ◌+◌, Bool, true, false, cond, not, ◌||◌, List, [], ◌∷◌, ◌++◌, map, filter, Option, Some, None, refl, sym, ap, ap₂, ◌∙◌, subst}
+use Rattle.std.proofs.Common.{◌≡◌, ℕ, suc, ◌+◌, Bool, true, false, cond, not, ◌||◌, ◌&&◌, List, [], ◌∷◌, ◌++◌, map, filter, Option, Some, None, refl, sym, ap, ap₂, ◌∙◌, subst}
 use Rattle.std.proofs.lemmas.Bool.{and_parts, or_right}
 use Rattle.std.proofs.lemmas.List.Folds.{list_any-append}
 use Rattle.std.proofs.lemmas.Slice.Eq.{bytes_eq-Decides}
@@ -11,10 +11,10 @@ use Rattle.yspec.specs.Forest.{Forest, end, node, join, size}
 use Rattle.yspec.specs.text.Text.{Text, is_text, is_identifier}
 use Rattle.yspec.specs.text.Statement.{Statement}
 use Rattle.yspec.specs.schema.Breaks.{Break, broken}
-use Rattle.yspec.specs.linking.Keyword.{Keyword, same_keyword, keywords, module_word, extension_word, description_word, reference_word, status_word}
+use Rattle.yspec.specs.linking.Keyword.{Keyword, same_keyword, keywords, module_word, extension_word, enum_word, bit_word, value_word, position_word, description_word, reference_word, status_word, error_message_word, error_app_tag_word}
 use Rattle.yspec.specs.linking.Arguments.{identifier_form, fits}
 use Rattle.yspec.specs.linking.Table as narrow
-use Rattle.yspec.specs.linking.Table.{rule_of, doc, in_range}
+use Rattle.yspec.specs.linking.Table.{rule_of, doc, in_range, texts}
 use Rattle.yspec.specs.linking.Source.{Source, unless_extension, kept_at, numbered, argument_in}
 use Rattle.yspec.specs.linking.StatementBreaks as narrow_breaks
 use Rattle.yspec.specs.linking.StatementBreaks.{is_prefixed}
@@ -23,17 +23,21 @@ use Rattle.yspec.proofs.LinkingProofs.BreakLemmas.{none_first, none_second, unbr
 use Rattle.yspec.proofs.LinkingProofs.KeywordLemmas.{of_each, same_is, by_definition, prefixed_is_none}
 use Rattle.yspec.proofs.LinkingProofs.LegalLemmas.{identifier_fits}
 use Rattle.yspec_wide.specs.Language.{Language, core, rfc, YangVersion, yang_1, yang_1_1}
-use Rattle.yspec_wide.specs.Words.{Word, known, feature_word, if_feature_word, pattern_word, modifier_word, same_word, word_text, or_added, word_named}
-use Rattle.yspec_wide.specs.Table.{WideForm, as_before, fits_in, Allowed, row_before, added, lacks, has_fewer, with_fewer, of_version, is_version_row, with_version_free, rule_in}
+use Rattle.yspec_wide.specs.Words.{Word, known, feature_word, if_feature_word, pattern_word, modifier_word, must_word, when_word, same_word, word_text, or_added, or_unjudged, word_named}
+use Rattle.yspec_wide.specs.Table.{WideForm, as_before, fits_in, Allowed, row_before, added, bearing_when, lacks, has_fewer, with_fewer, of_version, is_version_row, with_version_free, rule_in}
 use Rattle.yspec_wide.specs.StatementBreaks.{version_in, argument_breaks, own_breaks, is_allowed, known_breaks, named_breaks, breaks_at, substatements_of, row_breaks_in, top_breaks, breaks_in_from}
-use Rattle.yspec_wide.specs.Sources.{keyword_kept, kept_keyword_in, kept_in, sources_in_from}
+use Rattle.yspec_wide.specs.Sources.{keyword_kept, keyword_restricting, kept_keyword_in, may_restrict, restricts_below, kept_in, sources_in_from}
 
 -- ---- rows of sources
 
--- what may stand below a keyword, with what documents a feature and what a pattern says of other values: these are kept as
--- `extension` is named
+-- the number of an enum or of a bit
+abbrev pub in_name : List narrow.Allowed
+in_name = narrow.perhaps value_word ∷ narrow.perhaps position_word ∷ []
+
+-- what may stand below a keyword, with what documents a feature, what a pattern says of other values, and the number of a name that
+-- restricts a type: these are kept as `extension` is named
 abbrev pub may_stand : Keyword → List narrow.Allowed
-may_stand k = in_range ++ (doc ++ (rule_of k).substatements)
+may_stand k = in_name ++ (in_range ++ (doc ++ (rule_of k).substatements))
 
 pub record IsLegalAt (home : ℕ) (allowed : List narrow.Allowed) (s : Source) : Type 0 where
   pub known : same_keyword extension_word s.keyword ≡ false → narrow_breaks.is_allowed s.keyword allowed ≡ true
@@ -119,6 +123,18 @@ none_added k j = turned (is_allowed (known j) (added k))
     turned true e = absurd cc
     turned false e = refl
 
+none_bearing : (k j : Keyword) → is_allowed (known j) (bearing_when k) ≡ false
+none_bearing k j = turned (is_allowed (known j) (bearing_when k))
+    (of_each (λ j. not (is_allowed (known j) (bearing_when k))) (of_each (λ k. list_all (λ j. not (is_allowed (known j) (bearing_when k))) keywords) refl k) j)
+  where
+    turned : (b : Bool) → not b ≡ true → b ≡ false
+    turned true e = absurd cc
+    turned false e = refl
+
+no_first : (a b : Bool) → a ≡ false → (a || b) ≡ true → b ≡ true
+no_first true b none e = absurd cc
+no_first false b none e = e
+
 or_none : (a b : Bool) → b ≡ false → (a || b) ≡ true → a ≡ true
 or_none true b none e = refl
 or_none false true none e = absurd cc
@@ -134,13 +150,17 @@ ahead j rows after e =
     list_any-append (λ (a : narrow.Allowed). same_keyword a.keyword j) rows after ∙ ap (λ b. b || narrow_breaks.is_allowed j after) e
 
 documented : (j k : Keyword) → narrow_breaks.is_allowed j (rule_of k).substatements ≡ true → narrow_breaks.is_allowed j (may_stand k) ≡ true
-documented j k e = behind j in_range (doc ++ (rule_of k).substatements) (behind j doc (rule_of k).substatements e)
+documented j k e = behind j in_name (in_range ++ (doc ++ (rule_of k).substatements))
+    (behind j in_range (doc ++ (rule_of k).substatements) (behind j doc (rule_of k).substatements e))
 
 covers_known : (language : Language) (version : YangVersion) (k : Keyword) → Covers (rule_in language version (known k)).substatements (may_stand k)
 covers_known core version k j e = documented j k (sym (before_is j (rule_of k).substatements) ∙ e)
-covers_known (rfc choosings) version k j e =
+covers_known (rfc wide) version k j e =
     let rows = row_before (rule_of k).substatements in
-    let whole = of_version_is version k (known j) (map with_version_free rows ++ added k) e in
+    let behind_when = of_version version k (map with_version_free rows ++ added k) in
+    let later = no_first (is_allowed (known j) (bearing_when k)) (is_allowed (known j) behind_when) (none_bearing k j)
+    (sym (list_any-append (λ (a : Allowed). same_word a.word (known j)) (bearing_when k) behind_when) ∙ e) in
+    let whole = of_version_is version k (known j) (map with_version_free rows ++ added k) later in
     let own = or_none (is_allowed (known j) (map with_version_free rows)) (is_allowed (known j) (added k)) (none_added k j)
     (sym (list_any-append (λ (a : Allowed). same_word a.word (known j)) (map with_version_free rows) (added k)) ∙ whole) in
     documented j k (sym (before_is j (rule_of k).substatements) ∙ (sym (recounted with_version_free free_word (known j) rows) ∙ own))
@@ -156,22 +176,27 @@ later w j rows other e = by (same_word w (known j)) (is_allowed (known j) rows) 
 
 covers_feature : (language : Language) (version : YangVersion) → Covers (rule_in language version feature_word).substatements (may_stand extension_word)
 covers_feature core version j e = absurd cc
-covers_feature (rfc choosings) version j e = behind j in_range doc
-    (sym (before_is j doc) ∙ later if_feature_word j (row_before doc) (of_each (λ j. not (same_word if_feature_word (known j))) refl j) e)
+covers_feature (rfc wide) version j e = behind j in_name (in_range ++ doc) (behind j in_range doc
+    (sym (before_is j doc) ∙ later if_feature_word j (row_before doc) (of_each (λ j. not (same_word if_feature_word (known j))) refl j) e))
 
 covers_condition : (language : Language) (version : YangVersion) → Covers (rule_in language version if_feature_word).substatements (may_stand extension_word)
 covers_condition core version j e = absurd cc
-covers_condition (rfc choosings) version j e = absurd cc
+covers_condition (rfc wide) version j e = absurd cc
 
 covers_pattern : (language : Language) (version : YangVersion) → Covers (rule_in language version pattern_word).substatements (may_stand extension_word)
 covers_pattern core version j e = absurd cc
-covers_pattern (rfc choosings) yang_1 j e = ahead j in_range doc (sym (before_is j in_range) ∙ e)
-covers_pattern (rfc choosings) yang_1_1 j e = ahead j in_range doc
-    (sym (before_is j in_range) ∙ later modifier_word j (row_before in_range) (of_each (λ j. not (same_word modifier_word (known j))) refl j) e)
+covers_pattern (rfc wide) yang_1 j e = behind j in_name (in_range ++ doc) (ahead j in_range doc (sym (before_is j in_range) ∙ e))
+covers_pattern (rfc wide) yang_1_1 j e = behind j in_name (in_range ++ doc) (ahead j in_range doc
+    (sym (before_is j in_range) ∙ later modifier_word j (row_before in_range) (of_each (λ j. not (same_word modifier_word (known j))) refl j) e))
 
 covers_modifier : (language : Language) (version : YangVersion) → Covers (rule_in language version modifier_word).substatements (may_stand extension_word)
 covers_modifier core version j e = absurd cc
-covers_modifier (rfc choosings) version j e = absurd cc
+covers_modifier (rfc wide) version j e = absurd cc
+
+covers_when : (language : Language) (version : YangVersion) → Covers (rule_in language version when_word).substatements (may_stand extension_word)
+covers_when core version j e = absurd cc
+covers_when (rfc wide) version j e = behind j in_name (in_range ++ doc) (ahead j in_range doc
+    (behind j (narrow.perhaps error_message_word ∷ narrow.perhaps error_app_tag_word ∷ []) texts (sym (before_is j texts) ∙ e)))
 
 -- ---- identifiers
 
@@ -181,8 +206,8 @@ of_form yang_1_1 t e = identifier_fits t e
 
 form_is : (language : Language) (version : YangVersion) (k : Keyword) → defines_node k ≡ true → (rule_in language version (known k)).form ≡ as_before identifier_form
 form_is core version k defines = by_definition k (λ k. (rule_in core version (known k)).form ≡ as_before identifier_form) refl refl refl refl refl refl defines
-form_is (rfc choosings) version k defines =
-    by_definition k (λ k. (rule_in (rfc choosings) version (known k)).form ≡ as_before identifier_form) refl refl refl refl refl refl defines
+form_is (rfc wide) version k defines =
+    by_definition k (λ k. (rule_in (rfc wide) version (known k)).form ≡ as_before identifier_form) refl refl refl refl refl refl defines
 
 argument_fits : (version : YangVersion) (form : WideForm) (given : Option Text) → option_map_or (fits_in version form) given false ≡ true
     → fits_in version form (unwrap_or given []) ≡ true
@@ -216,9 +241,65 @@ not_named t prefixed w plain other = ap (λ b. cond b (Some w) other) (unprefixe
 
 prefixed_none : (language : Language) (t : Text) → is_prefixed t ≡ true → word_named language t ≡ None
 prefixed_none core t prefixed = ap (option_map known) (prefixed_is_none t prefixed)
-prefixed_none (rfc choosings) t prefixed = ap (λ o. or_added o t) (prefixed_is_none t prefixed)
+prefixed_none (rfc wide) t prefixed = ap (λ o. or_unjudged wide.unjudged o t) (ap (λ o. or_added o t) (prefixed_is_none t prefixed)
     ∙ (not_named t prefixed feature_word refl _ ∙ (not_named t prefixed if_feature_word refl _
-    ∙ (not_named t prefixed pattern_word refl _ ∙ not_named t prefixed modifier_word refl None)))
+    ∙ (not_named t prefixed pattern_word refl _ ∙ not_named t prefixed modifier_word refl None))))
+    ∙ ap₂ (λ a b. cond (a && wide.unjudged.musts) (Some must_word) (cond (b && wide.unjudged.whens) (Some when_word) None))
+    (unprefixed t prefixed (word_text must_word) refl) (unprefixed t prefixed (word_text when_word) refl)
+
+-- ---- names that restrict types
+
+implied : (a b : Bool) → (not a || b) ≡ true → a ≡ true → b ≡ true
+implied true b e is = e
+implied false b e is = absurd cc
+
+-- what may stand below an `enum` or a `bit` may stand below what is kept as `extension` is named
+below_enum : (j : Keyword) → narrow_breaks.is_allowed j (may_stand enum_word) ≡ true → narrow_breaks.is_allowed j (may_stand extension_word) ≡ true
+below_enum j = implied _ _ (of_each (λ j. not (narrow_breaks.is_allowed j (may_stand enum_word)) || narrow_breaks.is_allowed j (may_stand extension_word)) refl j)
+
+below_bit : (j : Keyword) → narrow_breaks.is_allowed j (may_stand bit_word) ≡ true → narrow_breaks.is_allowed j (may_stand extension_word) ≡ true
+below_bit j = implied _ _ (of_each (λ j. not (narrow_breaks.is_allowed j (may_stand bit_word)) || narrow_breaks.is_allowed j (may_stand extension_word)) refl j)
+
+legal_more : (home : ℕ) (few more : List narrow.Allowed) → ((k : Keyword) → narrow_breaks.is_allowed k few ≡ true → narrow_breaks.is_allowed k more ≡ true)
+    → (f : Forest Source) → IsLegal home few f → IsLegal home more f
+legal_more home few more covers end legal = tt
+legal_more home few more covers (node s below after) legal = (
+  record { known = λ other. covers s.keyword (legal.0.known other); named = legal.0.named; stands = legal.0.stands },
+  legal.1,
+  legal_more home few more covers after legal.2,
+)
+
+legal_as_extension : (home number : ℕ) (allowed : List narrow.Allowed) (k : Keyword) (s : Statement) (f g : Forest (Keyword × Statement))
+    → ((j : Keyword) → narrow_breaks.is_allowed j (may_stand k) ≡ true → narrow_breaks.is_allowed j (may_stand extension_word) ≡ true)
+    → IsLegal home allowed (numbered home number (node (k, s) f g)) → IsLegal home allowed (numbered home number (node (extension_word, s) f g))
+unfolding numbered
+legal_as_extension home number allowed k s f g covers legal = (
+  record { known = λ other. absurd cc; named = λ defines. absurd cc; stands = refl },
+  legal_more home (may_stand k) (may_stand extension_word) covers (numbered home (number + 1) f) legal.1,
+  legal.2,
+)
+
+legal_as_restricting : (home number : ℕ) (allowed : List narrow.Allowed) (o : Option Keyword) (s : Statement) (f g : Forest (Keyword × Statement))
+    → IsLegal home allowed (numbered home number (kept_at o s f g)) → IsLegal home allowed (numbered home number (kept_at (option_map keyword_restricting o) s f g))
+legal_as_restricting home number allowed None s f g legal = legal
+legal_as_restricting home number allowed (Some k) s f g legal = by (same_keyword enum_word k) refl (same_keyword bit_word k) refl
+  where
+    by : (a : Bool) → same_keyword enum_word k ≡ a → (b : Bool) → same_keyword bit_word k ≡ b
+        → IsLegal home allowed (numbered home number (node (cond (a || b) extension_word k, s) f g))
+    by true is b of_bit = legal_as_extension home number allowed k s f g
+        (subst (λ w. (j : Keyword) → narrow_breaks.is_allowed j (may_stand w) ≡ true → narrow_breaks.is_allowed j (may_stand extension_word) ≡ true)
+        (same_is enum_word k is) below_enum) legal
+    by false other true is = legal_as_extension home number allowed k s f g
+        (subst (λ w. (j : Keyword) → narrow_breaks.is_allowed j (may_stand w) ≡ true → narrow_breaks.is_allowed j (may_stand extension_word) ≡ true)
+        (same_is bit_word k is) below_bit) legal
+    by false other false not_bit = legal
+
+legal_restricting : (restricting : Bool) (language : Language) (home number : ℕ) (allowed : List narrow.Allowed) (s : Statement) (f g : Forest (Keyword × Statement))
+    → IsLegal home allowed (numbered home number (kept_at (kept_keyword_in language false s) s f g))
+    → IsLegal home allowed (numbered home number (kept_at (kept_keyword_in language restricting s) s f g))
+legal_restricting false language home number allowed s f g legal = legal
+legal_restricting true language home number allowed s f g legal =
+    legal_as_restricting home number allowed (kept_keyword_in language false s) s f g legal
 
 -- ---- a row of statements
 
@@ -291,20 +372,26 @@ module _ (language : Language) (version : YangVersion) (m : ℕ) where
       legal_added number rows allowed pattern_word (covers_pattern language version) refl refl s below inner f g e (inside pattern_word refl) rest
   legal_named number rows allowed covers s below inner f g false (Some modifier_word) is e inside rest =
       legal_added number rows allowed modifier_word (covers_modifier language version) refl refl s below inner f g e (inside modifier_word refl) rest
+  legal_named number rows allowed covers s below inner f g false (Some must_word) is e inside rest = rest number
+  legal_named number rows allowed covers s below inner f g false (Some when_word) is e inside rest =
+      legal_added number rows allowed when_word (covers_when language version) refl refl s below inner f g e (inside when_word refl) rest
 
-  pub legal_row : (rows : List Allowed) (allowed : List narrow.Allowed) → Covers rows allowed → (f : Forest Statement) → row_breaks_in language version m rows f ≡ []
-      → (number : ℕ) → IsLegal m allowed (numbered m number (kept_in language f))
+  pub legal_row : (may restricting : Bool) (rows : List Allowed) (allowed : List narrow.Allowed) → Covers rows allowed → (f : Forest Statement)
+      → row_breaks_in language version m rows f ≡ [] → (number : ℕ) → IsLegal m allowed (numbered m number (kept_in language may restricting f))
   unfolding row_breaks_in kept_in numbered Inside
-  legal_row rows allowed covers end e number = tt
-  legal_row rows allowed covers (node s below after) e number =
+  legal_row may restricting rows allowed covers end e number = tt
+  legal_row may restricting rows allowed covers (node s below after) e number =
       let inner = row_breaks_in language version m (substatements_of language version s.keyword) below in
       let this = breaks_at language version m rows s below inner in
-      legal_named number rows allowed covers s below inner (kept_in language below) (kept_in language after) (is_prefixed s.keyword) (word_named language s.keyword)
+      let within = restricts_below may (kept_keyword_in language restricting s) s in
+      legal_restricting restricting language m number allowed s (kept_in language may within below) (kept_in language may restricting after)
+      (legal_named number rows allowed covers s below inner (kept_in language may within below) (kept_in language may restricting after)
+      (is_prefixed s.keyword) (word_named language s.keyword)
       (prefixed_none language s.keyword)
       (none_first this (row_breaks_in language version m rows after) e)
-      (λ w is allowed covers none. legal_row (substatements_of language version s.keyword) allowed
+      (λ w is allowed covers none. legal_row may within (substatements_of language version s.keyword) allowed
       (subst (λ o. Covers (option_map_or (λ w. (rule_in language version w).substatements) o []) allowed) (sym is) covers) below none)
-      (legal_row rows allowed covers after (none_second this (row_breaks_in language version m rows after) e))
+      (legal_row may restricting rows allowed covers after (none_second this (row_breaks_in language version m rows after) e)))
 
 -- ---- modules
 
@@ -315,7 +402,7 @@ AreModules home (node s below after) = (s.keyword ≡ module_word) × (s.home �
     × IsLegal home (may_stand module_word) below × AreModules (home + 1) after
 
 pub record IsModule (language : Language) (m : ℕ) (s : Statement) (below : Forest Statement) : Type 0 where
-  pub keyword : kept_keyword_in language s ≡ Some module_word
+  pub keyword : kept_keyword_in language false s ≡ Some module_word
   pub own : own_breaks language (version_in language below) m (known module_word) s below ≡ []
   pub inner : row_breaks_in language (version_in language below) m (rule_in language (version_in language below) (known module_word)).substatements below ≡ []
 
@@ -348,20 +435,23 @@ is_module language m s below e = by (word_named language s.keyword) refl e
     by (Some if_feature_word) is e = absurd cc
     by (Some pattern_word) is e = absurd cc
     by (Some modifier_word) is e = absurd cc
+    by (Some must_word) is e = absurd cc
+    by (Some when_word) is e = absurd cc
 
 -- a module is one source, and the others follow
-pub sources_first : (language : Language) (home number : ℕ) (s : Statement) (below after : Forest Statement) → kept_keyword_in language s ≡ Some module_word
+pub sources_first : (language : Language) (home number : ℕ) (s : Statement) (below after : Forest Statement) → kept_keyword_in language false s ≡ Some module_word
     → sources_in_from language home number (node s below after)
-    ≡ node (record { keyword = module_word; statement = s; number = number; home = home }) (numbered home (number + 1) (kept_in language below))
-    (sources_in_from language (home + 1) (number + suc (size (kept_in language below) + 0)) after)
+    ≡ node (record { keyword = module_word; statement = s; number = number; home = home }) (numbered home (number + 1) (kept_in language (may_restrict language below) false below))
+    (sources_in_from language (home + 1) (number + suc (size (kept_in language (may_restrict language below) false below) + 0)) after)
 unfolding sources_in_from kept_in numbered
 sources_first language home number s below after is =
-    ap (λ o. join (numbered home number (kept_at o s (kept_in language below) end))
-    (sources_in_from language (home + 1) (number + size (kept_at o s (kept_in language below) end)) after)) is
+    let may = may_restrict language below in
+    ap (λ o. join (numbered home number (kept_at o s (kept_in language may (restricts_below may o s) below) end))
+    (sources_in_from language (home + 1) (number + size (kept_at o s (kept_in language may (restricts_below may o s) below) end)) after)) is
 
 module_form : (language : Language) (version : YangVersion) → (rule_in language version (known module_word)).form ≡ as_before identifier_form
 module_form core version = refl
-module_form (rfc choosings) version = refl
+module_form (rfc wide) version = refl
 
 pub are_modules : (language : Language) (home : ℕ) (modules : Forest Statement) → breaks_in_from language home modules ≡ []
     → (number : ℕ) → AreModules home (sources_in_from language home number modules)
@@ -375,7 +465,7 @@ are_modules language home (node s below after) e number =
       refl,
       refl,
       identifier_is version home form s (none_first (argument_breaks home version form s) _ here.own) (module_form language version),
-      legal_row language version home (rule_in language version (known module_word)).substatements (may_stand module_word) (covers_known language version module_word)
+      legal_row language version home (may_restrict language below) false (rule_in language version (known module_word)).substatements (may_stand module_word) (covers_known language version module_word)
           below here.inner (number + 1),
       are_modules language (home + 1) after (none_second (top_breaks language home s below) (breaks_in_from language (home + 1) after) e) _,
     )

@@ -13,6 +13,7 @@ use Rattle.yspec.proofs.LinkingProofs.KeywordLemmas.{by_definition}
 use Rattle.yspec.proofs.LinkingProofs.LinkedLemmas.{relabelled-size, planned-size}
 use Rattle.yspec.proofs.IdentifierLemmas.{identifier_plain}
 use Rattle.yspec_wide.specs.Language.{Language}
+use Rattle.yspec_wide.specs.Guards.{is_guarded, asked_kind}
 use Rattle.yspec_wide.specs.Types.{leaf_type_in, absence_in, default_values_in, schema_node_in}
 use Rattle.yspec_fit.specs.Fit.{is_choice, is_case, CasesInChoices, AreCases, HoldCases, ChoicesHoldCases}
 use Rattle.yspec_wide_fit.proofs.SoundLemmas.{is_leaf_word, is_choice_part, Row, of_choice, stands_in, row_below, AreSound}
@@ -21,8 +22,9 @@ use Rattle.yspec_wide_fit.proofs.SoundLemmas.{is_leaf_word, is_choice_part, Row,
 
 -- the kind of a node, if it were of a keyword
 abbrev pub kind_for : Language → Plan → Planned → Keyword → Kind
-kind_for language plan p k = cond (same_keyword leaf_word k) (leaf (leaf_type_in language plan p) (absence_in language plan p))
-    (cond (same_keyword leaf_list_word k) (leaf_list (leaf_type_in language plan p) (default_values_in language plan p) (amount_of p)) (kind_by plan p k))
+kind_for language plan p k = asked_kind (is_guarded language plan p)
+    (cond (same_keyword leaf_word k) (leaf (leaf_type_in language plan p) (absence_in language plan p))
+    (cond (same_keyword leaf_list_word k) (leaf_list (leaf_type_in language plan p) (default_values_in language plan p) (amount_of p)) (kind_by plan p k)))
 
 abbrev pub is_passed : Keyword → Bool
 is_passed k = same_keyword choice_word k || same_keyword case_word k

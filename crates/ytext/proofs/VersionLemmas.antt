@@ -215,8 +215,8 @@ pub module_by_tokens : (language : Language) (reads : Bool) (t : Text) → reads
     → module_in language t ≡ judged t (top_statement (tokens_in (reads && is_yang_1 (version_of_text t)) t))
 module_by_tokens core false t e = of_version yang_1_1 t
 module_by_tokens core true t e = cc
-module_by_tokens (rfc choosings) true t e = of_version (version_of_text t) t
-module_by_tokens (rfc choosings) false t e = cc
+module_by_tokens (rfc wide) true t e = of_version (version_of_text t) t
+module_by_tokens (rfc wide) false t e = cc
 
 -- what a text of right characters gives
 pub given_in : {X F : Type 0} (see : X → Forest Statement) (told : F → Option Slip) (given : Result X F) (language : Language) (reads : Bool) (t text : Text)

@@ -1,10 +1,10 @@
 //! Types.
 
 ghost use Rattle.std.specs.Prelude.{◌≡◌, ◌++◌, Ok, IfOk, OnOk, Some, None, option_map, ok_or, string_bytes};
-ghost use Rattle.yspec.specs.types.Types.{taken, error_text_of, app_tag_of, message_of, shape_in, type_in, plain, integer_type, string_type, uint8_type, int8, int16, int32, int64, uint8, uint16, uint32, uint64, boolean_base, empty_base, decimal_base, enumeration_base, bits_base};
+ghost use Rattle.yspec.specs.types.Types.{taken, error_text_of, app_tag_of, message_of, shape_in, type_in, plain, integer_type, string_type, uint8_type, int8, int16, int32, int64, uint8, uint16, uint32, uint64, boolean_base, empty_base, decimal_base, enumeration_base, bits_base, binary_base};
 ghost use Rattle.yspec.specs.types.Values.{value_of_text, taker};
 ghost use Rattle.yspec.specs.types.Names as names;
-ghost use Rattle.yspec.specs.types.Restriction.{member_count, members_of, union_type, leafref_type, narrowed};
+ghost use Rattle.yspec.specs.types.Restriction.{has_name, member_count, members_of, union_type, leafref_type, narrowed};
 ghost use Rattle.ytype_numbers.specs.View.{restriction_of, text_of};
 ghost use Rattle.yspec.specs.Results.{Gives};
 ghost use Rattle.ytype_numbers.specs.Words.{narrow_refusal, same};
@@ -204,6 +204,13 @@ impl YType {
         }
     }
 
+    /// Octets (9.8).
+    pub fn binary(_alloc: Global) -> Result<YType, NarrowFault>
+        ensures { result ≡ Ok (plain binary_base) }
+    {
+        Ok(plain(Base::Binary))
+    }
+
     /// Identities that derive from others (9.10).
     pub fn identityref(_alloc: Global, identities: &Identities) -> Result<YType, NarrowFault>
         ensures { Gives same narrow_refusal result (Ok (plain (identities_view identities.now))) }
@@ -306,9 +313,20 @@ impl YType {
         self.requires_instance
     }
 
+    /// Whether it is an enumeration or bits with such a name.
+    pub fn has_name(&self, name: &str) -> bool
+        ensures { result ≡ has_name self.now name.now }
+    {
+        match &self.shape {
+            Shape::Single(simple) => simple.has_name(name),
+            Shape::Union(_) => false,
+        }
+    }
+
     /// The type that a restriction makes of it. Refused where the type may not bear the restriction, a part's first bound
     /// is above its second, parts aren't disjoint and ascending, a bound has too many digits after its point, or the
-    /// numbers don't all lie within those of the type.
+    /// numbers don't all lie within those of the type; where a name isn't one of the type's, has another number there, or comes
+    /// twice.
     pub fn narrow(&self, alloc: Global, restriction: &Restriction) -> Result<YType, NarrowFault>
         ensures { Gives same narrow_refusal result
             (ok_or (narrowed self.now (restriction_of restriction.now)) tt) }

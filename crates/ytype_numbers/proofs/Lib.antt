@@ -1,6 +1,7 @@
 pub mod CoverLemmas
 pub mod DecimalLemmas
 pub mod ExpressionLemmas
+pub mod LeftLemmas
 pub mod NumeralLemmas
 pub mod PositionLemmas
 pub mod SetLemmas

@@ -1,7 +1,7 @@
 -- Tables of names, by name and by number.
-use Rattle.std.specs.Prelude.{◌≡◌, ℤ, FitsSigned, List, [], ◌∷◌, map, Option, Some, None, option_map, find, string_bytes, if◌then◌else◌}
+use Rattle.std.specs.Prelude.{◌≡◌, ℤ, FitsSigned, int_lt, true, List, [], ◌∷◌, map, Option, Some, None, option_map, find, string_bytes, if◌then◌else◌}
 use Rattle.std.specs.Int.{w64}
-use Rattle.std.specs.List.{AllZip}
+use Rattle.std.specs.List.{AllZip, list_all}
 use Rattle.std.specs.BTreeMap.{BTreeMap, get_by_text}
 use Rattle.std.specs.declared.string.String.{String}
 use Rattle.yspec.specs.text.Text.{Text, is_text}
@@ -47,3 +47,13 @@ HasMore None None name number = Unit {0}
 HasMore (Some before) (Some after) name number =
     (text : Text) → get_by_text after text ≡ (if is_text name text then Some number else get_by_text before text)
 HasMore _ _ name number = ⊥
+
+-- names have lesser numbers than each of others
+abbrev pub AreBefore : List Assigned → List Assigned → Type 0
+AreBefore names [] = Unit {0}
+AreBefore names (b ∷ others) = (list_all (λ a. int_lt a.number b.number) names ≡ true) × AreBefore names others
+
+-- they stand in the order of their numbers
+abbrev pub AreAscending : List Assigned → Type 0
+AreAscending [] = Unit {0}
+AreAscending (a ∷ names) = AreBefore (a ∷ []) names × AreAscending names

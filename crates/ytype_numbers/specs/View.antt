@@ -22,4 +22,6 @@ abbrev pub restriction_of : Restriction → restrictions.Restriction
 restriction_of (restriction.Range spans error) = restrictions.range spans.items error
 restriction_of (restriction.Length spans error) = restrictions.length spans.items error
 restriction_of (restriction.Pattern expression inverted error) = restrictions.pattern expression.value inverted error
+restriction_of (restriction.Enums namings) = restrictions.of_enums namings.items
+restriction_of (restriction.Bits namings) = restrictions.of_bits namings.items
 restriction_of (restriction.RequireInstance b) = restrictions.require_instance b

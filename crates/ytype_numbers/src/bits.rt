@@ -37,7 +37,10 @@ fn words_of(alloc: Global, text: &str) -> Result<Vec<&str>, AllocError>
 }
 
 /// The words as a set, if none comes twice.
-fn set_of<'a>(alloc: Global, words: &[&'a str]) -> Result<Option<BTreeSet<&'a str>>, AllocError>
+pub(crate) fn set_of<'a>(
+    alloc: Global,
+    words: &[&'a str],
+) -> Result<Option<BTreeSet<&'a str>>, AllocError>
     ensures { IfOk result (λ set. IsSetOf set (words_in words.now)) }
 {
     let mut set = BTreeSet::new(alloc);
@@ -60,7 +63,7 @@ fn are_names(names: &Names, words: &[&str]) -> bool
     true
 }
 
-fn holds_word(words: &BTreeSet<&str>, name: &str) -> bool
+pub(crate) fn holds_word(words: &BTreeSet<&str>, name: &str) -> bool
     ensures { result ≡ holds_word words.now name.now }
 {
     words.contains(name)

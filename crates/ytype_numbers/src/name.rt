@@ -30,6 +30,20 @@ impl Model for Naming {
 }
 
 impl Naming {
+    /// The name.
+    pub(crate) fn name(&self) -> &str
+        ensures { result.now ≡ self.now.name }
+    {
+        self.name.as_str()
+    }
+
+    /// Its number, where one is given.
+    pub(crate) fn number(&self) -> Option<i64>
+        ensures { result ≡ self.now.number }
+    {
+        self.number
+    }
+
     /// A name, and its number where one is given.
     pub fn new(name: String, number: Option<i64>) -> Naming
         ensures { result ≡ record { name = string_bytes name; number = number } }

@@ -7,7 +7,7 @@ ghost use Rattle.yspec.specs.text.Text.{is_text};
 ghost use Rattle.yspec.specs.types.Names.{next_number, is_among, is_like};
 ghost use Rattle.yspec.specs.Results.{Gives};
 ghost use Rattle.ytype_numbers.specs.Words.{narrow_refusal, named, same};
-ghost use Rattle.ytype_numbers.specs.Tables.{assigned, new_placed, number_named, AreAlike, HasMore};
+ghost use Rattle.ytype_numbers.specs.Tables.{assigned, AreWords, new_placed, number_named, AreAlike, HasMore};
 
 use crate::fault::NarrowFault;
 use std::alloc::{AllocError, Global};
@@ -34,7 +34,7 @@ impl Model for Names {
 
     ghost Value = { List names.Assigned };
 
-    ghost use Rattle.ytype_numbers.specs.Tables.{assigned, Finds};
+    ghost use Rattle.ytype_numbers.specs.Tables.{assigned, AreWords, Finds};
 
     ghost view = { λ n. assigned n.by_number.entries };
 
@@ -129,7 +129,7 @@ impl Names {
     }
 
     /// Whether there is such a name.
-    pub(crate) fn has_name(&self, text: &str) -> bool
+    pub fn has_name(&self, text: &str) -> bool
         ensures { result ≡ is_among (map (λ a. a.name) self.now) text.now }
     {
         self.number_of(text).is_some()
@@ -137,7 +137,8 @@ impl Names {
 
     /// The names by their numbers.
     pub fn by_number(&self) -> &BTreeMap<i64, String>
-        ensures { assigned result.now.entries ≡ self.now }
+        ensures entries { assigned result.now.entries ≡ self.now }
+        ensures words { AreWords (assigned result.now.entries) }
     {
         &self.by_number
     }

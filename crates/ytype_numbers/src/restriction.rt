@@ -10,6 +10,7 @@ ghost use Rattle.ytype_numbers.specs.Words.{narrow_refusal, same};
 use crate::error_text::ErrorText;
 use crate::expression::Expression;
 use crate::fault::NarrowFault;
+use crate::name::Naming;
 use crate::range::{Part, Range};
 use std::alloc::Global;
 use std::marker::Model;
@@ -71,6 +72,10 @@ pub enum Restriction {
         inverted: bool,
         error: ErrorText,
     },
+    /// The names that are left of an enumeration (9.6.4).
+    Enums(Vec<Naming>),
+    /// The names that are left of bits (9.7.4).
+    Bits(Vec<Naming>),
     /// Whether a leafref requires an instance (9.9.3).
     RequireInstance(bool),
 }

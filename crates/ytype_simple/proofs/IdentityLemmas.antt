@@ -9,7 +9,7 @@ use Rattle.std.specs.BTreeMap.{is_at}
 use Rattle.std.proofs.lemmas.Bool.{or_parts}
 use Rattle.std.proofs.lemmas.List.{at_drop_more}
 use Rattle.yspec.specs.text.Text.{Text, is_text}
-use Rattle.yspec.specs.types.Types.{Base, integer_base, decimal_base, string_base, boolean_base, empty_base, enumeration_base, bits_base, identity_base, SimpleType, base_in, simple_in, is_numbered}
+use Rattle.yspec.specs.types.Types.{Base, integer_base, decimal_base, string_base, boolean_base, empty_base, enumeration_base, bits_base, identity_base, binary_base, SimpleType, base_in, simple_in, is_numbered}
 use Rattle.ytype_simple.specs.Identities.{beside, is_identity, pair_view}
 
 pub held_numbered : (z : ℤ) (ps : List ℤ) → list_any (is_at (int_cmp z)) ps ≡ is_numbered ps z
@@ -25,6 +25,7 @@ base_kept home empty_base none = refl
 base_kept home (enumeration_base names) none = refl
 base_kept home (bits_base names) none = refl
 base_kept home (identity_base other identities numbers) none = absurd cc
+base_kept home binary_base none = refl
 
 pub simple_kept : (home : Text) (s : SimpleType) → is_identity s.base ≡ false → s ≡ simple_in home s
 simple_kept home s none = ap (λ b. record s { base = b }) (sym (base_kept home s.base none))

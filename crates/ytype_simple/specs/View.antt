@@ -38,6 +38,7 @@ base_of base.Empty = types.empty_base
 base_of (base.Enumeration names) = types.enumeration_base names.value
 base_of (base.Bits names) = types.bits_base names.value
 base_of (base.Identity identities) = identities_view identities
+base_of base.Binary = types.binary_base
 
 abbrev pub found_of : Found → types.Content
 found_of (found.Text t) = types.text_value t.now
@@ -45,6 +46,7 @@ found_of (found.Number z) = types.number_value z
 found_of (found.Bool b) = types.bool_value b
 found_of found.Empty = types.empty_value
 found_of (found.Bits positions) = types.bits_value positions.items
+found_of (found.Octets octets) = types.octets_value octets.items
 
 abbrev pub content_of : Content → types.Content
 content_of (content.Text t) = types.text_value (string_bytes t)
@@ -52,3 +54,4 @@ content_of (content.Number z) = types.number_value z
 content_of (content.Bool b) = types.bool_value b
 content_of content.Empty = types.empty_value
 content_of (content.Bits positions) = types.bits_value positions.items
+content_of (content.Octets octets) = types.octets_value octets.items

@@ -1,22 +1,26 @@
 //! Built-in types, and what each takes (RFC 7950, 9; RFC 7951, 6).
 
-ghost use Rattle.std.specs.Prelude.{◌≡◌, length, option_map, IfOk, string_bytes};
+ghost use Rattle.std.specs.Prelude.{◌≡◌, length, map, ok_or, option_map, IfOk, string_bytes};
 ghost use Rattle.std.specs.Str.{chars};
-ghost use Rattle.yspec.specs.types.Types.{numbers_of, is_written_as_text, is_string_char, is_string_value, number_value, bool_value, integer_taken, decimal_taken, enum_taken, bits_taken, string_taken, text_taken, base_taken, base_in, measure};
-ghost use Rattle.yspec.specs.types.Names.{words_of};
+ghost use Rattle.yspec.specs.types.Types.{numbers_of, is_written_as_text, is_string_char, is_string_value, number_value, bool_value, integer_taken, decimal_taken, enum_taken, bits_taken, octets_taken, string_taken, text_taken, base_taken, base_in, measure};
+ghost use Rattle.yspec.specs.types.Names.{words_of, is_among};
+ghost use Rattle.yspec.specs.types.Restriction.{names_in_base, enums_left, bits_left};
 ghost use Rattle.yspec.specs.types.Values.{base_read, bool_of};
 ghost use Rattle.ytype_simple.specs.View.{raw_of, integer_of, base_of, found_of, content_of};
 ghost use Rattle.ytype_simple.specs.Identities.{is_identity, module_names_view};
-ghost use Rattle.ytype_numbers.specs.Words.{IsNarrow};
+ghost use Rattle.yspec.specs.Results.{Gives};
+ghost use Rattle.ytype_numbers.specs.Words.{narrow_refusal, IsNarrow};
 ghost use Rattle.ytype_simple.specs.Founds.{founds};
 
 use crate::content::Content;
 use crate::identity::{Identities, ModuleNames};
+use crate::octets::octets_of;
 use crate::raw::Raw;
 use std::alloc::{AllocError, Global};
 use std::rc::Rc;
 use ytype_numbers::{
-    FractionDigits, Names, Part, decimal_in, default_integer_in, integer_in, positions_in,
+    FractionDigits, Names, Naming, NarrowFault, Part, decimal_in, default_integer_in, integer_in,
+    names_left, positions_in,
 };
 
 /// The integer types.
@@ -102,6 +106,7 @@ pub(crate) enum Found<'a> {
     Bool(bool),
     Empty,
     Bits(Vec<i64>),
+    Octets(Vec<u8>),
 }
 
 impl<'a> Found<'a> {
@@ -112,6 +117,7 @@ impl<'a> Found<'a> {
         match self {
             Found::Text(text) => char_count(text) as i128,
             Found::Number(number) => *number,
+            Found::Octets(octets) => octets.len() as i128,
             _ => 0,
         }
     }
@@ -125,6 +131,7 @@ impl<'a> Found<'a> {
             Found::Bool(flag) => Ok(Content::Bool(flag)),
             Found::Empty => Ok(Content::Empty),
             Found::Bits(positions) => Ok(Content::Bits(positions)),
+            Found::Octets(octets) => Ok(Content::Octets(octets)),
         }
     }
 }
@@ -140,6 +147,7 @@ pub enum Base {
     Enumeration(Rc<Names>),
     Bits(Rc<Names>),
     Identity(Identities),
+    Binary,
 }
 
 impl Clone for Base {
@@ -157,6 +165,7 @@ impl Clone for Base {
             Base::Enumeration(names) => Ok(Base::Enumeration(names.clone()?)),
             Base::Bits(names) => Ok(Base::Bits(names.clone()?)),
             Base::Identity(identities) => Ok(Base::Identity(identities.clone()?)),
+            Base::Binary => Ok(Base::Binary),
         }
     }
 }
@@ -174,7 +183,47 @@ impl Base {
             | Base::Boolean
             | Base::Empty
             | Base::Enumeration(_)
-            | Base::Bits(_) => false,
+            | Base::Bits(_)
+            | Base::Binary => false,
+        }
+    }
+
+    /// Whether it is an enumeration or bits with such a name.
+    pub(crate) fn has_name(&self, name: &str) -> bool
+        ensures { result ≡ is_among (map (λ a. a.name) (names_in_base (base_of self.now))) name.now }
+    {
+        match self {
+            Base::Enumeration(names) => names.has_name(name),
+            Base::Bits(names) => names.has_name(name),
+            _ => false,
+        }
+    }
+
+    /// The enumeration that some of its names make of it.
+    pub(crate) fn enums_left(&self, alloc: Global, namings: &[Naming]) -> Result<Base, NarrowFault>
+        ensures { Gives base_of narrow_refusal result
+            (ok_or (enums_left namings.now (base_of self.now)) tt) }
+    {
+        match self {
+            Base::Enumeration(names) => match names_left(alloc, names, namings) {
+                Err(fault) => Err(fault),
+                Ok(left) => Ok(Base::Enumeration(Rc::new(alloc, left)?)),
+            },
+            _ => Err(NarrowFault::Refused),
+        }
+    }
+
+    /// The bits that some of its names make of it.
+    pub(crate) fn bits_left(&self, alloc: Global, namings: &[Naming]) -> Result<Base, NarrowFault>
+        ensures { Gives base_of narrow_refusal result
+            (ok_or (bits_left namings.now (base_of self.now)) tt) }
+    {
+        match self {
+            Base::Bits(names) => match names_left(alloc, names, namings) {
+                Err(fault) => Err(fault),
+                Ok(left) => Ok(Base::Bits(Rc::new(alloc, left)?)),
+            },
+            _ => Err(NarrowFault::Refused),
         }
     }
 
@@ -192,6 +241,7 @@ impl Base {
             Base::Enumeration(names) => Ok(Base::Enumeration(names.clone()?)),
             Base::Bits(names) => Ok(Base::Bits(names.clone()?)),
             Base::Identity(identities) => Ok(Base::Identity(identities.within(home)?)),
+            Base::Binary => Ok(Base::Binary),
         }
     }
 }
@@ -283,6 +333,15 @@ fn bits_found<'a>(alloc: Global, names: &Names, text: &str) -> Result<Option<Fou
     }
 }
 
+fn octets_found<'a>(alloc: Global, text: &str) -> Result<Option<Found<'a>>, AllocError>
+    ensures { IfOk result (λ found. founds found ≡ octets_taken text.now) }
+{
+    match octets_of(alloc, text)? {
+        None => Ok(None),
+        Some(octets) => Ok(Some(Found::Octets(octets))),
+    }
+}
+
 impl Base {
     fn text_taken<'a>(&self, alloc: Global, text: &'a str) -> Result<Option<Found<'a>>, AllocError>
         ensures { IfOk result (λ found. founds found ≡ text_taken (base_of self.now) text.now) }
@@ -293,6 +352,7 @@ impl Base {
             Base::Enumeration(names) => Ok(enum_found(names, text)),
             Base::Bits(names) => bits_found(alloc, names, text),
             Base::Identity(identities) => Ok(identity_found(identities.taken(alloc, text)?)),
+            Base::Binary => octets_found(alloc, text),
             Base::Integer(_) => Ok(None),
             Base::Boolean => Ok(None),
             Base::Empty => Ok(None),

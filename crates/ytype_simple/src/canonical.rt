@@ -8,6 +8,7 @@ ghost use Rattle.ytype_simple.specs.View.{base_of, content_of};
 
 use crate::base::Base;
 use crate::content::Content;
+use crate::octets::base64_text;
 use itoa::Buffer;
 use std::alloc::{AllocError, Global};
 use ytype_numbers::{bits_text, decimal_text, name_of_number};
@@ -54,5 +55,6 @@ pub(crate) fn content_text(
             Base::Bits(names) => bits_text(alloc, names, positions),
             _ => Ok(String::new(alloc)),
         },
+        Content::Octets(octets) => base64_text(alloc, octets),
     }
 }

@@ -14,6 +14,7 @@ pub enum Content {
     Bool(bool),
     Empty,
     Bits(Vec<i64>),
+    Octets(Vec<u8>),
 }
 
 impl Clone for Content {
@@ -31,6 +32,7 @@ impl Clone for Content {
             Content::Bool(flag) => Ok(Content::Bool(*flag)),
             Content::Empty => Ok(Content::Empty),
             Content::Bits(positions) => Ok(Content::Bits(positions.clone()?)),
+            Content::Octets(octets) => Ok(Content::Octets(octets.clone()?)),
         }
     }
 }
@@ -47,15 +49,18 @@ impl Content {
             Content::Bool(_) => 2,
             Content::Empty => 3,
             Content::Bits(_) => 4,
+            Content::Octets(_) => 5,
         }
     }
 
-    fn text(&self) -> &str
+    /// The bytes of a text, or octets.
+    fn bytes(&self) -> &[u8]
         ensures { result.now ≡ text_part (content_of self.now) }
     {
         match self {
-            Content::Text(text) => text.as_str(),
-            _ => "",
+            Content::Text(text) => text.as_bytes(),
+            Content::Octets(octets) => octets,
+            _ => &[],
         }
     }
 
@@ -83,7 +88,7 @@ impl Content {
         ensures { result ≡ content_cmp (content_of self.now) (content_of other.now) }
     {
         match self.kind_number().cmp(&other.kind_number()) {
-            Ordering::Equal => match self.text().cmp(other.text()) {
+            Ordering::Equal => match self.bytes().cmp(other.bytes()) {
                 Ordering::Equal => match self.number().cmp(&other.number()) {
                     Ordering::Equal => self.positions().cmp(other.positions()),
                     order => order,

@@ -6,6 +6,7 @@ mod canonical;
 mod content;
 mod identity;
 mod matching;
+mod octets;
 mod raw;
 mod simple;
 

@@ -5,7 +5,8 @@ ghost use Rattle.std.specs.Option.{ForSome};
 ghost use Rattle.std.specs.String.{string_bytes};
 ghost use Rattle.yspec.specs.types.Types.{is_taken_text, passes, excluding, limited, simple_taken, simple_excluding, simple_error, simple_in};
 ghost use Rattle.yspec.specs.types.Values.{simple_read, content_text};
-ghost use Rattle.yspec.specs.types.Restriction.{left_after, left_by, limited_by, with_limit, range_base, length_base, may_match, pattern, narrowed_simple};
+ghost use Rattle.yspec.specs.types.Names.{is_among};
+ghost use Rattle.yspec.specs.types.Restriction.{names_in_base, left_after, left_by, limited_by, with_limit, range_base, length_base, may_match, pattern, of_enums, of_bits, with_base, narrowed_simple};
 ghost use Rattle.ytype_numbers.specs.View.{text_of, restriction_of};
 ghost use Rattle.yspec.specs.Results.{Gives};
 ghost use Rattle.ytype_numbers.specs.Words.{narrow_refusal, same};
@@ -27,7 +28,7 @@ use std::rc::Rc;
 use std::slice;
 use ybase_row::Row;
 use ytype_numbers::{
-    ErrorText, Expression, NarrowFault, Part, Range, Restriction, Span, restricted,
+    ErrorText, Expression, Naming, NarrowFault, Part, Range, Restriction, Span, restricted,
 };
 
 /// What a restriction asks of a value.
@@ -315,6 +316,15 @@ impl LimitedType {
         })
     }
 
+    fn with_base(&self, base: Base) -> Result<LimitedType, AllocError>
+        ensures { IfOk result (λ type. type ≡ with_base self.now (base_of base)) }
+    {
+        Ok(LimitedType {
+            base,
+            limits: self.limits.clone()?,
+        })
+    }
+
     fn left<'a>(&'a self, numbers: &'a Part) -> &'a [Part]
         ensures { result.now ≡ left_by numbers.now self.now.limits }
     {
@@ -448,6 +458,13 @@ impl SimpleType {
         }
     }
 
+    /// Whether it is an enumeration or bits with such a name.
+    pub fn has_name(&self, name: &str) -> bool
+        ensures { result ≡ is_among (map (λ a. a.name) (names_in_base self.now.base)) name.now }
+    {
+        self.base().has_name(name)
+    }
+
     /// Whether it begins with an identityref.
     pub fn is_identity(&self) -> bool
         ensures { result ≡ is_identity self.now.base }
@@ -536,7 +553,7 @@ impl SimpleType {
         ensures digits { IfSome result (λ b. b.1 ≤ 18) }
     {
         match self.base() {
-            Base::Text => Some((Part::new(0, 0xFFFF_FFFF_FFFF_FFFF), 0)),
+            Base::Text | Base::Binary => Some((Part::new(0, 0xFFFF_FFFF_FFFF_FFFF), 0)),
             _ => None,
         }
     }
@@ -641,7 +658,40 @@ impl SimpleType {
         Ok(self.with_limit(alloc, test, error)?)
     }
 
-    /// The type that a range, a length or a pattern makes of it.
+    /// The same with another base.
+    fn with_base(&self, alloc: Global, base: Base) -> Result<SimpleType, AllocError>
+        ensures { IfOk result (λ type. type ≡ with_base self.now (base_of base)) }
+    {
+        let form = match &self.form {
+            Form::Plain(_) => Form::Plain(base),
+            Form::Limited(limited) => Form::Limited(Rc::new(alloc, limited.with_base(base)?)?),
+        };
+        Ok(SimpleType { form })
+    }
+
+    /// The type that some enums make of it.
+    fn with_enums(&self, alloc: Global, namings: &[Naming]) -> Result<SimpleType, NarrowFault>
+        ensures { Gives same narrow_refusal result
+            (ok_or (narrowed_simple self.now (of_enums namings.now)) tt) }
+    {
+        match self.base().enums_left(alloc, namings) {
+            Err(fault) => Err(fault),
+            Ok(base) => Ok(self.with_base(alloc, base)?),
+        }
+    }
+
+    /// The type that some bits make of it.
+    fn with_bits(&self, alloc: Global, namings: &[Naming]) -> Result<SimpleType, NarrowFault>
+        ensures { Gives same narrow_refusal result
+            (ok_or (narrowed_simple self.now (of_bits namings.now)) tt) }
+    {
+        match self.base().bits_left(alloc, namings) {
+            Err(fault) => Err(fault),
+            Ok(base) => Ok(self.with_base(alloc, base)?),
+        }
+    }
+
+    /// The type that a range, a length, a pattern or names make of it.
     pub fn narrow(
         &self,
         alloc: Global,
@@ -662,6 +712,8 @@ impl SimpleType {
                 inverted,
                 error,
             } => self.matching(alloc, expression, *inverted, error),
+            Restriction::Enums(namings) => self.with_enums(alloc, namings),
+            Restriction::Bits(namings) => self.with_bits(alloc, namings),
             Restriction::RequireInstance(_) => Err(NarrowFault::Refused),
         }
     }

@@ -8,7 +8,7 @@ use Rattle.std.specs.Cmp.{IsTotalOrder}
 use Rattle.std.specs.FinMap.{nat_cmp-IsAntisymmetric, int_cmp-IsAntisymmetric, slice_cmp-IsAntisymmetric}
 use Rattle.std.proofs.lemmas.Cmp.{tied_itself, nat_cmp_total, on_total, then_total, nat_list_cmp_total, int_cmp_total, lists_total}
 use Rattle.yspec.specs.text.Text.{Text}
-use Rattle.yspec.specs.types.Types.{Content, text_value, number_value, bool_value, empty_value, bits_value, Val}
+use Rattle.yspec.specs.types.Types.{Content, text_value, number_value, bool_value, empty_value, bits_value, octets_value, Val}
 use Rattle.yspec.specs.types.Order.{member_number, kind_number, text_part, number_part, bits_part, member_of, content_of, content_cmp, value_cmp, TellsValues}
 
 both_tied : (a b : Ordering) → ordering_then a b ≡ Equal → (a ≡ Equal) × (b ≡ Equal)
@@ -31,7 +31,8 @@ rebuilt zero t z zs = text_value t
 rebuilt (suc zero) t z zs = number_value z
 rebuilt (suc (suc zero)) t z zs = bool_value (flag z)
 rebuilt (suc (suc (suc zero))) t z zs = empty_value
-rebuilt (suc (suc (suc (suc n)))) t z zs = bits_value zs
+rebuilt (suc (suc (suc (suc zero)))) t z zs = bits_value zs
+rebuilt (suc (suc (suc (suc (suc n))))) t z zs = octets_value t
 
 is_rebuilt : (c : Content) → rebuilt (kind_number c) (text_part c) (number_part c) (bits_part c) ≡ c
 unfolding rebuilt flag
@@ -41,6 +42,7 @@ is_rebuilt (bool_value true) = refl
 is_rebuilt (bool_value false) = refl
 is_rebuilt empty_value = refl
 is_rebuilt (bits_value zs) = refl
+is_rebuilt (octets_value octets) = refl
 
 same_content : (c d : Content) → content_cmp c d ≡ Equal → c ≡ d
 same_content c d e =

@@ -14,6 +14,7 @@ pub data BuiltIn : Type 0 where
   union : BuiltIn
   leafref : BuiltIn
   identityref : BuiltIn
+  binary : BuiltIn
 
 -- the name of one
 abbrev pub built_in_name : BuiltIn → Text
@@ -34,13 +35,15 @@ built_in_name bits = codes "bits"
 built_in_name union = codes "union"
 built_in_name leafref = codes "leafref"
 built_in_name identityref = codes "identityref"
+built_in_name binary = codes "binary"
 
 abbrev pub named_so : BuiltIn → Text × BuiltIn
 named_so type = (built_in_name type, type)
 
 abbrev pub all_built_in : List BuiltIn
 all_built_in = integer int8 ∷ integer int16 ∷ integer int32 ∷ integer int64 ∷ integer uint8 ∷ integer uint16 ∷ integer uint32
-    ∷ integer uint64 ∷ decimal64 ∷ string ∷ boolean ∷ empty ∷ enumeration ∷ bits ∷ union ∷ leafref ∷ identityref ∷ []
+    ∷ integer uint64 ∷ decimal64 ∷ string ∷ boolean ∷ empty ∷ enumeration ∷ bits ∷ union ∷ leafref ∷ identityref
+    ∷ binary ∷ []
 
 abbrev pub built_in_types : List (Text × BuiltIn)
 built_in_types = map named_so all_built_in

@@ -1,18 +1,18 @@
 -- The types that `type` statements mean, and where one breaks a rule of its own (RFC 7950, 7.3, 7.4 and 9).
-use Rattle.std.specs.Prelude.{ℕ, ℤ, pos, ◌&&◌, Bool, true, false, List, [], ◌∷◌, codes, Option, Some, None, option_map, option_and_then, unwrap_or, nat_lt, if◌then◌else◌}
+use Rattle.std.specs.Prelude.{ℕ, ℤ, pos, ◌&&◌, ◌||◌, Bool, true, false, List, [], ◌∷◌, codes, Option, Some, None, option_map, option_and_then, unwrap_or, nat_lt, if◌then◌else◌}
 use Rattle.std.specs.List.{list_any, list_all}
 use Rattle.std.specs.Option.{option_map_or}
 use Rattle.yspec.specs.Forest.{Forest, end, node, row}
 use Rattle.yspec.specs.text.Text.{Text, is_text}
 use Rattle.yspec.specs.types.Ranges.{ErrorText, Span}
 use Rattle.yspec.specs.types.Names.{Naming, Assigned, enum_names, bit_names}
-use Rattle.yspec.specs.types.Restriction.{Restriction, range, length, pattern, narrowed, member_count, union_type}
-use Rattle.yspec.specs.types.Types.{Base, decimal_base, boolean_base, empty_base, enumeration_base, bits_base, YangType, plain, integer_type, string_type}
+use Rattle.yspec.specs.types.Restriction.{Restriction, range, length, pattern, narrowed, member_count, union_type, of_enums, of_bits}
+use Rattle.yspec.specs.types.Types.{Base, decimal_base, boolean_base, empty_base, enumeration_base, bits_base, binary_base, YangType, plain, integer_type, string_type}
 use Rattle.yspec.specs.linking.Keyword.{Keyword}
 use Rattle.yspec.specs.linking.Keyword as word
 use Rattle.yspec.specs.linking.Arguments.{Name, spans_of, leafref_path_of, value_of, count_of, fraction_digits_of}
 use Rattle.yspec.specs.linking.Source.{Source, is_source_of, argument_in, argument_with, found_with}
-pub use Rattle.yspec.specs.linking.BuiltIns.{BuiltIn, integer, decimal64, string, boolean, empty, enumeration, bits, union, leafref, identityref, built_in_name, named_so, all_built_in, built_in_types}
+pub use Rattle.yspec.specs.linking.BuiltIns.{BuiltIn, integer, decimal64, string, boolean, empty, enumeration, bits, union, leafref, identityref, binary, built_in_name, named_so, all_built_in, built_in_types}
 unfoldable pub use Rattle.yspec.specs.linking.BuiltIns.{built_in_named}
 use Rattle.yspec.specs.linking.Identities.{bases_in, identity_type}
 use Rattle.yspec.specs.schema.Breaks.{Break, broken}
@@ -70,6 +70,7 @@ may_bear union word.type_word = true
 may_bear leafref word.path_word = true
 may_bear leafref word.require_instance_word = true
 may_bear identityref word.base_word = true
+may_bear binary word.length_word = true
 may_bear _ _ = false
 
 abbrev pub may_bear_patterns : BuiltIn → Bool
@@ -106,11 +107,15 @@ abbrev pub limited : Option Restriction → YangType → Option YangType
 limited None type = Some type
 limited (Some r) type = narrowed type r
 
--- the names that statements of a row give, each with its number where one is stated
+-- the names that some statements of a row give, each with its number where one is stated
+abbrev pub namings_where : (Source → Forest Source → Bool) → (Forest Source → Option ℤ) → Forest Source → List Naming
+namings_where test number end = []
+namings_where test number (node s below after) = if test s below
+    then record { name = argument_in s; number = number below } ∷ namings_where test number after else namings_where test number after
+
+-- those that its statements with a keyword give
 abbrev pub namings : Keyword → (Forest Source → Option ℤ) → Forest Source → List Naming
-namings k number end = []
-namings k number (node s below after) = if is_source_of k s
-    then record { name = argument_in s; number = number below } ∷ namings k number after else namings k number after
+namings k number below = namings_where (λ s inner. is_source_of k s) number below
 
 abbrev pub value_stated : Forest Source → Option ℤ
 value_stated below = option_and_then value_of (argument_with word.value_word below)
@@ -137,6 +142,7 @@ single_type boolean below = Some (plain boolean_base)
 single_type empty below = Some (plain empty_base)
 single_type enumeration below = of_names enumeration_base enum_names (namings word.enum_word value_stated below)
 single_type bits below = of_names bits_base bit_names (namings word.bit_word position_stated below)
+single_type binary below = limited (stated word.length_word length below) (plain binary_base)
 single_type _ below = None
 
 -- the types of members, where each has one
@@ -180,16 +186,47 @@ verdict_in_place modules is_member s leafref below members = leafref_verdict is_
 verdict_in_place modules is_member s identityref below members = identity_verdict modules s.home (bases_in modules below)
 verdict_in_place modules is_member s type below members = option_map_or (λ t. means (own t)) (single_type type below) wrong
 
+-- ---- names that restrict
+
+-- Where a text may restrict names, an `enum` or a `bit` below a type that isn't built in is kept as `extension` is named, and told
+-- by its text (RFC 7950, 9.6.4 and 9.7.4).
+abbrev pub is_restricting : Text → Source → Bool
+is_restricting name s = is_source_of word.extension_word s && is_text s.statement.keyword name
+
+abbrev pub enum_text : Text
+enum_text = codes "enum"
+
+abbrev pub bit_text : Text
+bit_text = codes "bit"
+
+-- those and patterns come behind the other restrictions
+abbrev pub comes_behind : Source → Bool
+comes_behind s = is_pattern_statement s || (is_restricting enum_text s || is_restricting bit_text s)
+
+-- what those of a row make of a type that have a text; some of them count
+abbrev pub restricted_to : (List Naming → Restriction) → Text → (Source → Forest Source → Bool) → (Forest Source → Option ℤ)
+    → Forest Source → YangType → Option YangType
+restricted_to restriction name counts number below type = if list_any (is_restricting name) (row below)
+    then narrowed type (restriction (namings_where (λ s inner. is_restricting name s && counts s inner) number below)) else Some type
+
+abbrev pub named_where : (YangType → Source → Forest Source → Bool) → Forest Source → YangType → Option YangType
+named_where counts below type = option_and_then (λ left. restricted_to of_bits bit_text (counts left) position_stated below left)
+    (restricted_to of_enums enum_text (counts type) value_stated below type)
+
+-- what the names of a row make of a type
+abbrev pub named_in : Forest Source → YangType → Option YangType
+named_in below type = named_where (λ left s inner. true) below type
+
 -- ---- by way of a typedef
 
--- what a substatement makes of what the typedef means: each is a restriction that a derived type may bear; patterns come
--- behind the others
+-- what a substatement makes of what the typedef means: each is a restriction that a derived type may bear
 abbrev pub narrowed_by : Source → Forest Source → YangType → Option YangType
 narrowed_by s below type = if is_source_of word.range_word s then narrowed type (stated_by range (s, below))
     else (if is_source_of word.length_word s then narrowed type (stated_by length (s, below)) else None)
 
 abbrev pub restricted_by : Source → Forest Source → Meant → Option Meant
-restricted_by s below (own type) = option_map own (if is_pattern_statement s then Some type else narrowed_by s below type)
+restricted_by s below (own type) = option_map own (if comes_behind s then Some type
+    else narrowed_by s below type)
 restricted_by s below (of_target home steps required) = if is_source_of word.require_instance_word s
     then Some (of_target home steps (is_text (argument_in s) (codes "true"))) else None
 
@@ -201,15 +238,23 @@ abbrev pub matched_meant : Forest Source → Meant → Option Meant
 matched_meant below (own type) = option_map own (matched_in below type)
 matched_meant below (of_target home steps required) = Some (of_target home steps required)
 
+abbrev pub named_meant : (YangType → Option YangType) → Meant → Option Meant
+named_meant names (own type) = option_map own (names type)
+named_meant names (of_target home steps required) = Some (of_target home steps required)
+
 abbrev pub is_reference : Meant → Bool
 is_reference (own type) = false
 is_reference (of_target home steps required) = true
 
--- of a `type` statement that names a typedef, given the verdict on the typedef's own; a member of a union is no leafref
+-- of a `type` statement that names a typedef, given what its names make of types and the verdict on the typedef's own; a member
+-- of a union is no leafref
+abbrev pub derived_by : (YangType → Option YangType) → Bool → Forest Source → Verdict → Verdict
+derived_by names is_member below (means m) = if is_member && is_reference m then wrong
+    else option_map_or means (option_and_then (named_meant names) (option_and_then (matched_meant below) (restricted_in below m))) wrong
+derived_by names is_member below _ = unjudged
+
 abbrev pub derived : Bool → Forest Source → Verdict → Verdict
-derived is_member below (means m) = if is_member && is_reference m then wrong
-    else option_map_or means (option_and_then (matched_meant below) (restricted_in below m)) wrong
-derived is_member below _ = unjudged
+derived is_member below v = derived_by (named_in below) is_member below v
 
 -- ---- `named` is the verdict on the typedef that the statement of a number names
 

@@ -1,6 +1,7 @@
 -- The names of enumerations and bits with their numbers (RFC 7950, 9.6.4 and 9.7.4).
-use Rattle.std.specs.Prelude.{ℕ, ◌-◌, ◌^◌, ℤ, pos, negsuc, ◌+ℤ◌, int_lt, ◌==◌, Bool, true, false, not, ◌&&◌, ◌||◌, List, [], ◌∷◌, map, filter, Option, Some, None, option_and_then, if◌then◌else◌}
+use Rattle.std.specs.Prelude.{ℕ, ◌-◌, ◌^◌, ℤ, pos, negsuc, ◌+ℤ◌, int_lt, ◌==◌, Bool, true, false, not, ◌&&◌, ◌||◌, List, [], ◌∷◌, map, filter, find, Option, Some, None, option_map, option_and_then, if◌then◌else◌}
 use Rattle.std.specs.List.{list_any, list_all, slice_split}
+use Rattle.std.specs.Option.{option_map_or}
 use Rattle.std.specs.Ordering.{int_eq}
 use Rattle.yspec.specs.text.Text.{Text, is_text, is_white, space}
 use Rattle.yspec.specs.types.Ranges.{Part, lies_in}
@@ -114,3 +115,29 @@ enum_names ns = if are_enum_names ns then assigned_from enum_numbers [] ns else 
 
 abbrev pub bit_names : List Naming → Option (List Assigned)
 bit_names ns = assigned_from bit_positions [] ns
+
+-- ---- the names that a restriction leaves of a type (RFC 7950, 9.6.4 and 9.7.4)
+
+-- the number that a name has
+abbrev pub number_named : List Assigned → Text → Option ℤ
+number_named names t = option_map (λ a. a.number) (find (λ a. is_text t a.name) names)
+
+-- one that is said is that
+abbrev pub is_said : Option ℤ → ℤ → Bool
+is_said None z = true
+is_said (Some said) z = int_eq z said
+
+-- one of the names of a type
+abbrev pub is_naming_of : List Assigned → Naming → Bool
+is_naming_of names n = option_map_or (is_said n.number) (number_named names n.name) false
+
+abbrev pub texts_of : List Naming → List Text
+texts_of ns = map (λ n. n.name) ns
+
+-- each is one of the names of a type, and none comes twice
+abbrev pub are_namings_of : List Assigned → List Naming → Bool
+are_namings_of names ns = list_all (is_naming_of names) ns && not (has_twice (texts_of ns))
+
+-- the names keep their numbers
+abbrev pub names_left : List Assigned → List Naming → Option (List Assigned)
+names_left names ns = if are_namings_of names ns then Some (named_by names (texts_of ns)) else None

@@ -4,7 +4,7 @@ use Rattle.std.specs.Ordering.{nat_cmp, int_cmp, on, then_cmp, eq_by_cmp}
 use Rattle.std.specs.declared.cmp.Ordering.{Ordering}
 use Rattle.std.specs.Cmp.Lexicographic.{slice_cmp}
 use Rattle.yspec.specs.text.Text.{Text}
-use Rattle.yspec.specs.types.Types.{Content, text_value, number_value, bool_value, empty_value, bits_value, Val}
+use Rattle.yspec.specs.types.Types.{Content, text_value, number_value, bool_value, empty_value, bits_value, octets_value, Val}
 
 abbrev pub member_number : Option ℕ → ℕ
 member_number None = 0
@@ -16,9 +16,12 @@ kind_number (number_value z) = 1
 kind_number (bool_value b) = 2
 kind_number empty_value = 3
 kind_number (bits_value zs) = 4
+kind_number (octets_value octets) = 5
 
+-- a text or octets, which are compared alike
 abbrev pub text_part : Content → Text
 text_part (text_value t) = t
+text_part (octets_value octets) = octets
 text_part _ = []
 
 abbrev pub bool_number : Bool → ℤ

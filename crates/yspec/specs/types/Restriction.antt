@@ -1,18 +1,22 @@
--- Derived types: what a restriction makes of a type (RFC 7950, 9.2.4, 9.3.4, 9.4.4, 9.4.5 and 9.9.3).
+-- Derived types: what a restriction makes of a type (RFC 7950, 9.2.4, 9.3.4, 9.4.4, 9.4.5, 9.6.3, 9.7.3 and 9.9.3).
 use Rattle.std.specs.Prelude.{ℕ, ◌-◌, ◌^◌, pos, Bool, true, false, List, [], ◌∷◌, ◌++◌, Option, Some, None, option_map, option_and_then, if◌then◌else◌}
 use Rattle.std.specs.Prelude as prelude
 use Rattle.yspec.specs.text.Text.{Text}
+use Rattle.yspec.specs.types.Names.{Naming, Assigned, is_among, names_left}
 use Rattle.yspec.specs.types.Ranges.{Part, ErrorText, Test, within, matching, Limit, Span, restricted}
-use Rattle.yspec.specs.types.Types.{Base, integer_base, decimal_base, string_base, SimpleType, Shape, single, union, YangType, numbers_of, int64}
+use Rattle.yspec.specs.types.Types.{Base, integer_base, decimal_base, string_base, binary_base, SimpleType, Shape, single, union, YangType, numbers_of, int64, enumeration_base, bits_base}
 
 pub data Restriction : Type 0 where
   range : List Span → ErrorText → Restriction
   length : List Span → ErrorText → Restriction
   -- as it is written, and whether `invert-match` stands below it
   pattern : Text → Bool → ErrorText → Restriction
+  -- names that are left of an enumeration, and of bits, each perhaps with its number
+  of_enums : List Naming → Restriction
+  of_bits : List Naming → Restriction
   require_instance : Bool → Restriction
 
--- a length runs from 0 to the greatest number of 64 bits
+-- a length, which counts characters or octets, runs from 0 to the greatest number of 64 bits
 abbrev pub lengths : Part
 lengths = record { low = pos 0; high = pos (2 ^ 64 - 1) }
 
@@ -24,6 +28,7 @@ range_base _ = None
 
 abbrev pub length_base : Base → Option (Part × ℕ)
 length_base string_base = Some (lengths, 0)
+length_base binary_base = Some (lengths, 0)
 length_base _ = None
 
 -- patterns stand on strings (RFC 7950, 9.4.5)
@@ -51,6 +56,17 @@ abbrev pub limited_by : SimpleType → List Span → ErrorText → Part × ℕ �
 limited_by type spans error bounds =
     option_map (λ parts. with_limit type error (within parts)) (restricted (left_by bounds.0 type.limits) bounds.1 spans)
 
+abbrev pub enums_left : List Naming → Base → Option Base
+enums_left ns (enumeration_base names) = option_map enumeration_base (names_left names ns)
+enums_left ns _ = None
+
+abbrev pub bits_left : List Naming → Base → Option Base
+bits_left ns (bits_base names) = option_map bits_base (names_left names ns)
+bits_left ns _ = None
+
+abbrev pub with_base : SimpleType → Base → SimpleType
+with_base s base = record s { base = base }
+
 abbrev with_shape : SimpleType → YangType
 with_shape s = record { shape = single s; requires_instance = None }
 
@@ -59,6 +75,8 @@ narrowed_simple s (range spans error) = option_and_then (limited_by s spans erro
 narrowed_simple s (length spans error) = option_and_then (limited_by s spans error) (length_base s.base)
 narrowed_simple s (pattern expression inverted error) =
     if may_match s.base then Some (with_limit s error (matching expression inverted)) else None
+narrowed_simple s (of_enums ns) = option_map (with_base s) (enums_left ns s.base)
+narrowed_simple s (of_bits ns) = option_map (with_base s) (bits_left ns s.base)
 narrowed_simple s (require_instance b) = None
 
 abbrev narrowed_shape : Shape → Restriction → Option YangType
@@ -77,6 +95,20 @@ narrowed_by shape (Some b) r = requiring shape r
 -- the type that a restriction makes of a type, if it may stand there
 abbrev pub narrowed : YangType → Restriction → Option YangType
 narrowed type r = narrowed_by type.shape type.requires_instance r
+
+-- ---- the names of an enumeration or of bits
+
+abbrev pub names_in_base : Base → List Assigned
+names_in_base (enumeration_base names) = names
+names_in_base (bits_base names) = names
+names_in_base _ = []
+
+abbrev pub names_in : Shape → List Assigned
+names_in (single s) = names_in_base s.base
+names_in (union members) = []
+
+abbrev pub has_name : YangType → Text → Bool
+has_name type name = is_among (prelude.map (λ a. a.name) (names_in type.shape)) name
 
 -- ---- types that are made of others
 

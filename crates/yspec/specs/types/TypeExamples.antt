@@ -5,7 +5,7 @@ use Rattle.yspec.specs.text.Text.{Text}
 use Rattle.yspec.specs.types.Ranges.{Bound, least, greatest, number, Span, ErrorText}
 use Rattle.yspec.specs.types.Names.{Naming, Assigned, enum_names, bit_names}
 use Rattle.yspec.specs.types.Types.{Raw, text, Val, number_value, Integer, YangType, plain, integer_type, string_type, decimal_base, enumeration_base, bits_base, identity_base, taken, value, app_tag_of}
-use Rattle.yspec.specs.types.Restriction.{Restriction, range, length, pattern, narrowed}
+use Rattle.yspec.specs.types.Restriction.{Restriction, range, length, pattern, of_enums, of_bits, narrowed}
 use Rattle.yspec.specs.types.Identities.{ModuleNames}
 use Rattle.yspec.specs.types.Values.{value_of_text, canonical}
 
@@ -99,6 +99,17 @@ bits names = option_map (λ ns. plain (bits_base ns)) (bit_names names)
 -- x at 3, y, z at 0
 abbrev pub three_bits : List Naming
 three_bits = numbered (codes "x") (pos 3) ∷ named (codes "y") ∷ numbered (codes "z") (pos 0) ∷ []
+
+-- white, yellow and red, of the numbers 0, 1 and 7, and a type that restricts them (RFC 7950, 9.6.5)
+abbrev pub three_colours : List Naming
+three_colours = named (codes "white") ∷ named (codes "yellow") ∷ numbered (codes "red") (pos 7) ∷ []
+
+abbrev pub coloured : List Naming → Option YangType
+coloured names = option_and_then (λ t. narrowed t (of_enums names)) (enumeration three_colours)
+
+-- the bits among three that a restriction names
+abbrev pub bits_among : List Naming → Option YangType
+bits_among names = option_and_then (λ t. narrowed t (of_bits names)) (bits three_bits)
 
 abbrev pub taken_by : Option YangType → Text → Option Val
 taken_by type t = option_and_then (λ y. taken y (text t)) type

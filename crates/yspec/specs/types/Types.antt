@@ -11,6 +11,7 @@ use Rattle.yspec.specs.types.Ranges.{Part, ErrorText, Test, within, matching, Li
 use Rattle.yspec.specs.types.Numerals.{integer_of, decimal_of}
 use Rattle.yspec.specs.types.Names.{Assigned, words_of, are_bit_names, named_by, positions_of}
 use Rattle.yspec.specs.types.Identities.{name_within}
+use Rattle.yspec.specs.types.Octets.{octets_of}
 
 -- what a document has at a leaf
 pub data Raw : Type 0 where
@@ -28,6 +29,7 @@ pub data Content : Type 0 where
   empty_value : Content
   -- the positions of the bits that are set, ascending
   bits_value : List ℤ → Content
+  octets_value : List ℕ → Content
 
 -- a value of a union bears also the number of the member that took it, from 0
 pub record Val : Type 0 where
@@ -76,6 +78,7 @@ pub data Base : Type 0 where
   -- The identities of a set of modules by name, and the numbers of those that it takes; before them the name of the module
   -- of the leaf.
   identity_base : Text → List Assigned → List ℤ → Base
+  binary_base : Base
 
 -- a type that is no union: its restrictions stand from the built-in type outwards
 pub record SimpleType : Type 0 where
@@ -150,6 +153,10 @@ identity_named identities numbers name = option_and_then (identity_if_taken numb
 abbrev pub string_taken : Text → Option Content
 string_taken t = if is_string_value t then Some (text_value t) else None
 
+-- RFC 7950, 9.8
+abbrev pub octets_taken : Text → Option Content
+octets_taken t = option_map octets_value (octets_of t)
+
 -- what a type that is written as a string takes
 abbrev pub text_taken : Base → Text → Option Content
 text_taken (integer_base i) t = None
@@ -160,6 +167,7 @@ text_taken empty_base t = None
 text_taken (enumeration_base names) t = enum_taken names t
 text_taken (bits_base names) t = bits_taken names (words_of t)
 text_taken (identity_base home identities numbers) t = identity_named identities numbers (name_within home t)
+text_taken binary_base t = octets_taken t
 
 abbrev in_text : Raw → (Text → Option Content) → Option Content
 in_text (text t) taken = taken t
@@ -184,6 +192,7 @@ base_taken empty_base raw = empty_taken raw
 base_taken (enumeration_base names) raw = in_text raw (enum_taken names)
 base_taken (bits_base names) raw = in_text raw (λ t. bits_taken names (words_of t))
 base_taken (identity_base home identities numbers) raw = in_text raw (λ t. identity_named identities numbers (name_within home t))
+base_taken binary_base raw = in_text raw octets_taken
 
 -- ---- the module of a leaf
 
@@ -204,10 +213,11 @@ type_in home type = record type { shape = shape_in home type.shape }
 
 -- ---- restrictions
 
--- what a range or length judges: a number, or how many characters a text has
+-- what a range or length judges: a number, how many characters a text has, or how many octets there are
 abbrev pub measure : Content → ℤ
 measure (text_value t) = pos (length (chars t))
 measure (number_value z) = z
+measure (octets_value octets) = pos (length octets)
 measure _ = pos 0
 
 -- whether a text spells a pattern

@@ -7,7 +7,8 @@ use Rattle.yspec.specs.text.Text.{Text, is_text, space}
 use Rattle.yspec.specs.types.Numerals.{default_integer_of, integer_text, decimal_text}
 use Rattle.yspec.specs.types.Names.{Assigned}
 use Rattle.yspec.specs.types.Identities.{ModuleNames, name_stated}
-use Rattle.yspec.specs.types.Types.{Content, text_value, number_value, bool_value, empty_value, bits_value, Val, Base, integer_base, decimal_base, string_base, boolean_base, empty_base, enumeration_base, bits_base, identity_base, identity_named, is_numbered, SimpleType, Shape, single, union, YangType, number_within, numbers_of, text_taken, limited, shape_value}
+use Rattle.yspec.specs.types.Octets.{base64_text}
+use Rattle.yspec.specs.types.Types.{Content, text_value, number_value, bool_value, empty_value, bits_value, octets_value, Val, Base, integer_base, decimal_base, string_base, boolean_base, empty_base, enumeration_base, bits_base, identity_base, binary_base, identity_named, is_numbered, SimpleType, Shape, single, union, YangType, number_within, numbers_of, text_taken, limited, shape_value}
 
 -- ---- texts of a module
 
@@ -25,6 +26,7 @@ base_read names empty_base t = None
 base_read names (enumeration_base enums) t = text_taken (enumeration_base enums) t
 base_read names (bits_base bits) t = text_taken (bits_base bits) t
 base_read names (identity_base home identities numbers) t = option_and_then (identity_named identities numbers) (name_stated names t)
+base_read names binary_base t = text_taken binary_base t
 
 abbrev pub simple_read : ModuleNames → SimpleType → Text → Option Content
 simple_read names type t = option_and_then (limited type.limits) (base_read names type.base t)
@@ -66,6 +68,7 @@ content_text b (number_value z) = number_text b z
 content_text b (bool_value v) = bool_text v
 content_text b empty_value = []
 content_text b (bits_value positions) = bits_text b positions
+content_text b (octets_value octets) = base64_text octets
 
 -- the type that took a value
 abbrev pub taker : Shape → Option ℕ → Option SimpleType

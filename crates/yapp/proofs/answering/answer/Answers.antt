@@ -1,17 +1,18 @@
 use Rattle.std.proofs.Common.{◌∙◌, ap, subst}
-use Rattle.yspec_run.specs.Output.{performed}
+use Rattle.yspec_run.specs.Unjudged.{said}
 use Rattle.yapp_words.specs.Command.{view}
-use Rattle.yapp_report.specs.Failing.{LeadsTo, reported}
+use Rattle.yapp_report.specs.Failing.{LeadsTo}
+use Rattle.yapp.specs.Files.{found_as}
 use Rattle.yapp.proofs.ContentsLemmas.{came_of_reading, came_of_texts, names_in, texts_in}
 use Rattle.yapp.proofs.answering.answer.Goals as goal
 
 pub returns-in-Ok-read_files-clause-found : goal.returns-in-Ok-read_files-clause-found
 returns-in-Ok-read_files-clause-found g c =
     let request = view c.args.request.now in
-    came_of_texts _ _ request _ (texts_in c.in-Ok-read_files.contents.items) c.perform.result
+    came_of_texts _ _ request _ (texts_in c.in-Ok-read_files.contents.items) c.find.result
     (ap names_in c.deref.ensures.value ∙ c.in-Ok.ensures) c.in-Ok-read_files.ensures
-    (subst (λ texts. LeadsTo (performed request texts) reported c.perform.result)
-    (ap texts_in c.deref-in-Ok-read_files.ensures.value) c.perform.ensures.leads)
+    (subst (λ texts. LeadsTo (said request texts) found_as c.find.result)
+    (ap texts_in c.deref-in-Ok-read_files.ensures.value) c.find.ensures.leads)
 
 pub returns-in-Ok-clause-found : goal.returns-in-Ok-clause-found
 returns-in-Ok-clause-found g c = came_of_reading _ _ (view c.args.request.now) _ c.in-Err-read_files.failure

@@ -27,7 +27,7 @@ returns-then-not-miscounted c =
     let told = seen c.args.told.now in
     unbroken told _ _ _ _ (broken 3 m s.line) (broken 1 m s.line) (broken 4 m s.line) (broken 2 m s.line) c.if-not-miscounted.true
     ∙ ap (least_from told) (ap₂ (λ x y. x ++ y) (ap (λ b. when (not b) (broken 3 m s.line)) fitting)
-    (ap₂ (λ x y. x ++ y) (ap (λ b. when b (broken 1 m s.line)) c.is_type_outside-outside.ensures ∙ type_alike m w s)
+    (ap₂ (λ x y. x ++ y) (ap (λ b. when b (broken 1 m s.line)) c.is_type_outside-outside.ensures ∙ type_alike l m w s)
     (ap₂ (λ x y. x ++ y) (ap (λ b. when b (broken 4 m s.line)) c.is_wrongly_versioned-misversioned.ensures ∙ version_alike l m w s below)
     (ap (λ b. when b (broken 2 m s.line)) counted))))
 
@@ -45,9 +45,9 @@ returns c =
     judged_alone (seen c.args.told.now) (seen c.least_when-first.result) (seen c.least_when-first-2.result) (seen c.least_when-first-3.result)
     (seen c.least_when.result) (when _ (break_view c.broken.result ∷ [])) (when _ (break_view c.broken-2.result ∷ []))
     (when _ (break_view c.broken-3.result ∷ [])) (when _ (break_view c.broken-4.result ∷ []))
-    (argument_breaks m v (rule_in l v w).form s) (type_breaks m w s) (version_breaks l m w s below) (count_breaks l m s below (rule_in l v w).substatements)
+    (argument_breaks m v (rule_in l v w).form s) (type_breaks l m w s) (version_breaks l m w s below) (count_breaks l m s below (rule_in l v w).substatements)
     c.least_when-first.ensures c.least_when-first-2.ensures c.least_when-first-3.ensures c.least_when.ensures
     (ap₂ (λ b x. when (not b) (break_view x ∷ [])) fitting c.broken.ensures)
-    (ap₂ (λ b x. when b (break_view x ∷ [])) c.is_type_outside-outside.ensures c.broken-2.ensures ∙ type_alike m w s)
+    (ap₂ (λ b x. when b (break_view x ∷ [])) c.is_type_outside-outside.ensures c.broken-2.ensures ∙ type_alike l m w s)
     (ap₂ (λ b x. when b (break_view x ∷ [])) c.is_wrongly_versioned-misversioned.ensures c.broken-3.ensures ∙ version_alike l m w s below)
     (ap₂ (λ b x. when b (break_view x ∷ [])) counted c.broken-4.ensures)

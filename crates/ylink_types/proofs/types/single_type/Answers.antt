@@ -29,3 +29,6 @@ returns-in-Uint32 c = subst (λ t. IfOk c.ranged_type-in-Uint32.result (λ type.
 
 pub returns-in-Uint64 : goal.returns-in-Uint64
 returns-in-Uint64 c = subst (λ t. IfOk c.ranged_type-in-Uint64.result (λ type. type ≡ single_type_of (kept_view c.args.kept) (built_in_view t) (row_by source_view c.args.below))) (sym c.in-Uint64.is) (c.ranged_type-in-Uint64.ensures _ c.uint64.ensures)
+
+pub returns-in-Binary : goal.returns-in-Binary
+returns-in-Binary c = subst (λ t. IfOk c.measured_type.result (λ type. type ≡ single_type_of (kept_view c.args.kept) (built_in_view t) (row_by source_view c.args.below))) (sym c.in-Binary.is) (c.measured_type.ensures _ c.binary.ensures)

@@ -1,6 +1,6 @@
 use Rattle.std.proofs.Common.{◌≡◌, ap, sym, ◌∙◌, rules, true, false}
 use Rattle.yspec.specs.linking.Keyword.{same_keyword}
-use Rattle.yspec.specs.linking.Source.{argument_in}
+use Rattle.yspec.specs.linking.Source.{is_source_of, argument_in}
 use Rattle.ybase_preorder.specs.View.{row_by, label_by}
 use Rattle.ybase_preorder.proofs.RowLemmas.{takes_by, takes_none_by}
 use Rattle.ybase_words.specs.KeywordView.{keyword_view}
@@ -22,7 +22,7 @@ loop-statement-preserved-then-not-is c =
     record {
       more = tt;
       ends = tt;
-      so_far = no_naming (naming_word c.args.kind) (number_by c.args.kind) c.loop-statement.namings.items (label_by source_view s) (row_by source_view s.children) (row_by source_view after)
+      so_far = no_naming (λ s inner. is_source_of (naming_word c.args.kind) s) (number_by c.args.kind) c.loop-statement.namings.items (label_by source_view s) (row_by source_view s.children) (row_by source_view after)
           (row_by source_view before) _ (takes_by source_view before after s c.in-Some.ensures.steps) other c.loop-statement.invariant.so_far;
     }
 
@@ -41,7 +41,7 @@ loop-statement-preserved c =
     record {
       more = tt;
       ends = tt;
-      so_far = next_naming (naming_word c.args.kind) (number_by c.args.kind) c.loop-statement.namings.items _ c.in_ok-named.named (label_by source_view s) (row_by source_view s.children) (row_by source_view after)
+      so_far = next_naming (λ s inner. is_source_of (naming_word c.args.kind) s) (number_by c.args.kind) c.loop-statement.namings.items _ c.in_ok-named.named (label_by source_view s) (row_by source_view s.children) (row_by source_view after)
           (row_by source_view before) _ (takes_by source_view before after s c.in-Some.ensures.steps) stands (search rules)
           (c.in_ok-named.ensures ∙ ap (λ m. record { name = argument_in (label_by source_view s); number = m }) number) c.loop-statement.invariant.so_far;
     }
@@ -49,5 +49,5 @@ loop-statement-preserved c =
 pub returns : goal.returns
 returns c =
     let before = c.loop-statement.statement-iterator in
-    all_namings (naming_word c.args.kind) (number_by c.args.kind) c.loop-statement.namings.items (row_by source_view before) _
+    all_namings (λ s inner. is_source_of (naming_word c.args.kind) s) (number_by c.args.kind) c.loop-statement.namings.items (row_by source_view before) _
     (takes_none_by source_view before c.next.new.self c.in-None.ensures.steps).0 c.loop-statement.invariant.so_far

@@ -44,6 +44,14 @@ compile_planned-requires-clause-on c =
     subst (IsOf c.in_ok-features.features l) c.sources.ensures
     (c.in_ok-features.ensures (conditions_hold l f _ (c.sources.ensures ∙ passed.1) passed.0))
 
+pub compile_planned-requires-clause-kept : goal.compile_planned-requires-clause-kept
+compile_planned-requires-clause-kept c =
+    let l = language_view c.args.language.now in
+    let s = statements.view c.args.linked.now in
+    let f = modules_view c.args.modules.now in
+    let passed = linking_passed l f s c.requires.links in
+    subst (λ m. are_kept_right l m ≡ true) (sym passed.1) (sources_keep l f)
+
 pub compile_planned-requires-clause-told : goal.compile_planned-requires-clause-told
 compile_planned-requires-clause-told c =
     let l = language_view c.args.language.now in

@@ -1,9 +1,11 @@
 use Rattle.std.proofs.Common.{◌≡◌, Some, None, true, sym, ap, subst, ◌∙◌}
 use Rattle.yspec.specs.schema.Breaks.{least_from}
 use Rattle.yspec.specs.linking.NodeBreaks.{name_breaks}
+use Rattle.yspec.specs.linking.Planned.{Plan}
 use Rattle.yspec_wide.specs.Compiling.{whole_plan}
 use Rattle.yspec_wide.specs.Expansion.{augmented_in}
 use Rattle.ybase_preorder.specs.Layout.{places}
+use Rattle.ylink_features.specs.VersionView.{AreVersionsOf}
 use Rattle.ylink_grammar.specs.LanguageView.{language_view}
 use Rattle.ylink_grammar.specs.LinkView.{view}
 use Rattle.ylink_standing.specs.StandingView.{IsOf}
@@ -25,6 +27,14 @@ returns-in-Some c =
     let plan_is : plans.view c.in_ok-whole.whole ≡ whole_plan l s = c.in_ok-whole.ensures parts c.requires.made ∙ ap (λ m. plans.plan_with m parts) c.sources.ensures in
     sym (ap seen c.in-Some.is) ∙ (c.broken_name_rule.ensures ∙ ap (λ w. least_from None (name_breaks w)) plan_is)
 
+pub broken_addition_rule-requires : goal.broken_addition_rule-requires
+broken_addition_rule-requires c =
+    let l = language_view c.args.language.now in
+    let s = statements.view c.args.linked.now in
+    let parts = (augmented_in l s).0 in
+    let plan_is : plans.view c.in_ok-whole.whole ≡ whole_plan l s = c.in_ok-whole.ensures parts c.requires.made ∙ ap (λ m. plans.plan_with m parts) c.sources.ensures in
+    subst (AreVersionsOf c.in_ok-versions.versions l) (c.sources-3.ensures ∙ sym (ap (λ (q : Plan). q.modules) plan_is)) c.in_ok-versions.ensures
+
 pub returns : goal.returns
 returns c =
     let l = language_view c.args.language.now in
@@ -40,5 +50,5 @@ returns c =
     let here : TellsStanding c.in_ok-standing.standing.items l v = subst (TellsStanding c.in_ok-standing.standing.items l)
     (ap (λ x. plans.plan_with x (augmented_in l x).0) (sym same) ∙ sym plan_is) tells in (
       sym (ap seen c.in_default.is) ∙ (c.broken_name_rule.ensures ∙ ap (λ w. least_from None (name_breaks w)) plan_is),
-      c.in_ok-added.ensures l (subst (λ xs. TellsStanding xs l v) (sym c.as_slice.ensures.value) here) ∙ ap (λ w. least_from None (all_addition_breaks l w)) plan_is,
+      c.in_ok-added.ensures (subst (λ xs. TellsStanding xs l v) (sym c.as_slice.ensures.value) here) ∙ ap (λ w. least_from None (all_addition_breaks l w)) plan_is,
     )

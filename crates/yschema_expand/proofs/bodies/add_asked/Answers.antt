@@ -4,7 +4,7 @@ use Rattle.yspec.specs.Forest.{end, node}
 use Rattle.yspec.specs.linking.Expansion.{laid}
 use Rattle.yspec.specs.linking.Parts.{own_of}
 use Rattle.yspec_wide.specs.Expansion.{conditioned}
-use Rattle.yspec_wide.specs.Sources.{bears_condition}
+use Rattle.yspec_wide.specs.Sources.{bears_guard}
 use Rattle.ybase_preorder.specs.Layout.{places}
 use Rattle.ybase_preorder.specs.Layout as layout
 use Rattle.ybase_preorder.specs.View.{row_by, label_by}
@@ -22,16 +22,16 @@ pub condition_from-requires : goal.condition_from-requires
 condition_from-requires c =
     subst (λ x. are_kept_right x (row_by source_view c.args.given) ≡ true) (sym c.language-language.ensures) c.requires.given
 
-pub returns-then-not-bears_condition : goal.returns-then-not-bears_condition
-returns-then-not-bears_condition c =
+pub returns-then-not-bears_guard : goal.returns-then-not-bears_guard
+returns-then-not-bears_guard c =
     let l = language_of c.args.context.now.named.now in
     let m = modules_of c.args.context.now.named.now in
     let given = row_by source_view c.args.given in
     let parts = laid (node (label_by source_view c.args.statement) (row_by source_view c.args.statement.children) end) in
     let nodes = nodes_for l m c.args.place.owner c.args.place.depth parts in
     let old = c.args.made.now.table in
-    let none : bears_condition l given ≡ false =
-    subst (λ x. bears_condition x given ≡ false) c.language-language.ensures (sym c.bears_condition.ensures ∙ c.if-not-bears_condition.true) in
+    let none : bears_guard l given ≡ false =
+    subst (λ x. bears_guard x given ≡ false) c.language-language.ensures (sym c.bears_guard.ensures ∙ c.if-not-bears_guard.true) in
     let adds = c.in_ok-add_one.ensures in (
       adds.0 ∙ ap (λ f. parts_in old ++ places c.args.place.parent (length (slots_of old)) f)
           (sym (none_conditioned l given (sym (own_conditions l given c.requires.given) ∙ none_own l given none) nodes)),

@@ -23,14 +23,14 @@ pub condition_from-requires : goal.condition_from-requires
 condition_from-requires c =
     subst (λ x. are_kept_right x (row_by source_view c.args.statements) ≡ true) (sym c.language-language.ensures) c.requires
 
-pub returns-then-not-bears_condition : goal.returns-then-not-bears_condition
-returns-then-not-bears_condition c =
+pub returns-then-not-bears_guard : goal.returns-then-not-bears_guard
+returns-then-not-bears_guard c =
     let l = language_view c.language-language.result.now in
     let m = modules_of c.args.context.now.named.now in
     let owner = c.args.owner in
     let first = c.args.first in
     let own = row_by source_view c.args.statements in
-    let none = none_own l own (sym c.bears_condition.ensures ∙ c.if-not-bears_condition.true) in
+    let none = none_own l own (sym c.bears_guard.ensures ∙ c.if-not-bears_guard.true) in
     subst (λ x. (nodes : Forest Part) → Changes first nodes (changed_by x m owner own nodes) (refine_breaks_in x m owner own nodes) c.args.made.now c.refine.new.made)
     c.language-language.ensures
     (λ nodes. λ earlier parent count at.

@@ -6,8 +6,8 @@ use Rattle.ylink_grammar.specs.SourceView.{source_view}
 use Rattle.yschema_given.proofs.KeepingLemmas.{none_borne}
 use Rattle.yschema_given.proofs.conditions.may_bear_in.Goals as goal
 
-pub returns-else-bears_condition : goal.returns-else-bears_condition
-returns-else-bears_condition c =
+pub returns-else-bears_guard : goal.returns-else-bears_guard
+returns-else-bears_guard c =
     let f = row_by source_view c.args.given in
     c.may_bear.ensures
-    ∙ none_borne (language_view c.args.language.now) (keyword_view c.args.keyword) f f (sym c.bears_condition.ensures ∙ c.if-bears_condition.false)
+    ∙ none_borne (language_view c.args.language.now) (keyword_view c.args.keyword) f f (sym c.bears_guard.ensures ∙ c.if-bears_guard.false)

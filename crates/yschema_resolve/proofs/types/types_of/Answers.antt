@@ -3,7 +3,7 @@ use Rattle.std.proofs.Math.Path.{fun_ext}
 use Rattle.yspec.specs.linking.DerivedTypes.{type_meant}
 use Rattle.yspec.specs.linking.Planned.{nodes_of}
 use Rattle.yspec_wide.specs.Features.{stands}
-use Rattle.yspec_wide.specs.Types.{bears_none, standing_type, type_of_kept}
+use Rattle.yspec_wide.specs.Types.{all_names, names_where, bears_none, unmarked, standing_type, type_of_kept}
 use Rattle.ybase_graph.specs.declared.chains.Chain.{Chain}
 use Rattle.ylink.specs.LinkedView as statements
 use Rattle.ylink.proofs.VerdictLemmas.{all_meant}
@@ -59,7 +59,7 @@ returns-in-Core-clause-typed c =
     let linked = statements.view c.args.linked.now in
     let are = c.in_ok-standing-in-Core.ensures
     ∙ (ap₂ (λ ms cs. map (type_at table (meants_view ms) cs) (nodes_of p)) c.as_slice-meant.ensures.value c.as_slice-in-Core.ensures.value
-    ∙ kept_typed plan (λ own. true) (type_meant linked) (λ n. sym (all_meant linked n) ∙ ap (λ modules. type_meant_of (λ own. true) modules n) c.requires.named)
+    ∙ kept_typed plan all_names (type_meant linked) (λ n. sym (all_meant linked n) ∙ ap (λ modules. type_meant_of all_names modules n) c.requires.named)
     (meants_view c.in_ok-meanings.meanings.meant.items) c.as_slice.result.now c.in_ok-meanings.ensures.meant
     (c.as_slice.ensures.value ∙ c.in_ok-meanings.ensures.targets) c.in_ok-chains.chains.items table c.requires.modules c.in_ok-chains.ensures.ends) in
     let core_is = sym c.in-Core.is in
@@ -67,7 +67,7 @@ returns-in-Core-clause-typed c =
       standing = standing_typed p c.in_ok-standing-in-Core.standing.items are
           ∙ ap (λ l. map (standing_type (language_view l) p) (nodes_of p)) core_is;
       unmarked = unmarked_typed p c.in_ok-standing-in-Core.standing.items are
-          ∙ ap (λ l. map (type_of_kept (bears_none (language_view l)) p) (nodes_of p)) core_is;
+          ∙ ap (λ l. map (type_of_kept (unmarked (language_view l)) p) (nodes_of p)) core_is;
     }
 
 pub returns-clause-typed : goal.returns-clause-typed
@@ -75,8 +75,13 @@ returns-clause-typed c =
     let p = view c.args.plan.now in
     let language = language_view c.args.language.now in
     let features = c.args.features.now in
+    let rfc_is = sym c.in-Rfc.is in
     record {
       standing = c.in_ok-standing-in-Rfc.ensures
-          ∙ ap (λ type. map type (nodes_of p)) (fun_ext (type_alike (row_stands features) (stands language p.modules) p (stands_alike language p.modules features c.requires.on)));
-      unmarked = c.in_ok-unmarked-in-Rfc.ensures;
+          ∙ (ap (λ type. map type (nodes_of p)) (fun_ext (type_alike (row_stands features) (stands language p.modules) p (stands_alike language p.modules features c.requires.on)))
+          ∙ (ap (λ l. map (type_of_kept (names_where (stands (language_view l) p.modules)) p) (nodes_of p)) c.in-Rfc.is
+          ∙ ap (λ l. map (standing_type (language_view l) p) (nodes_of p)) rfc_is));
+      unmarked = c.in_ok-unmarked-in-Rfc.ensures
+          ∙ (ap (λ l. map (type_of_kept (names_where (bears_none (language_view l))) p) (nodes_of p)) c.in-Rfc.is
+          ∙ ap (λ l. map (type_of_kept (unmarked (language_view l)) p) (nodes_of p)) rfc_is);
     }
