@@ -17,7 +17,7 @@ use Rattle.clap.specs.declared.parser.matches.Found.{Found}
 use Rattle.clap.proofs.WalkLemmas.{first_value-rows, raw_values-rows}
 use Rattle.clap.proofs.OnLiterals.{clap_on_literals}
 use Rattle.yapp_words.specs.Application.{IsArgument, IsCommand, yanglive}
-use Rattle.yapp_words.specs.Command.{Declines, Explains, Refuses, Takes, TakesFit, asked_by, asked_of, asks_help, conditions_in_core, drawing_by, explained_by, faults_of, features_in_core, is_help, misuse_fault, named_stream, reads_input_twice, refused_pair, refused_value, unfit_conditions, unfit_features, unknown_format, unknown_profile, value_of, view}
+use Rattle.yapp_words.specs.Command.{Declines, Explains, Refuses, Takes, TakesFit, asked_by, asked_of, asks_help, conditions_in_core, drawing_by, explained_by, features_in_core, is_help, misuse_fault, named_stream, reads_input_twice, refused_pair, refused_value, unfit_conditions, unfit_features, unknown_format, unknown_profile, value_of}
 use Rattle.yapp_words.specs.Running.{refused, shown, with_text}
 use Rattle.yapp_words.specs.declared.command.CommandLine.{CommandLine}
 use Rattle.yapp_words.specs.declared.command.NoRequest.{NoRequest}

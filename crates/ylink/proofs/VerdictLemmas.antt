@@ -13,7 +13,7 @@ use Rattle.yspec.specs.linking.Source.{Source, is_source_of}
 use Rattle.yspec.specs.linking.Scopes.{Placed, statement_at, statements_of}
 use Rattle.yspec.specs.linking.TypeStatements as spec
 use Rattle.yspec.specs.linking.DerivedTypes as derived
-use Rattle.yspec.specs.linking.DerivedTypes.{is_member, verdict_by, known_named, meant_by, type_meant, type_break, type_breaks}
+use Rattle.yspec.specs.linking.DerivedTypes.{is_member, verdict_by, known_named, type_meant, type_break, type_breaks}
 use Rattle.yspec_wide.specs.Types.{Keeping, all_names, verdict_at, verdict_of, verdicts_of, verdict_on_of, known_named_of, meant_of}
 use Rattle.yspec_wide.proofs.CoreTypeLemmas.{verdict_alike, verdicts_alike, known_named_alike}
 use Rattle.ybase_preorder.specs.Layout.{numbered_by}

@@ -1,5 +1,5 @@
 -- What `type` statements mean over the names of values that are kept, by number.
-use Rattle.std.specs.Prelude.{◌≡◌, ℕ, Bool, Option, option_and_then}
+use Rattle.std.specs.Prelude.{◌≡◌, ℕ, Option, option_and_then}
 use Rattle.yspec.specs.Forest.{Forest}
 use Rattle.yspec.specs.linking.Scopes.{statement_at}
 use Rattle.yspec.specs.linking.Source.{Source}

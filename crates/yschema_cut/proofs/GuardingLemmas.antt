@@ -1,5 +1,5 @@
 -- Which parts bear no `when`, by what is told of statements by their numbers.
-use Rattle.std.proofs.Common.{◌≡◌, ℕ, zero, suc, Bool, true, false, cond, not, ◌&&◌, ◌||◌, List, [], ◌∷◌, get_or, map, Option, Some, None, option_map, refl, sym, ap, ap₂, ◌∙◌}
+use Rattle.std.proofs.Common.{◌≡◌, ℕ, zero, suc, Bool, true, false, not, ◌&&◌, ◌||◌, List, [], ◌∷◌, get_or, map, Option, Some, None, option_map, refl, ap, ap₂, ◌∙◌}
 use Rattle.std.specs.Prelude.{slice_get}
 use Rattle.std.specs.List.{Contains}
 use Rattle.std.specs.Option.{option_map_or}
@@ -22,7 +22,7 @@ use Rattle.yschema_given.specs.Holding.{holds_in, kept_hold}
 use Rattle.yschema_given.specs.Keeping.{are_kept_right, is_kept}
 use Rattle.yschema_given.proofs.KeepingLemmas.{as_kept}
 use Rattle.yschema_cut.proofs.HoldingLemmas.{Right, each_right, own_alike}
-use Rattle.yschema_cut.proofs.OwnLemmas.{Each, EachOwn, own_augmented, own_left_standing}
+use Rattle.yschema_cut.proofs.OwnLemmas.{Each, own_augmented, own_left_standing}
 
 -- the number of a statement says nothing of it
 same_when : (language : Language) (n : ℕ) (s : held.Source) → is_when language (source_view 0 s) ≡ is_when language (source_view n s)

@@ -1,9 +1,9 @@
 -- What is told of conditions by their numbers is what the definition says of the nodes of a set.
-use Rattle.std.proofs.Common.{◌≡◌, ℕ, zero, suc, ◌+◌, ◌<◌, Bool, true, false, cond, not, ◌&&◌, ◌||◌, List, [], ◌∷◌, ◌++◌, append_assoc, length, map, drop, take, get_or, Option, Some, None, refl, sym, ap, ap₂, ◌∙◌, subst, arith}
+use Rattle.std.proofs.Common.{◌≡◌, ℕ, zero, suc, ◌+◌, ◌<◌, Bool, true, false, cond, not, ◌&&◌, ◌||◌, List, [], ◌∷◌, ◌++◌, append_assoc, length, map, drop, take, get_or, Option, Some, refl, sym, ap, ap₂, ◌∙◌, arith}
 use Rattle.std.specs.Prelude.{filter, slice_get}
 use Rattle.std.specs.List.{Contains, list_all}
 use Rattle.std.proofs.lemmas.List.{map-append}
-use Rattle.yspec.specs.Forest.{Forest, end, node, preorder, row, size}
+use Rattle.yspec.specs.Forest.{Forest, end, node, preorder, row}
 use Rattle.yspec.specs.linking.Scopes.{Placed, placed, statements_of}
 use Rattle.yspec.specs.linking.Source.{Source}
 use Rattle.yspec.specs.linking.Parts.{Part}

@@ -1,5 +1,5 @@
 -- In whatever language a set is read, its conditions are kept right, and each `when`.
-use Rattle.std.proofs.Common.{◌≡◌, ℕ, suc, ◌+◌, Bool, true, false, cond, not, ◌&&◌, ◌||◌, Option, Some, None, refl, sym, ap, ap₂, ◌∙◌, subst}
+use Rattle.std.proofs.Common.{◌≡◌, ℕ, suc, ◌+◌, Bool, true, false, cond, not, ◌&&◌, ◌||◌, Option, Some, None, refl, sym, ap, ap₂, ◌∙◌}
 use Rattle.std.specs.Prelude.{option_map, option_and_then}
 use Rattle.std.proofs.lemmas.Bool.{and_parts}
 use Rattle.std.proofs.lemmas.Slice.Eq.{bytes_eq-Decides}
@@ -9,10 +9,9 @@ use Rattle.yspec.specs.text.Statement.{Statement}
 use Rattle.yspec.specs.linking.Keyword.{Keyword, same_keyword, extension_word}
 use Rattle.yspec.specs.linking.Source.{Source, kept_at, numbered}
 use Rattle.yspec_wide.specs.Language.{Language, Wide, core, rfc}
-use Rattle.yspec_wide.specs.Sources.{is_guard, keyword_kept, keyword_restricting, kept_keyword_in, may_restrict, restricts_below, kept_in, module_kept, sources_in, sources_in_from}
+use Rattle.yspec_wide.specs.Sources.{keyword_kept, keyword_restricting, kept_keyword_in, may_restrict, restricts_below, kept_in, module_kept, sources_in, sources_in_from}
 use Rattle.yspec_wide.specs.Words.{if_feature_word, when_word, word_named, word_text}
 use Rattle.yschema_given.specs.Keeping.{are_kept_right, is_kept_right}
-use Rattle.yschema_given.proofs.KeepingLemmas.{core_keeps}
 
 module _ (language : Language) where
   -- a statement with the keyword that it is kept with

@@ -1,7 +1,6 @@
 -- What a node states with one keyword stands in one row.
 use Rattle.std.proofs.Common.{◌≡◌, ℕ, zero, suc, ◌+◌, ◌<◌, Bool, true, false, cond, ◌||◌, List, [], ◌∷◌, length, drop, get_or, Option, Some, None, refl, sym, ap, ◌∙◌, arith, subst}
 use Rattle.std.specs.List.{list_any}
-use Rattle.std.specs.Option.{option_map_or}
 use Rattle.yspec.specs.Forest.{Forest, end, node, row, join, first_of}
 use Rattle.yspec.specs.linking.Keyword.{Keyword, same_keyword, extension_word, default_word}
 use Rattle.yspec.specs.linking.Parts.{defines_node, own_of}

@@ -1,5 +1,5 @@
 -- What is told at the `augment` that adds a node, and of all nodes by which of them stand.
-use Rattle.std.proofs.Common.{◌≡◌, ℕ, suc, ◌<◌, Bool, true, false, cond, not, ◌&&◌, ◌||◌, List, [], ◌∷◌, ◌++◌, length, get_or, Option, Some, None, refl, sym, ap, ap₂, ◌∙◌, arith}
+use Rattle.std.proofs.Common.{◌≡◌, ℕ, suc, Bool, true, false, cond, not, ◌&&◌, ◌||◌, List, [], ◌∷◌, ◌++◌, get_or, Option, Some, None, refl, sym, ap, ap₂, ◌∙◌, arith}
 use Rattle.std.specs.Prelude.{option_map, option_and_then, slice_get}
 use Rattle.std.specs.List.{Contains, flat_map}
 use Rattle.std.specs.Option.{option_map_or}
@@ -14,14 +14,14 @@ use Rattle.yspec.specs.linking.NodeBreaks.{broken_in, is_foreign, must_be, row_b
 use Rattle.yspec_wide.specs.Guards.{is_let_add}
 use Rattle.yspec_wide.specs.Language.{Language, is_yang_1, version_of}
 use Rattle.yspec_wide.specs.Sources.{bears_when}
-use Rattle.yspec_wide.specs.Additions.{stands_itself, has_mandatory_standing, is_needed_standing, broken_unless_let, addition_breaks_in}
+use Rattle.yspec_wide.specs.Additions.{stands_itself, has_mandatory_standing, broken_unless_let, addition_breaks_in}
 use Rattle.ybase_preorder.specs.Layout.{forest_of, numbered_by}
 use Rattle.ybase_preorder.specs.View.{forest_in}
 use Rattle.ybase_preorder.specs.declared.slot.Slot.{Slot}
 use Rattle.ylink_grammar.specs.declared.source.Source as held
 use Rattle.ylink_grammar.specs.SourceView.{source_view}
 use Rattle.ylink_names.proofs.BelowLemmas.{source_at}
-use Rattle.yschema_plan.specs.Needs.{has_mandatory_by, is_needed_by, is_told, must_stand, needs_below, stands_in}
+use Rattle.yschema_plan.specs.Needs.{has_mandatory_by, is_told, needs_below, stands_in}
 use Rattle.yschema_plan.specs.PlanView.{view}
 use Rattle.yschema_plan.specs.declared.plan.Plan as code
 use Rattle.yschema_plan.proofs.NeedLemmas.{told_at}

@@ -1,5 +1,5 @@
 -- Which nodes hang on a `when`, by what is told of each.
-use Rattle.std.proofs.Common.{◌≡◌, ℕ, zero, suc, ◌+◌, ◌-◌, ◌<◌, Bool, true, false, not, ◌||◌, List, [], ◌∷◌, get_or, map, length, Option, Some, None, refl, sym, ap, ap₂, ◌∙◌, arith}
+use Rattle.std.proofs.Common.{◌≡◌, ℕ, zero, suc, ◌-◌, ◌<◌, Bool, true, false, not, ◌||◌, List, [], ◌∷◌, get_or, map, Option, Some, None, refl, sym, ap, ap₂, ◌∙◌, arith}
 use Rattle.std.specs.Prelude.{option_and_then, slice_get}
 use Rattle.std.specs.List.{Contains}
 use Rattle.std.specs.Option.{option_map_or}
@@ -13,7 +13,7 @@ use Rattle.yschema_plan.specs.PlanView.{view}
 use Rattle.yschema_plan.specs.declared.plan.Plan as code
 use Rattle.yschema_plan.proofs.NodeLemmas.{stands_at}
 use Rattle.yschema_resolve.specs.Guarding.{TellsUnguarded, hangs_by, is_guarded_by}
-use Rattle.yschema_resolve.proofs.TypeLemmas.{number_is, stands}
+use Rattle.yschema_resolve.proofs.TypeLemmas.{stands}
 
 -- ---- steps of the way up
 

@@ -1,6 +1,6 @@
 -- Which names of values are kept is asked of rows below statements of a set alone: where two say the same of these, types are the
 -- same.
-use Rattle.std.proofs.Common.{◌≡◌, ℕ, ℤ, zero, suc, Bool, true, false, cond, List, [], ◌∷◌, ◌++◌, Option, Some, None, refl, sym, ap, ap₂, ◌∙◌, subst}
+use Rattle.std.proofs.Common.{◌≡◌, ℕ, ℤ, zero, suc, Bool, true, false, cond, List, [], ◌∷◌, ◌++◌, Option, Some, None, refl, ap, ap₂, ◌∙◌, subst}
 use Rattle.std.proofs.Math.Path.{fun_ext}
 use Rattle.std.specs.Prelude.{⊤, ◌&&◌, find, filter, map, pos, option_map, option_and_then}
 use Rattle.std.specs.List.{Contains, list_any, list_all}
@@ -15,12 +15,12 @@ use Rattle.yspec.specs.linking.Keyword as word
 use Rattle.yspec.specs.linking.Source.{Source, is_source_of, argument_in, first_with, found_with, stated_with}
 use Rattle.yspec.specs.linking.Scopes.{Placed, placed, statements_of, statement_at}
 use Rattle.yspec.specs.linking.Identities.{module_name, assigned_identity, identities_of, is_identity, derives, bases_in}
-use Rattle.yspec.specs.linking.TypeStatements.{BuiltIn, integer, decimal64, string, boolean, empty, enumeration, bits, union, leafref, identityref, binary, Meant, own, Verdict, means, wrong, built_in_meant, are_in_place, of_names, namings, value_stated, position_stated, derived, meaning_of, namings_where, is_restricting, enum_text, bit_text, restricted_to, derived_by}
+use Rattle.yspec.specs.linking.TypeStatements.{BuiltIn, integer, decimal64, string, boolean, empty, enumeration, bits, union, leafref, identityref, binary, Meant, own, Verdict, means, wrong, built_in_meant, are_in_place, of_names, namings, value_stated, position_stated, meaning_of, namings_where, is_restricting, enum_text, bit_text, restricted_to, derived_by}
 use Rattle.yspec.specs.linking.DerivedTypes.{Known, unknown, named, verdict_by, typedef_row, is_member}
 use Rattle.yspec.specs.linking.Planned.{Planned, Plan, type_by}
 use Rattle.yspec_wide.specs.Features.{stands}
 use Rattle.yspec_wide.specs.Language.{Language}
-use Rattle.yspec_wide.specs.Types.{names_where, is_restriction_kept, named_kept, names_kept, single_type_of, numbers_kept, identity_verdict_of, verdict_in_place_of, verdict_of, verdicts_of, verdict_on_of, known_of, known_in_row_of, known_within_of, known_named_of, verdict_at, meant_of, meant_in_of, type_within_of, type_of_kept}
+use Rattle.yspec_wide.specs.Types.{names_where, is_restriction_kept, named_kept, names_kept, single_type_of, numbers_kept, identity_verdict_of, verdict_in_place_of, verdict_of, verdicts_of, verdict_on_of, known_of, known_in_row_of, known_within_of, known_named_of, meant_of, meant_in_of, type_within_of, type_of_kept}
 use Rattle.ylink_names.specs.ScopeView.{placed_at}
 use Rattle.ylink_standing.specs.ConditionView.{is_in}
 use Rattle.ylink_standing.specs.StandingView.{row_stands, IsOf}

@@ -19,7 +19,7 @@ use Rattle.yspec.specs.schema.Breaks.{Break, when, or_told}
 use Rattle.yspec.specs.schema.Schema.{Kind, container, leaf, leaf_list, list, choice, case, LeafType, Absence, mandatory, key}
 use Rattle.yspec_wide.specs.Language.{core}
 use Rattle.yspec_wide.specs.Sources.{bears_condition, bears_when, bears_guard}
-use Rattle.yspec_wide.specs.Guards.{is_guarded_within, is_guarded, is_let_add, asked_kind}
+use Rattle.yspec_wide.specs.Guards.{is_guarded_within, is_let_add, asked_kind}
 use Rattle.yspec_wide.specs.VersionBreaks.{key_break}
 use Rattle.yspec_wide.specs.Types.{type_of_kept, default_texts_in, unmarked, same_if_any, is_refused_in, is_wrong_default_in, are_wrong_defaults_in, standing_type, default_breaks_in, default_values_in, leaf_type_in, absence_in, kind_stated, kind_in, schema_node_in, schema_nodes_in}
 use Rattle.yspec_wide.specs.Additions.{stands_itself, has_mandatory_standing, is_needed_standing, addition_breaks_in}

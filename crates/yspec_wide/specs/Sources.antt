@@ -1,6 +1,6 @@
 -- The statements that linking stands on, with features, conditions, patterns, and names that restrict types among them (RFC 7950,
 -- 7.20.1, 7.20.2, 7.21.5, 9.4.5, 9.6.4, 9.7.4).
-use Rattle.std.specs.Prelude.{ℕ, ◌+◌, Bool, true, false, not, ◌&&◌, ◌||◌, List, [], Option, Some, None, filter, is_some, option_map, option_and_then, unwrap_or, if◌then◌else◌}
+use Rattle.std.specs.Prelude.{ℕ, ◌+◌, Bool, false, not, ◌&&◌, ◌||◌, List, [], Option, Some, None, filter, is_some, option_map, option_and_then, unwrap_or, if◌then◌else◌}
 use Rattle.std.specs.List.{list_any}
 use Rattle.std.specs.Option.{option_map_or}
 use Rattle.yspec.specs.Forest.{Forest, end, node, row, join, size}

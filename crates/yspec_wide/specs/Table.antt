@@ -2,10 +2,10 @@
 use Rattle.std.specs.Prelude.{◌==◌, ◌&&◌, ◌||◌, Bool, true, false, not, List, [], ◌∷◌, ◌++◌, codes, map, filter, is_some, if◌then◌else◌}
 use Rattle.yspec.specs.text.Text.{Text, is_text}
 use Rattle.yspec.specs.linking.Keyword as keyword
-use Rattle.yspec.specs.linking.Keyword.{Keyword, same_keyword}
+use Rattle.yspec.specs.linking.Keyword.{Keyword}
 use Rattle.yspec.specs.linking.Arguments.{Form, identifier_form, any_form, fits}
 use Rattle.yspec.specs.linking.Table as narrow
-use Rattle.yspec.specs.linking.Table.{Count, exactly_one, at_most_one, any_number, rule_of, in_range, doc, texts}
+use Rattle.yspec.specs.linking.Table.{Count, at_most_one, any_number, rule_of, in_range, doc, texts}
 use Rattle.yspec_wide.specs.Language.{Language, core, rfc, YangVersion, yang_1, yang_1_1}
 use Rattle.yspec_wide.specs.Words.{Word, known, feature_word, if_feature_word, pattern_word, modifier_word, must_word, when_word, same_word}
 use Rattle.yspec_wide.specs.Expressions.{expression_of}

@@ -11,7 +11,7 @@ use Rattle.yspec.specs.Forest.{Forest, end, node, join, size}
 use Rattle.yspec.specs.text.Text.{Text, is_text, is_identifier}
 use Rattle.yspec.specs.text.Statement.{Statement}
 use Rattle.yspec.specs.schema.Breaks.{Break, broken}
-use Rattle.yspec.specs.linking.Keyword.{Keyword, same_keyword, keywords, module_word, extension_word, enum_word, bit_word, value_word, position_word, description_word, reference_word, status_word, error_message_word, error_app_tag_word}
+use Rattle.yspec.specs.linking.Keyword.{Keyword, same_keyword, keywords, module_word, extension_word, enum_word, bit_word, value_word, position_word, error_message_word, error_app_tag_word}
 use Rattle.yspec.specs.linking.Arguments.{identifier_form, fits}
 use Rattle.yspec.specs.linking.Table as narrow
 use Rattle.yspec.specs.linking.Table.{rule_of, doc, in_range, texts}

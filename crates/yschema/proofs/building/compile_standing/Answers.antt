@@ -14,7 +14,7 @@ use Rattle.ylink.specs.Told.{told_by, break_view}
 use Rattle.yschema_given.specs.Keeping.{are_kept_right}
 use Rattle.yschema_given.proofs.SourceLemmas.{sources_keep}
 use Rattle.yschema_expand.specs.TableView.{parts_in}
-use Rattle.yschema.specs.Phases.{all_addition_breaks, expansion_part, plan_part, Judges}
+use Rattle.yschema.specs.Phases.{all_addition_breaks, plan_part, Judges}
 use Rattle.yschema.proofs.ToldLemmas.{conditions_hold, in_plan, linking_passed, names_told}
 use Rattle.yschema.proofs.building.compile_standing.Goals as goal
 

@@ -1,4 +1,4 @@
-use Rattle.std.proofs.Common.{◌≡◌, Some, None, true, sym, ap, subst, ◌∙◌}
+use Rattle.std.proofs.Common.{◌≡◌, None, true, sym, ap, subst, ◌∙◌}
 use Rattle.yspec.specs.schema.Breaks.{least_from}
 use Rattle.yspec.specs.linking.NodeBreaks.{name_breaks}
 use Rattle.yspec.specs.linking.Planned.{Plan}

@@ -1,4 +1,4 @@
-use Rattle.std.proofs.Common.{false, refl, ap, ap₂, ◌∙◌}
+use Rattle.std.proofs.Common.{false, refl, ap, ◌∙◌}
 use Rattle.std.specs.Option.{option_map_or}
 use Rattle.yspec.specs.linking.Scopes.{Placed, statement_at}
 use Rattle.yspec_wide.specs.Sources.{bears_when}

@@ -1,8 +1,6 @@
-use Rattle.std.proofs.Common.{None, sym, ap, ◌∙◌}
+use Rattle.std.proofs.Common.{None, ap, ◌∙◌}
 use Rattle.yspec.specs.schema.Breaks.{least_from}
 use Rattle.ylink_grammar.specs.LanguageView.{language_view}
-use Rattle.yschema_plan.specs.Needs.{needs_below, stands_in}
-use Rattle.yschema_plan.specs.PlanView.{view}
 use Rattle.yschema_resolve.proofs.AdditionLemmas.{breaks_same}
 use Rattle.yschema_resolve.proofs.additions.broken_addition_rule.Goals as goal
 

@@ -1,4 +1,4 @@
-use Rattle.std.proofs.Common.{◌≡◌, ◌∷◌, Bool, filter, take}
+use Rattle.std.proofs.Common.{◌≡◌, ◌∷◌, filter, take}
 use Rattle.std.specs.List.{list_all}
 use Rattle.yspec.specs.Forest.{Forest}
 use Rattle.yspec.specs.linking.Circles.{definition_edges}

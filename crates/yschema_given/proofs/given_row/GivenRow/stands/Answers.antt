@@ -1,4 +1,4 @@
-use Rattle.std.proofs.Common.{◌≡◌, Bool, cond, sym, ap, ap₂, ◌∙◌}
+use Rattle.std.proofs.Common.{cond, sym, ap, ap₂, ◌∙◌}
 use Rattle.std.specs.Prelude.{◌&&◌}
 use Rattle.yspec.specs.Forest.{join}
 use Rattle.yspec.specs.linking.Expansion.{others}
