@@ -149,6 +149,55 @@ def validate_nest(size):
     return right("nest", lines, {"nest:a": value}, 11)
 
 
+OCTET = "([0-9]|[1-9][0-9]|1[0-9][0-9]|2[0-4][0-9]|25[0-5])"
+IPV4 = rf"({OCTET}\.){{3}}{OCTET}"
+LAST = r"(25[0-5]|2[0-4][0-9]|[01]?[0-9]?[0-9])"
+IPV6 = [rf"((:|[0-9a-fA-F]{{0,4}}):)([0-9a-fA-F]{{0,4}}:){{0,5}}((([0-9a-fA-F]{{0,4}}:)?(:|[0-9a-fA-F]{{0,4}}))|(({LAST}\.){{3}}{LAST}))",
+        r"(([^:]+:){6}(([^:]+:[^:]+)|(.*\..*)))|((([^:]+:)*[^:]+)?::(([^:]+:)*[^:]+)?)"]
+# of published modules: addresses, hosts, dates, identifiers of objects, devices and languages (RFC 6991)
+PATTERNS = [
+    IPV4,
+    *IPV6,
+    rf"{IPV4}/(([0-9])|([1-2][0-9])|(3[0-2]))",
+    rf"{IPV4}(%[\p{{N}}\p{{L}}]+)?",
+    r"((([a-zA-Z0-9_]([a-zA-Z0-9\-_]){0,61})?[a-zA-Z0-9]\.)*([a-zA-Z0-9_]([a-zA-Z0-9\-_]){0,61})?[a-zA-Z0-9]\.?)|\.",
+    r"\d{4}-\d{2}-\d{2}T\d{2}:\d{2}:\d{2}(\.\d+)?(Z|[\+\-]\d{2}:\d{2})",
+    r"(([0-1](\.[1-3]?[0-9]))|(2\.(0|([1-9]\d*))))(\.(0|([1-9]\d*)))*",
+    r"[0-9a-fA-F]{2}(:[0-9a-fA-F]{2}){5}",
+    r"[0-9a-fA-F]{8}-[0-9a-fA-F]{4}-[0-9a-fA-F]{4}-[0-9a-fA-F]{4}-[0-9a-fA-F]{12}",
+    r"[a-zA-Z]{1,8}(-[a-zA-Z0-9]{1,8})*",
+    r"\d*(\.\d*){1,127}",
+]
+
+
+def matched(name, *patterns):
+    return f"typedef {name} {{ type string {{ " + " ".join(f"pattern '{text}';" for text in patterns) + " } }"
+
+
+def compile_patterns(size):
+    """Leafs each of which has a pattern of its own, of twelve in turn."""
+    leafs = [f"leaf l{n} {{ type string {{ pattern '{PATTERNS[n % len(PATTERNS)]}'; }} }}" for n in range(size)]
+    return {"patterns.yang": module("patterns", leafs)}, {"tree": "patterns", "nodes": size, "profile": "rfc"}
+
+
+def address(n):
+    return f"10.{n >> 16 & 255}.{n >> 8 & 255}.{n & 255}" if n % 2 else f"2001:db8:{n >> 16:x}::{n & 65535:x}"
+
+
+def validate_addresses(size):
+    """Items of a union of both kinds of addresses, by turns; all differ."""
+    lines = [matched("ipv4", IPV4), matched("ipv6", *IPV6), "typedef address { type union { type ipv4; type ipv6; } }", "leaf-list a { type address; }"]
+    files, meta = right("addresses", lines, {"addresses:a": [address(n) for n in range(size)]}, 1)
+    return files, {**meta, "profile": "rfc"}
+
+
+def validate_shared(size):
+    """Each leaf of one type with a pattern has a value."""
+    lines = [matched("ipv4", IPV4)] + [f"leaf l{n} {{ type ipv4; }}" for n in range(size)]
+    files, meta = right("shared", lines, {f"shared:l{n}": address(2 * n + 1) for n in range(size)}, size)
+    return files, {**meta, "profile": "rfc"}
+
+
 def edits(size, lines):
     files, meta = validate_list(size)
     files.update({"script.txt": "\n".join(lines), "empty.txt": ""})
@@ -205,11 +254,14 @@ WORKLOADS = {
     "compile-flat": (compile_flat, SCHEMAS),
     "compile-deep": (compile_deep, SCHEMAS),
     "compile-augment": (compile_augment, SCHEMAS),
+    "compile-patterns": (compile_patterns, [1_000, 10_000]),
     "validate-wide": (validate_wide, SCHEMAS),
     "validate-leaflist": (validate_leaflist, SIZES + [990_000]),
     "validate-list": (validate_list, SIZES),
     "validate-refs": (validate_refs, SIZES),
     "validate-nest": (validate_nest, SIZES),
+    "validate-addresses": (validate_addresses, SIZES + [990_000]),
+    "validate-shared": (validate_shared, SCHEMAS),
     "edit-leaf": (edit_leaf, SIZES),
     "edit-reference": (edit_reference, SIZES),
     "edit-unique": (edit_unique, SIZES),

@@ -1,6 +1,6 @@
 //! From a request to what was found.
 
-ghost use Rattle.std.specs.Prelude.{IfOk, map, position};
+ghost use Rattle.std.specs.Prelude.{◌≡◌, IfOk, map, position};
 ghost use Rattle.yspec.specs.text.Text.{is_text};
 ghost use Rattle.yspec_run.specs.Output.{compilation, drawing, drawing_all, drawn, edition, explanation, performed, validation};
 ghost use Rattle.yschema_model.specs.View as schema_view;
