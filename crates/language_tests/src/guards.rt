@@ -60,7 +60,7 @@ must when => V3 data-missing - /m:e/c/y -| => {"m:e":{"x":""}} => m:1.1 grouping
 must when => V3 data-missing - /m:c/d/z -| => {} => m:1.1 container c { container d; } augment /m:c { when a; leaf x { mandatory true; type string; } } augment /m:c/m:d { uses g { when a; } leaf z { mandatory true; type string; } } grouping g { leaf y { mandatory true; type string; } }
 must when => V1 invalid-value - /m:c/x -| => {"m:c":{"x":200}} => m:1.1 container c { when a; leaf x { type int8; } }
 must when => V7 operation-failed too-many-elements /m:c/y -| => {"m:c":{"y":["a","b"]}} => m:1.1 container c { when a; leaf-list y { min-elements 1; max-elements 1; type string; } }
-must when => V2 data-missing - /m:c/l[1]/k -| => {"m:c":{"l":[{"u":"a"}]}} => m:1.1 container c { when a; list l { key k; leaf k { type string; } leaf u { type string; } leaf v { mandatory true; type string; } } }"#;
+must when => V2 missing-element - /m:c/l[1]/k -| => {"m:c":{"l":[{"u":"a"}]}} => m:1.1 container c { when a; list l { key k; leaf k { type string; } leaf u { type string; } leaf v { mandatory true; type string; } } }"#;
     for row in rows.lines() {
         assert!(rt; is_validated(rt.alloc(), row) == Some(true), "{row:?}");
     }
