@@ -1,15 +1,17 @@
 -- What holds of every session.
 use Rattle.std.proofs.Common.{◌≡◌, ℕ, zero, suc, ◌+◌, Bool, true, false, ◌||◌, List, [], ◌∷◌, length, Option, Some, None, Result, Ok, Err, map, refl, sym, ap, ◌∙◌, ◌≤◌, arith}
-use Rattle.std.specs.Prelude.{if◌then◌else◌, take, option_map, unwrap_or}
+use Rattle.std.specs.Prelude.{if◌then◌else◌, take, option_map, unwrap_or, ◌==◌, ◌&&◌}
 use Rattle.std.specs.Option.{option_map_or}
 use Rattle.std.specs.List.{list_any, list_all}
-use Rattle.std.proofs.lemmas.Bool.{and_parts}
+use Rattle.std.proofs.lemmas.Bool.{and_parts, eq-eqb}
+use Rattle.yspec.proofs.BasicLemmas.{same_text}
 use Rattle.yspec.specs.schema.Schema.{Schema}
-use Rattle.yspec.specs.document.Document.{Tree}
-use Rattle.yspec.specs.document.Fault.{Fault}
+use Rattle.yspec.specs.document.Document.{Tree, Step}
+use Rattle.yspec.specs.document.FaultCode.{fault_number}
+use Rattle.yspec.specs.document.Fault.{Fault, Info, no_info, choice_name, unique_number}
 use Rattle.yspec.specs.edit.EditText.{Edit}
 use Rattle.yspec.specs.edit.Editing.{EditRefusal, applied, tree_or, decision, after, decisions}
-use Rattle.yspec_session.specs.Carrying.{Turn, Difference, same_fault, fault_behind, without_one, with_gone, difference}
+use Rattle.yspec_session.specs.Carrying.{Turn, Difference, same_position, same_step, same_place, same_info, same_fault, fault_behind, without_one, with_gone, difference}
 use Rattle.yspec_session.specs.Session.{Turns, Earlier, Begun, Session, Request, Why, change, faults, below, value, undo, document, save, begin, commit, back, refused, turns_of, with_turns, without_turns, with_remembered, change_answered, undone, begun_with, committed, fallen, answered, behind_all, undos, accepted_among, accepted, is_inside}
 
 -- ---- how many
@@ -47,6 +49,46 @@ as_many turns (f ∷ fs) later = by (fault_behind turns f) (as_many turns fs lat
         then difference turns fs (without_one g later) else with_gone g (difference turns fs later)) o (with_gone f (difference turns fs later)))
     by None even less = more f even
     by (Some g) even less = found g (list_any (same_fault g) later) refl even (less g)
+
+-- ---- the same list
+
+equal_numbers : (n : ℕ) → (n == n) ≡ true
+equal_numbers n = eq-eqb n n refl
+
+same_positions : (p : Option ℕ) → same_position p p ≡ true
+same_positions None = refl
+same_positions (Some p) = equal_numbers p
+
+both_true : (a b : Bool) → a ≡ true → b ≡ true → (a && b) ≡ true
+both_true true true e f = refl
+both_true true false e f = absurd cc
+both_true false b e f = absurd cc
+
+same_steps : (s : Step) → same_step s s ≡ true
+same_steps s = both_true (s.schema_number == s.schema_number) (same_position s.position s.position) (equal_numbers s.schema_number) (same_positions s.position)
+
+same_places : (steps : List Step) → same_place steps steps ≡ true
+same_places [] = refl
+same_places (s ∷ steps) = both_true (same_step s s) (same_place steps steps) (same_steps s) (same_places steps)
+
+same_infos : (i : Info) → same_info i i ≡ true
+same_infos no_info = refl
+same_infos (choice_name name) = same_text name
+same_infos (unique_number n) = equal_numbers n
+
+same_faults : (f : Fault) → same_fault f f ≡ true
+same_faults f = both_true (fault_number f.code == fault_number f.code) (same_place f.steps f.steps && same_info f.info f.info)
+    (equal_numbers (fault_number f.code)) (both_true (same_place f.steps f.steps) (same_info f.info f.info) (same_places f.steps) (same_infos f.info))
+
+pub unchanged : (fs : List Fault) → difference [] fs fs ≡ record { told = []; gone = [] }
+unchanged [] = refl
+unchanged (f ∷ fs) = by (same_fault f f) (same_faults f) (unchanged fs)
+  where
+    by : (b : Bool) → b ≡ true → difference [] fs fs ≡ record { told = []; gone = [] }
+        → (if b || list_any (same_fault f) fs then difference [] fs (if b then fs else f ∷ without_one f fs) else with_gone f (difference [] fs (f ∷ fs)))
+        ≡ record { told = []; gone = [] }
+    by true e others = others
+    by false e others = absurd cc
 
 -- ---- what is refused
 

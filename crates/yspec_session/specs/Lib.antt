@@ -2,4 +2,5 @@
 pub mod Carrying
 pub mod Session
 pub mod Requests
+pub mod Remembering
 pub mod Samples

@@ -1,18 +1,25 @@
 //! What holds of every session.
 
-ghost use Rattle.std.specs.Prelude.{◌≡◌, ◌+◌, ◌≤◌, ℕ, List, None, length, map, true};
+ghost use Rattle.std.specs.Prelude.{◌≡◌, ◌+◌, ◌≤◌, ℕ, List, [], ◌∷◌, Some, None, Ok, length, map, true};
 ghost use Rattle.std.specs.List.{list_all};
 ghost use Rattle.yspec.specs.schema.Schema.{Schema};
+ghost use Rattle.yspec.specs.document.Document.{Tree};
 ghost use Rattle.yspec.specs.document.Fault.{Fault};
 ghost use Rattle.yspec.specs.edit.EditText.{Edit};
-ghost use Rattle.yspec.specs.edit.Editing.{after};
+ghost use Rattle.yspec.specs.edit.Editing.{after, applied};
 ghost use Rattle.yspec_session.specs.Carrying.{Turn, difference};
-ghost use Rattle.yspec_session.specs.Session.{Session, Request, Why, accepted, answered, back, begin, behind_all, change, is_inside, refused, undos};
+ghost use Rattle.yspec_session.specs.Session.{Begun, Session, Request, Why, accepted, answered, back, begin, begun_with, behind_all, change, committed, fallen, is_inside, refused, undos, with_remembered};
+ghost use Rattle.yspec_session.specs.Remembering.{Since, Kept, Remembers, back_to, begun_here, joined, with_group};
 
 /// What is new and what is gone make up for the difference of both lists.
 pub fn counts()
     ensures { (turns : List Turn) (earlier later : List Fault)
         → length earlier + length (difference turns earlier later).told ≡ length later + length (difference turns earlier later).gone }
+{}
+
+/// Of a list nothing is new beside itself, and nothing gone.
+pub fn unchanged()
+    ensures { (faults : List Fault) → difference [] faults faults ≡ record { told = []; gone = [] } }
 {}
 
 /// A request that is refused leaves all as it was.
@@ -37,4 +44,18 @@ pub fn all_undone()
 pub fn all_fallen()
     ensures { (schema : Schema) (limit : ℕ) (s : Session) (requests : List Request) → s.begun ≡ None → list_all is_inside requests ≡ true
         → (answered schema limit (behind_all schema limit (answered schema limit s begin).1 requests) back).1 ≡ s }
+{}
+
+/// A session that is kept by the edits since a document stays one: with an edit that is accepted, and where edits together begin,
+/// stand or fall.
+pub fn remembered()
+    ensures changed { (schema : Schema) (limit : ℕ) (k : Kept) (s : Session) (e : Edit) (later : Tree) (turns : List Turn)
+        → Remembers schema k s → applied schema s.tree e ≡ Ok later
+        → Remembers schema (with_group limit (e ∷ []) k) (with_remembered limit turns later s) }
+    ensures begun { (schema : Schema) (k : Kept) (s : Session) → Remembers schema k s → s.begun ≡ None
+        → Remembers schema (begun_here k) (begun_with s None).1 }
+    ensures standing { (schema : Schema) (limit : ℕ) (k : Kept) (s : Session) (b : Begun) (since : Since) → Remembers schema k s
+        → s.begun ≡ Some b → k.begun ≡ Some since → Remembers schema (joined limit since k) (committed limit s (Some b)).1 }
+    ensures falling { (schema : Schema) (k : Kept) (s : Session) (b : Begun) (since : Since) → Remembers schema k s
+        → s.begun ≡ Some b → k.begun ≡ Some since → Remembers schema (back_to since k) (fallen schema s (Some b)).1 }
 {}

@@ -1,0 +1,76 @@
+-- What a session answers a line, as the text of an object of JSON without a line feed.
+use Rattle.std.specs.Prelude.{ℕ, ◌++◌, List, [], ◌∷◌, codes, decimal, Some, None, option_map}
+use Rattle.std.specs.List.{flat_map}
+use Rattle.yspec.specs.text.Text.{Text}
+use Rattle.yspec.specs.schema.Schema.{Schema}
+use Rattle.yspec.specs.document.Document.{Tree}
+use Rattle.yspec.specs.document.Fault.{Fault}
+use Rattle.yspec.specs.document.Writing.{written_text}
+use Rattle.yspec.specs.edit.Editing.{EditRefusal}
+use Rattle.ysay_json.specs.FaultData.{json_line}
+use Rattle.ysay_json.specs.RefusalData.{Refused, refused_text}
+use Rattle.yspec_run.specs.RefusalData.{cause_of, edit_tag}
+use Rattle.yspec_run.specs.Script.{telling_code}
+
+-- ---- of edits
+
+abbrev pub changed_text : ℕ → ℕ → Text
+changed_text before after = codes "{\"before\":" ++ (decimal before ++ (codes ",\"after\":" ++ (decimal after ++ codes "}")))
+
+-- why an edit is refused, as a refused line of a script is told
+abbrev pub edit_object : EditRefusal → Refused
+edit_object e = record {
+  code = Some (codes "E" ++ decimal e.code);
+  value_code = option_map (λ code. codes "J" ++ decimal code) e.document_code;
+  tag = edit_tag e.code;
+  message = cause_of (telling_code e);
+  file = None;
+  line = None;
+  path = None;
+}
+
+abbrev pub edit_refused_text : EditRefusal → Text
+edit_refused_text e =
+    codes "{\"refused\":\"E" ++ (decimal e.code ++ (codes "\",\"error\":" ++ (refused_text (edit_object e) ++ codes "}")))
+
+-- ---- of faults
+
+-- objects behind commas
+abbrev pub more_text : Schema → Tree → List Fault → Text
+more_text schema tree faults = flat_map (λ f. codes "," ++ json_line schema tree f) faults
+
+-- objects with commas between them
+abbrev pub items_text : Schema → Tree → List Fault → Text
+items_text schema tree [] = []
+items_text schema tree (f ∷ faults) = json_line schema tree f ++ more_text schema tree faults
+
+-- some faults, and how many there are of all
+abbrev pub listed_text : Schema → Tree → List Fault → ℕ → Text
+listed_text schema tree faults count = codes "{\"faults\":[" ++ (items_text schema tree faults
+    ++ (codes "],\"count\":" ++ (decimal count ++ codes "}")))
+
+-- ---- of documents
+
+abbrev pub document_text : Schema → Tree → Text
+document_text schema tree = codes "{\"document\":" ++ (written_text schema tree ++ codes "}")
+
+-- ---- of other requests
+
+abbrev pub done_text : Text
+done_text = codes "{\"done\":true}"
+
+abbrev pub nothing_text : Text
+nothing_text = codes "{\"refused\":\"undo\",\"message\":\"Nothing is remembered.\"}"
+
+abbrev pub begun_text : Text
+begun_text = codes "{\"refused\":\"begin\",\"message\":\"Edits together have begun.\"}"
+
+abbrev pub not_begun_text : Text
+not_begun_text = codes "{\"refused\":\"end\",\"message\":\"No edits together have begun.\"}"
+
+abbrev pub not_understood_text : Text
+not_understood_text = codes "{\"refused\":\"E1\",\"message\":\"The line is no request.\"}"
+
+-- memory ran out, and all is as it was
+abbrev pub short_text : Text
+short_text = codes "{\"refused\":\"E12\",\"message\":\"Memory ran out.\"}"

@@ -1,0 +1,255 @@
+-- What becomes of a session that is kept by the edits since a document.
+use Rattle.std.proofs.Common.{◌≡◌, ℕ, zero, suc, ◌+◌, ◌-◌, ◌++◌, Bool, true, false, List, [], ◌∷◌, length, Option, Some, None, Ok, map, refl, sym, ap, ap₂, ◌∙◌, ◌≤◌, ◌<◌, arith}
+use Rattle.std.specs.Prelude.{if◌then◌else◌, take, drop, nat_lt, option_map, is_some, unwrap_or}
+use Rattle.std.specs.List.{flat_map}
+use Rattle.std.proofs.lemmas.Bool.{ltb-true, ltb-false}
+use Rattle.std.proofs.lemmas.List.{take-append-le, take-append-drop, length-append, length-take-le}
+use Rattle.yspec.specs.schema.Schema.{Schema}
+use Rattle.yspec.specs.document.Document.{Tree}
+use Rattle.yspec.specs.edit.EditText.{Edit}
+use Rattle.yspec.specs.edit.Editing.{applied, tree_or, after}
+use Rattle.yspec_session.specs.Carrying.{Turn}
+use Rattle.yspec_session.specs.Session.{Earlier, Begun, Session, with_turns, without_turns, with_remembered, undone, begun_with, committed, fallen}
+use Rattle.yspec_session.specs.Remembering.{Since, Kept, kept_from, behind_groups, befores, one_more, with_group, begun_here, joined, back_to, trees_of, ground, ground_at, groups_since, kept_since, Remembers}
+
+-- ---- lists
+
+map_take : {A B : Type 0} (f : A → B) (n : ℕ) (xs : List A) → map f (take n xs) ≡ take n (map f xs)
+map_take f zero [] = refl
+map_take f zero (x ∷ xs) = refl
+map_take f (suc n) [] = refl
+map_take f (suc n) (x ∷ xs) = ap (λ ys. f x ∷ ys) (map_take f n xs)
+
+none_taken : {A : Type 0} (xs : List A) → take 0 xs ≡ []
+none_taken [] = refl
+none_taken (x ∷ xs) = refl
+
+all_taken : {A : Type 0} (xs : List A) → take (length xs) xs ≡ xs
+all_taken [] = refl
+all_taken (x ∷ xs) = ap (λ ys. x ∷ ys) (all_taken xs)
+
+fewer_taken : {A : Type 0} (l k : ℕ) (xs : List A) → l ≤ k → take l (take k xs) ≡ take l xs
+fewer_taken zero k xs le = none_taken (take k xs) ∙ sym (none_taken xs)
+fewer_taken (suc l) zero xs le = absurd (omega (arith, le))
+fewer_taken (suc l) (suc k) [] le = refl
+fewer_taken (suc l) (suc k) (x ∷ xs) le = ap (λ ys. x ∷ ys) (fewer_taken l k xs (omega (arith, le)))
+
+more_taken : {A : Type 0} (l k : ℕ) (xs : List A) → k ≤ l → take l (take k xs) ≡ take k xs
+more_taken zero zero xs le = none_taken (take 0 xs) ∙ sym (none_taken xs)
+more_taken zero (suc k) xs le = absurd (omega (arith, le))
+more_taken (suc l) zero xs le = ap (take (suc l)) (none_taken xs) ∙ sym (none_taken xs)
+more_taken (suc l) (suc k) [] le = refl
+more_taken (suc l) (suc k) (x ∷ xs) le = ap (λ ys. x ∷ ys) (more_taken l k xs (omega (arith, le)))
+
+one_in_front : {A : Type 0} (limit n : ℕ) (x : A) (xs : List A) → take limit (x ∷ take n xs) ≡ take (one_more limit n) (x ∷ xs)
+one_in_front limit n x xs = by (nat_lt n limit) refl
+  where
+    front : (limit : ℕ) → n < limit → take limit (x ∷ take n xs) ≡ take (suc n) (x ∷ xs)
+    front zero lt = absurd (omega (arith, lt))
+    front (suc l) lt = ap (λ ys. x ∷ ys) (more_taken l n xs (omega (arith, lt)))
+
+    whole : (limit : ℕ) → limit ≤ n → take limit (x ∷ take n xs) ≡ take limit (x ∷ xs)
+    whole zero le = refl
+    whole (suc l) le = ap (λ ys. x ∷ ys) (fewer_taken l n xs (omega (arith, le)))
+
+    by : (b : Bool) → nat_lt n limit ≡ b → take limit (x ∷ take n xs) ≡ take (if b then n + 1 else limit) (x ∷ xs)
+    by true e = let next : suc n ≡ n + 1 = omega (arith) in front limit (ltb-true n limit e) ∙ ap (λ m. take m (x ∷ xs)) next
+    by false e = whole limit (ltb-false n limit e)
+
+one_more_le : (limit n : ℕ) → one_more limit n ≤ n + 1
+one_more_le limit n = by (nat_lt n limit) refl
+  where
+    by : (b : Bool) → nat_lt n limit ≡ b → (if b then n + 1 else limit) ≤ n + 1
+    by true e = omega (arith)
+    by false e = omega (arith, ltb-false n limit e)
+
+-- ---- groups of edits
+
+after_both : (schema : Schema) (tree : Tree) (xs ys : List Edit) → after schema tree (xs ++ ys) ≡ after schema (after schema tree xs) ys
+after_both schema tree [] ys = refl
+after_both schema tree (x ∷ xs) ys = after_both schema (tree_or (applied schema tree x) tree) xs ys
+
+behind_both : (schema : Schema) (tree : Tree) (gs hs : List (List Edit))
+    → behind_groups schema tree (gs ++ hs) ≡ behind_groups schema (behind_groups schema tree gs) hs
+behind_both schema tree [] hs = refl
+behind_both schema tree (g ∷ gs) hs = behind_both schema (after schema tree g) gs hs
+
+as_one : (schema : Schema) (tree : Tree) (gs : List (List Edit)) → after schema tree (flat_map (λ g. g) gs) ≡ behind_groups schema tree gs
+as_one schema tree [] = refl
+as_one schema tree (g ∷ gs) = after_both schema tree g (flat_map (λ g. g) gs) ∙ as_one schema (after schema tree g) gs
+
+before_last : (schema : Schema) (tree : Tree) (gs : List (List Edit)) (g : List Edit)
+    → befores schema tree (gs ++ g ∷ []) ≡ behind_groups schema tree gs ∷ befores schema tree gs
+before_last schema tree [] g = refl
+before_last schema tree (h ∷ gs) g = ap (λ ts. ts ++ tree ∷ []) (before_last schema (after schema tree h) gs g)
+
+-- the last groups as one leave the same document
+joined_same : (schema : Schema) (tree : Tree) (n : ℕ) (gs : List (List Edit))
+    → behind_groups schema tree (take n gs ++ flat_map (λ g. g) (drop n gs) ∷ []) ≡ behind_groups schema tree gs
+joined_same schema tree n gs = behind_both schema tree (take n gs) (flat_map (λ g. g) (drop n gs) ∷ [])
+    ∙ (as_one schema (behind_groups schema tree (take n gs)) (drop n gs)
+    ∙ (sym (behind_both schema tree (take n gs) (drop n gs)) ∙ ap (behind_groups schema tree) (take-append-drop n gs)))
+
+-- where edits together began nothing changes behind it
+ground_more : (schema : Schema) (base : Tree) (gs more : List (List Edit)) (o : Option Since) → groups_since o ≤ length gs
+    → option_map (ground_at schema base (gs ++ more)) o ≡ option_map (ground_at schema base gs) o
+ground_more schema base gs more None le = refl
+ground_more schema base gs more (Some b) le =
+    ap (λ (xs : List (List Edit)). Some (behind_groups schema base xs, take b.kept (befores schema base xs))) (take-append-le b.groups gs more le)
+
+with_ground : (turns : List Turn) (o : Option Begun) → option_map ground (option_map (with_turns turns) o) ≡ option_map ground o
+with_ground turns None = refl
+with_ground turns (Some b) = refl
+
+without_ground : (o : Option Begun) → option_map ground (option_map without_turns o) ≡ option_map ground o
+without_ground None = refl
+without_ground (Some b) = refl
+
+-- ---- what becomes of it
+
+pub starts : (schema : Schema) (tree : Tree) → Remembers schema (kept_from tree) (record { tree = tree; remembered = []; begun = None })
+starts schema tree = record { tree = refl; earlier = refl; begun = refl; room = omega (arith); inner = omega (arith) }
+
+pub changes : (schema : Schema) (limit : ℕ) (k : Kept) (s : Session) (e : Edit) (later : Tree) (turns : List Turn) → Remembers schema k s
+    → applied schema s.tree e ≡ Ok later → Remembers schema (with_group limit (e ∷ []) k) (with_remembered limit turns later s)
+changes schema limit k s e later turns r is = record {
+  tree = sym (behind_both schema k.base k.groups ((e ∷ []) ∷ []) ∙ ap (λ answer. tree_or answer here) (ap (λ t. applied schema t e) (sym r.tree) ∙ is));
+  earlier = map_take (λ (x : Earlier). x.tree) limit (record { tree = s.tree; turns = turns } ∷ s.remembered)
+      ∙ (ap₂ (λ (t : Tree) (ts : List Tree). take limit (t ∷ ts)) r.tree r.earlier
+      ∙ (one_in_front limit k.kept here (befores schema k.base k.groups)
+      ∙ ap (take (one_more limit k.kept)) (sym (before_last schema k.base k.groups (e ∷ [])))));
+  begun = with_ground turns s.begun ∙ (r.begun ∙ sym (ground_more schema k.base k.groups ((e ∷ []) ∷ []) k.begun (omega (arith, r.room))));
+  room = omega (arith, r.room, one_more_le limit k.kept, length-append k.groups ((e ∷ []) ∷ []));
+  inner = r.inner;
+}
+  where
+    here : Tree
+    here = behind_groups schema k.base k.groups
+
+pub nothing_left : (schema : Schema) (k : Kept) (s : Session) → Remembers schema k s → k.kept ≡ 0 → s.remembered ≡ []
+nothing_left schema k s r none = by s.remembered (r.earlier ∙ (ap (λ n. take n (befores schema k.base k.groups)) none ∙ none_taken (befores schema k.base k.groups)))
+  where
+    by : (es : List Earlier) → trees_of es ≡ [] → es ≡ []
+    by [] e = refl
+    by (x ∷ es) e = absurd cc
+
+-- what is taken back: the last document that is remembered, and the session behind it
+pub record TakenBack (schema : Schema) (k : Kept) (gs : List (List Edit)) (s : Session) : Type 0 where
+  pub earlier : Earlier
+  pub others : List Earlier
+  pub remembered : s.remembered ≡ earlier ∷ others
+  pub tree : earlier.tree ≡ behind_groups schema k.base gs
+  pub held : Remembers schema (record k { groups = gs; kept = k.kept - 1 }) (undone schema s (earlier ∷ others)).1
+
+pub takes_back : (schema : Schema) (k : Kept) (gs : List (List Edit)) (g : List Edit) (s : Session) → Remembers schema k s
+    → k.groups ≡ gs ++ g ∷ [] → (n : ℕ) → k.kept ≡ suc n → TakenBack schema k gs s
+takes_back schema k gs g s r is n more = by s.remembered refl
+    (r.earlier ∙ (ap₂ (λ (m : ℕ) (hs : List (List Edit)). take m (befores schema k.base hs)) more is ∙ ap (take (suc n)) (before_last schema k.base gs g)))
+  where
+    here : Tree
+    here = behind_groups schema k.base gs
+
+    first : Tree → List Tree → Tree
+    first t [] = t
+    first t (u ∷ us) = u
+
+    rest : List Tree → List Tree
+    rest [] = []
+    rest (u ∷ us) = us
+
+    within : groups_since k.begun ≤ length gs
+    within = omega (arith, r.room, ap length is, length-append gs (g ∷ []), more)
+
+    begun : option_map ground (option_map without_turns s.begun) ≡ option_map (ground_at schema k.base gs) k.begun
+    begun = without_ground s.begun ∙ (r.begun ∙ (ap (λ (hs : List (List Edit)). option_map (ground_at schema k.base hs) k.begun) is
+        ∙ ground_more schema k.base gs (g ∷ []) k.begun within))
+
+    by : (es : List Earlier) → s.remembered ≡ es → trees_of es ≡ take (suc n) (here ∷ befores schema k.base gs) → TakenBack schema k gs s
+    by [] e trees = absurd cc
+    by (x ∷ es) e trees = record {
+      earlier = x;
+      others = es;
+      remembered = e;
+      tree = ap (first here) trees;
+      held = record {
+        tree = ap (first here) trees;
+        earlier = ap rest trees ∙ ap (λ m. take m (befores schema k.base gs)) (omega (arith, more));
+        begun = begun;
+        room = omega (arith, r.room, ap length is, length-append gs (g ∷ []), more);
+        inner = r.inner;
+      };
+    }
+
+-- edits together have begun in both, or in neither
+pub begun_in_both : (schema : Schema) (k : Kept) (s : Session) → Remembers schema k s → is_some s.begun ≡ is_some k.begun
+begun_in_both schema k s r = sym (kept_some ground s.begun) ∙ (ap is_some r.begun ∙ kept_some (ground_at schema k.base k.groups) k.begun)
+  where
+    kept_some : {A B : Type 0} (f : A → B) (o : Option A) → is_some (option_map f o) ≡ is_some o
+    kept_some f None = refl
+    kept_some f (Some x) = refl
+
+pub begins : (schema : Schema) (k : Kept) (s : Session) → Remembers schema k s → s.begun ≡ None → Remembers schema (begun_here k) (begun_with s None).1
+begins schema k s r none = record {
+  tree = r.tree;
+  earlier = sym (none_taken (befores schema k.base k.groups));
+  begun = ap₂ (λ (t : Tree) (ts : List Tree). Some (t, ts)) r.tree r.earlier
+      ∙ ap (λ (gs : List (List Edit)). Some (behind_groups schema k.base gs, take k.kept (befores schema k.base gs))) (sym (all_taken k.groups));
+  room = omega (arith);
+  inner = omega (arith, r.room);
+}
+
+-- the document and what could be taken back where edits together began
+began_so : (schema : Schema) (k : Kept) (s : Session) (b : Begun) (since : Since) → Remembers schema k s → s.begun ≡ Some b → k.begun ≡ Some since
+    → ground b ≡ ground_at schema k.base k.groups since
+began_so schema k s b since r is there = ap (λ o. unwrap_or o (ground b))
+    (ap (option_map ground) (sym is) ∙ (r.begun ∙ ap (option_map (ground_at schema k.base k.groups)) there))
+
+since_within : (o : Option Since) (since : Since) (count n : ℕ) → o ≡ Some since → groups_since o + n ≤ count → since.groups ≤ count
+since_within o since count n is le = omega (arith, le, ap groups_since is)
+
+since_inner : (o : Option Since) (since : Since) → o ≡ Some since → kept_since o ≤ groups_since o → since.kept ≤ since.groups
+since_inner o since is le = omega (arith, le, ap groups_since is, ap kept_since is)
+
+pub commits : (schema : Schema) (limit : ℕ) (k : Kept) (s : Session) (b : Begun) (since : Since) → Remembers schema k s → s.begun ≡ Some b
+    → k.begun ≡ Some since → Remembers schema (joined limit since k) (committed limit s (Some b)).1
+commits schema limit k s b since r is there = record {
+  tree = r.tree ∙ sym (joined_same schema k.base since.groups k.groups);
+  earlier = map_take (λ (x : Earlier). x.tree) limit (record { tree = b.tree; turns = flat_map (λ turns. turns) b.turns } ∷ b.remembered)
+      ∙ (ap (λ (p : Tree × List Tree). take limit (p.0 ∷ p.1)) (began_so schema k s b since r is there)
+      ∙ (one_in_front limit since.kept (behind_groups schema k.base front) (befores schema k.base front)
+      ∙ ap (take (one_more limit since.kept)) (sym (before_last schema k.base front all))));
+  begun = refl;
+  room = omega (
+    arith,
+    one_more_le limit since.kept,
+    since_inner k.begun since there r.inner,
+    length-append front (all ∷ []),
+    length-take-le since.groups k.groups (since_within k.begun since (length k.groups) k.kept there r.room),
+  );
+  inner = omega (arith);
+}
+  where
+    front : List (List Edit)
+    front = take since.groups k.groups
+
+    all : List Edit
+    all = flat_map (λ g. g) (drop since.groups k.groups)
+
+-- the document where edits together began
+pub back_tree : (schema : Schema) (k : Kept) (s : Session) (b : Begun) (since : Since) → Remembers schema k s → s.begun ≡ Some b → k.begun ≡ Some since
+    → b.tree ≡ behind_groups schema k.base (take since.groups k.groups)
+back_tree schema k s b since r is there = ap (λ (p : Tree × List Tree). p.0) (began_so schema k s b since r is there)
+
+pub falls : (schema : Schema) (k : Kept) (s : Session) (b : Begun) (since : Since) → Remembers schema k s → s.begun ≡ Some b → k.begun ≡ Some since
+    → Remembers schema (back_to since k) (fallen schema s (Some b)).1
+falls schema k s b since r is there = record {
+  tree = back_tree schema k s b since r is there;
+  earlier = ap (λ (p : Tree × List Tree). p.1) (began_so schema k s b since r is there);
+  begun = refl;
+  room = omega (
+    arith,
+    since_inner k.begun since there r.inner,
+    length-take-le since.groups k.groups (since_within k.begun since (length k.groups) k.kept there r.room),
+  );
+  inner = omega (arith);
+}
