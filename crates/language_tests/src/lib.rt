@@ -20,6 +20,8 @@ mod memory;
 #[cfg(test)]
 mod patterns;
 #[cfg(test)]
+mod referring;
+#[cfg(test)]
 mod restricting;
 #[cfg(test)]
 mod telling;

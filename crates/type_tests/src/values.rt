@@ -95,6 +95,51 @@ fn gives_message(alloc: Global, row: &str) -> Option<bool> {
     Some(message.as_deref().unwrap_or("-") == wanted)
 }
 
+// The number of a member, `-` for none.
+fn member_number(text: &str) -> Option<Option<usize>> {
+    match text {
+        "-" => Some(None),
+        _ => Some(Some(text.parse::<usize>().ok()?)),
+    }
+}
+
+// Whether that member of a type takes what a document has, and the value is then, of no member, what the member's own type takes.
+fn is_taken_by(alloc: Global, of: &YType, raw: &Raw, member: &str, own: &YType) -> Option<bool> {
+    let number = member_number(member)?;
+    let value = of.check(alloc, raw).ok()?;
+    let is_right = value.member() == number && of.is_union() == number.is_some();
+    Some(is_right && value.of_member(None) == own.check(alloc, raw).ok()?)
+}
+
+// The same of a row: the type, what a document has, the member, and its own type.
+fn has_member(alloc: Global, row: &str) -> Option<bool> {
+    let (steps, rest) = row.split_once('/')?;
+    let (text, rest) = rest.split_once('/')?;
+    let (member, own) = rest.split_once('/')?;
+    let raw = raw(alloc, text)?;
+    is_taken_by(
+        alloc,
+        &described(alloc, steps)?,
+        &raw,
+        member,
+        &described(alloc, own)?,
+    )
+}
+
+#[test]
+fn members(rt: HostRuntime) {
+    let rows = "uint8/5/-/uint8
+uint8 > string > union/5/0/uint8
+uint8 > string > union/'5/1/string
+boolean > uint8 > string > union > union/true/0/boolean
+boolean > uint8 > string > union > union/5/1/uint8
+boolean > uint8 > string > union > union/'x/2/string
+uint8 > uint8 > union/5/0/uint8";
+    for row in rows.lines() {
+        assert!(rt; has_member(rt.alloc(), row) == Some(true), "{row:?}");
+    }
+}
+
 #[test]
 fn messages(rt: HostRuntime) {
     let rows = "uint8 > range:1..10~wide > range:2..5~narrow/7/narrow

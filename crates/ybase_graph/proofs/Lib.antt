@@ -1,5 +1,5 @@
-pub mod ChainLemmas
-mod ChainWalkLemmas
+pub mod AmongLemmas
+pub mod GrowthLemmas
 pub mod ReachingLaws
 mod StepLaws
 mod EnterLemmas

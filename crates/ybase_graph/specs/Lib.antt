@@ -1,6 +1,3 @@
-pub mod Chains
-pub mod ChainWalks
-pub mod ChainSamples
 pub mod Reaching
 pub mod Search
 pub mod Edges

@@ -1,5 +1,6 @@
 pub mod CaseLemmas
 pub mod FoundLemmas
+pub mod KeepLemmas
 pub mod LineLemmas
 pub mod MarkLemmas
 pub mod ReferenceLemmas

@@ -12,7 +12,9 @@ use Rattle.yspec.specs.document.Document.{Stored, Tree}
 use Rattle.yspec.specs.document.FaultCode.{V1, V11}
 use Rattle.yspec.specs.document.Fault.{fault, plain_fault}
 use Rattle.yspec.specs.document.Instances.{same_tuple}
-use Rattle.yspec.specs.document.Faults.{Times, requires_instance, reference_faults, value_faults}
+use Rattle.yspec.specs.schema.References.{Reference, reference_in}
+use Rattle.yspec.specs.document.Faults as document_faults
+use Rattle.yspec.specs.document.Faults.{Times, reference_faults, value_faults}
 use Rattle.yinst_tree.specs.View.{view, row_view}
 use Rattle.yinst_tree.specs.declared.tree.Stored as tree
 use Rattle.ycheck.specs.Repeated.{times_among, repeats, marks, values_of, tuples_of}
@@ -85,14 +87,12 @@ next_table {Z} schema tuples found i old new answers whole within are pushed so 
 -- ---- references
 
 reference_is : (times : Times) (type : LeafType) (v : Val) → reference_faults times type v ≡ cond (lacks_instance times type v) (plain_fault V11 [] ∷ []) []
-reference_is times type v = by (requires_instance type.type) type.target
+reference_is times type v = by (reference_in type v)
   where
-    by : (b : Bool) (target : Option ℕ)
-        → cond b (option_map_or (λ m. cond (eqb (times m v) 0) (plain_fault V11 [] ∷ []) []) target []) []
-        ≡ cond (cond b (option_map_or (λ m. eqb (times m v) 0) target false) false) (plain_fault V11 [] ∷ []) []
-    by true (Some m) = refl
-    by true None = refl
-    by false target = refl
+    by : (o : Option Reference) → option_map_or (λ r. cond (document_faults.lacks_instance times r) (plain_fault V11 [] ∷ []) []) o []
+        ≡ cond (option_map_or (document_faults.lacks_instance times) o false) (plain_fault V11 [] ∷ []) []
+    by None = refl
+    by (Some r) = refl
 
 the_value : {E : Type 0} → (r : Result Val E) (w v : Val) → r ≡ Ok w → r ≡ Ok v → w ≡ v
 the_value r w v first second = cc

@@ -1,5 +1,6 @@
 -- What the values of the targets tell, and all faults of a document.
-use Rattle.std.proofs.Common.{◌≡◌, ℕ, Bool, true, false, not, cond, eqb, ◌||◌, [], ◌∷◌, ◌++◌, map, Option, Some, None, refl, sym, ap, ap₂, ◌∙◌}
+use Rattle.std.proofs.Common.{◌≡◌, ℕ, Bool, true, false, not, cond, eqb, ◌&&◌, ◌||◌, [], ◌∷◌, ◌++◌, map, Option, Some, None, refl, sym, ap, ap₂, subst, ◌∙◌}
+use Rattle.std.specs.Prelude.{option_and_then}
 use Rattle.std.proofs.lemmas.Bool.{eq-eqb}
 use Rattle.std.proofs.lemmas.List.{map-id}
 use Rattle.std.specs.List.{list_any}
@@ -12,24 +13,37 @@ use Rattle.yspec.specs.document.Document.{Tree, instances_in}
 use Rattle.yspec.specs.document.FaultCode.{V11}
 use Rattle.yspec.specs.document.Fault.{plain_fault}
 use Rattle.yspec.specs.document.Instances.{times_in}
-use Rattle.yspec.specs.document.Faults.{Times, requires_instance, reference_faults, faults_of}
+use Rattle.yspec.specs.schema.References.{Reference, requires_instance, reference_in}
+use Rattle.yspec.specs.document.Faults.{Times, lacks_instance, reference_faults, faults_of}
 use Rattle.yspec.specs.document.RowFaults.{prefixed}
 use Rattle.yspec.specs.document.Fitting.{IsNumbered}
 use Rattle.yspec.specs.document.Sorting.{IsSorted}
 use Rattle.yspec.proofs.DocumentProofs.CheckingRowLemmas.{rows_are_faults}
 use Rattle.yspec.proofs.DocumentProofs.HeldNodeLemmas.{schema_has_all}
+use Rattle.yspec.proofs.SchemaProofs.AmongLemmas.{reference_among}
 use Rattle.yinst_tree.specs.View.{place_view}
 use Rattle.ycheck.specs.declared.cases.Chosen.TheVariants as variant
 use Rattle.ycheck.specs.declared.checking.Findings.{Findings}
 use Rattle.ycheck.specs.declared.targets.Targets.{Targets}
 use Rattle.ycheck.specs.View.{views}
 use Rattle.ycheck.specs.Found.{Adds}
-use Rattle.ycheck.specs.Targets.{holds, required_target, refers_to, is_target_in, HasValues}
+use Rattle.ycheck.specs.Targets.{holds, required_number, required_where, required_in, required_targets, is_among, refers_to, is_target_in, HasValues}
 use Rattle.ycheck.specs.Walk.{times_of, walked}
 use Rattle.ycheck.proofs.CaseLemmas.{no_case}
 use Rattle.ycheck.proofs.WalkLemmas.{Agree, AllAgree, walked_is}
 
 -- ---- references
+
+-- what a value refers to is among what its type requires, where an instance is required
+required_among : (type : LeafType) (v : Val) (r : Reference) → reference_in type v ≡ Some r → r.is_required ≡ true → is_among r.target (required_in type) ≡ true
+required_among type v r is required =
+    reference_among type v r (option_and_then required_number) (required_where (requires_instance type.type) type.target) is
+    (λ target at same. subst (λ o. is_among target (required_where (requires_instance type.type) o) ≡ true) (sym at)
+    (subst (λ b. is_among target (required_where b (Some target)) ≡ true) (sym (same ∙ required)) (alone target)))
+    (λ m same. ap (λ b. cond b (Some m.target) None) (same ∙ required))
+  where
+    alone : (target : ℕ) → (eqb target target || false) ≡ true
+    alone target = ap (λ b. b || false) (eq-eqb target target refl)
 
 module _ (t : Targets) (times : Times) where
   abbrev Answers : (ℕ → Bool) → Type 0
@@ -39,18 +53,22 @@ module _ (t : Targets) (times : Times) where
   counted held true is = ap (λ b. eqb (cond b 1 0) 0) is
   counted held false is = ap (λ b. eqb (cond b 1 0) 0) is
 
-  type_agrees : (type : LeafType) → Answers (λ number. option_map_or (λ m. eqb m number) (cond (requires_instance type.type) type.target None) false)
-      → (v : Val) → reference_faults (times_of t) type v ≡ reference_faults times type v
-  type_agrees type answers v = by (requires_instance type.type) type.target (λ number asked. answers number v asked)
+  type_agrees : (type : LeafType) → Answers (λ number. is_among number (required_in type)) → (v : Val) → reference_faults (times_of t) type v ≡ reference_faults times type v
+  type_agrees type answers v = by (reference_in type v) refl
     where
-      by : (b : Bool) (target : Option ℕ) → ((number : ℕ) → option_map_or (λ m. eqb m number) (cond b target None) false ≡ true → holds t number v ≡ not (eqb (times number v) 0))
-          → cond b (option_map_or (λ m. cond (eqb (times_of t m v) 0) (plain_fault V11 [] ∷ []) []) target []) []
-          ≡ cond b (option_map_or (λ m. cond (eqb (times m v) 0) (plain_fault V11 [] ∷ []) []) target []) []
-      by true (Some m) so = ap (λ c. cond c (plain_fault V11 [] ∷ []) []) (counted (holds t m v) (eqb (times m v) 0) (so m (eq-eqb m m refl)))
-      by true None so = refl
-      by false target so = refl
+      -- asked only where an instance is required
+      answered : (r : Reference) (b : Bool) → r.is_required ≡ b → (b ≡ true → is_among r.target (required_in type) ≡ true)
+          → (b && eqb (times_of t r.target r.value) 0) ≡ (b && eqb (times r.target r.value) 0)
+      answered r true is asked = counted (holds t r.target r.value) (eqb (times r.target r.value) 0) (answers r.target r.value (asked refl))
+      answered r false is asked = refl
 
-  kind_agrees : (kind : Kind) → Answers (λ number. option_map_or (λ m. eqb m number) (required_target kind) false) → Agree (times_of t) times kind
+      by : (o : Option Reference) → reference_in type v ≡ o
+          → option_map_or (λ r. cond (lacks_instance (times_of t) r) (plain_fault V11 [] ∷ []) []) o []
+          ≡ option_map_or (λ r. cond (lacks_instance times r) (plain_fault V11 [] ∷ []) []) o []
+      by None is = refl
+      by (Some r) is = ap (λ b. cond b (plain_fault V11 [] ∷ []) []) (answered r r.is_required refl (required_among type v r is))
+
+  kind_agrees : (kind : Kind) → Answers (λ number. is_among number (required_targets kind)) → Agree (times_of t) times kind
   kind_agrees (leaf type absence) answers = type_agrees type answers
   kind_agrees (leaf_list type defaults amount) answers = type_agrees type answers
   kind_agrees (container presence) answers = tt

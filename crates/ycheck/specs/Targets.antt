@@ -1,27 +1,45 @@
 -- The values that the targets of leafrefs have (RFC 7950, 9.9).
-use Rattle.std.specs.Prelude.{◌≡◌, ℕ, ◌+◌, ◌==◌, Bool, true, false, not, ◌&&◌, ◌||◌, List, [], Option, None, option_and_then, is_some, nat_lt, count_by, sum_by, if◌then◌else◌}
+use Rattle.std.specs.Prelude.{◌≡◌, ℕ, ◌+◌, ◌==◌, Bool, true, false, not, ◌&&◌, ◌||◌, List, [], ◌++◌, Option, Some, None, option_and_then, option_to_list, is_some, nat_lt, count_by, sum_by, if◌then◌else◌}
 use Rattle.std.specs.Option.{option_map_or}
-use Rattle.std.specs.List.{list_any}
+use Rattle.std.specs.List.{filter_map, list_any}
 use Rattle.std.specs.Map.{lookup}
 use Rattle.std.specs.BTreeSet.{BTreeSet, contains}
 use Rattle.yspec.specs.Forest.{Forest, preorder, weigh_nodes}
 use Rattle.yspec.specs.types.Types.{Val}
 use Rattle.yspec.specs.types.Order.{value_cmp, same_value}
-use Rattle.yspec.specs.schema.Schema.{Schema, SchemaNode, Kind, Absence, default_used, type_in}
+use Rattle.yspec.specs.schema.Schema.{Schema, SchemaNode, Kind, LeafType, MemberTarget, Absence, default_used, type_in}
+use Rattle.yspec.specs.schema.References.{requires_instance}
 use Rattle.yspec.specs.document.Document.{Stored, Tree}
 use Rattle.yspec.specs.document.Play.{items_in_play}
 use Rattle.yspec.specs.document.Instances.{is_value, value_of, times_in_use, times_below, times_at, times_in}
-use Rattle.yspec.specs.document.Faults.{Times, requires_instance}
+use Rattle.yspec.specs.document.Faults.{Times}
 use Rattle.ycheck.specs.declared.targets.Targets.{Targets}
 
 -- ---- targets
 
--- the schema node that a node's values refer to, where its type requires an instance of it
-abbrev pub required_target : Kind → Option ℕ
-required_target kind = option_and_then (λ type. if requires_instance type.type then type.target else None) (type_in kind)
+-- the schema node to which a member of a union refers, where an instance of it is required
+abbrev pub required_number : MemberTarget → Option ℕ
+required_number m = if m.is_required then Some m.target else None
+
+abbrev pub required_by_members : List (Option MemberTarget) → List ℕ
+required_by_members targets = filter_map (option_and_then required_number) targets
+
+abbrev pub required_where : Bool → Option ℕ → List ℕ
+required_where is_required target = if is_required then option_to_list target else []
+
+-- the schema nodes to which the values of a type refer, where instances of them are required
+abbrev pub required_in : LeafType → List ℕ
+required_in type = required_where (requires_instance type.type) type.target ++ required_by_members type.targets
+
+-- and those of a node
+abbrev pub required_targets : Kind → List ℕ
+required_targets kind = option_map_or required_in (type_in kind) []
+
+abbrev pub is_among : ℕ → List ℕ → Bool
+is_among number numbers = list_any (λ n. n == number) numbers
 
 abbrev pub refers_to : ℕ → SchemaNode → Bool
-refers_to number n = option_map_or (λ target. target == number) (required_target n.kind) false
+refers_to number n = is_among number (required_targets n.kind)
 
 -- whether a node of a row, or one below it, refers to the schema node of a number
 abbrev pub is_target_in : Forest SchemaNode → ℕ → Bool
@@ -49,6 +67,14 @@ HasValues targets schema tree = (number : ℕ) (v : Val) → is_target schema nu
     → holds targets number v ≡ not (times_in schema tree number v == 0)
 
 -- ---- while they are gathered
+
+-- They are kept of these schema nodes besides.
+abbrev pub KeepsMore : Targets → Targets → List ℕ → Type 0
+KeepsMore old new numbers = (number : ℕ) → is_kept new number ≡ (is_kept old number || is_among number numbers)
+
+-- Of each schema node the same values are held.
+abbrev pub HoldsSame : Targets → Targets → Type 0
+HoldsSame old new = (number : ℕ) (v : Val) → holds new number v ≡ holds old number v
 
 -- They are kept of the same schema nodes as before, and hold besides what instances have, so often as said.
 abbrev pub Gathers : Targets → Targets → Times → Type 0

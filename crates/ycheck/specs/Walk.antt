@@ -1,6 +1,6 @@
 -- What one walk over a row of schema nodes and the row that is stored under it tells. Siblings stand in the order of
 -- their schema nodes' numbers, so that each node finds its instances at the front of what is left.
-use Rattle.std.specs.Prelude.{ℕ, suc, ◌+◌, ◌++◌, ◌==◌, Bool, false, List, [], ◌∷◌, map, length, option_and_then, Option, Some, None, get_or, nat_lt, if◌then◌else◌}
+use Rattle.std.specs.Prelude.{ℕ, suc, ◌+◌, ◌++◌, Bool, false, List, [], ◌∷◌, map, length, option_and_then, Option, Some, None, get_or, nat_lt, if◌then◌else◌}
 use Rattle.std.specs.Option.{option_map_or}
 use Rattle.yspec.specs.Forest.{Forest, end, node, weigh_row}
 use Rattle.yspec.specs.text.Text.{Text}
@@ -12,7 +12,9 @@ use Rattle.yspec.specs.document.FaultCode.{V4, V5, V10}
 use Rattle.yspec.specs.document.Fault.{Fault, fault_with, choice_name, plain_fault}
 use Rattle.yspec.specs.document.Play.{stored_cases}
 use Rattle.yspec.specs.document.Instances.{Tuple, is_value, is_tuple, paths_of, same_tuple, tuple_of_paths}
-use Rattle.yspec.specs.document.Faults.{Times, requires_instance, value_faults, tuple_info, tuple_code, under}
+use Rattle.yspec.specs.schema.References.{reference_in}
+use Rattle.yspec.specs.document.Faults as faults
+use Rattle.yspec.specs.document.Faults.{Times, value_faults, tuple_info, tuple_code, under}
 use Rattle.yspec.specs.document.RowFaults.{absent_leaf_faults, wrong_amount}
 use Rattle.yinst_tree.specs.Walk.{mine, others}
 use Rattle.yinst_tree.specs.declared.tree.Stored as tree
@@ -31,9 +33,9 @@ use Rattle.ycheck.specs.declared.cases.Chosen.TheVariants as chosen
 abbrev pub times_of : Targets → Times
 times_of t number v = if holds t number v then 1 else 0
 
+-- whether a value refers to an instance that must be there and isn't
 abbrev pub lacks_instance : Times → LeafType → Val → Bool
-lacks_instance times type v = if requires_instance type.type
-    then option_map_or (λ target. times target v == 0) type.target false else false
+lacks_instance times type v = option_map_or (faults.lacks_instance times) (reference_in type v) false
 
 abbrev pub value_told : Times → Kind → Option Raw → List Fault
 value_told times (leaf type absence) value = option_map_or (value_faults times type) value []

@@ -7,11 +7,12 @@ ghost use Rattle.yspec.specs.document.Document.{step_to};
 ghost use Rattle.yspec.specs.document.Fault.{fault_with, plain_fault};
 ghost use Rattle.yspec.specs.document.FaultCode.{own_app_tag};
 ghost use Rattle.yspec.specs.document.Play.{exceeds};
+ghost use Rattle.yspec.specs.document.Faults as document_faults;
 ghost use Rattle.yspec.specs.document.Faults.{faults_of, value_faults};
 ghost use Rattle.yspec.specs.document.RowFaults.{wrong_amount, absent_leaf_faults};
 ghost use Rattle.yspec.specs.document.Sorting.{IsSorted};
 ghost use Rattle.ytype.specs.View.{raw_of};
-ghost use Rattle.yschema_model.specs.Layout.{leaf_type_view, absence_view, amount_view, tuples_view, kind_view};
+ghost use Rattle.yschema_model.specs.Layout.{leaf_type_view, reference_view, absence_view, amount_view, tuples_view, kind_view};
 ghost use Rattle.yschema_model.specs.View as schema_view;
 ghost use Rattle.yinst_tree.specs.View as document_view;
 ghost use Rattle.yinst_tree.specs.Walk.{others};
@@ -27,7 +28,8 @@ use crate::targets::Targets;
 use std::alloc::{AllocError, Global};
 use yinst_tree::{Step, Stored, Tree, instances_of};
 use yschema_model::{
-    Absence, Amount, Child, Children, Kind, LeafType, Schema, SchemaId, SchemaNode, Tuples,
+    Absence, Amount, Child, Children, Kind, LeafType, Reference, Schema, SchemaId, SchemaNode,
+    Tuples,
 };
 use ytype::{BadValue, Raw, Val};
 
@@ -431,7 +433,7 @@ fn check_raw(
 {
     match leaf_type.value_type.check(findings.alloc, raw) {
         Ok(value) => {
-            if lacks_instance(targets, leaf_type, &value) {
+            if lacks_instance(targets, leaf_type, value) {
                 tell(FaultCode::V11, Info::None, findings)
             } else {
                 Ok(())
@@ -442,18 +444,23 @@ fn check_raw(
     }
 }
 
-/// Whether a value of a type that requires an instance has none.
-fn lacks_instance(targets: &Targets, leaf_type: &LeafType, value: &Val) -> bool
+/// Whether a value requires an instance that isn't there.
+fn lacks_instance(targets: &Targets, leaf_type: &LeafType, value: Val) -> bool
     ensures { result ≡ lacks_instance (times_of targets.now)
-        (leaf_type_view leaf_type.now) value.now }
+        (leaf_type_view leaf_type.now) value }
 {
-    if leaf_type.value_type.requires_instance() != Some(true) {
-        return false;
-    }
-    match leaf_type.target {
-        Some(target) => !targets.has(target, value),
+    match leaf_type.reference(value) {
+        Some(reference) => is_missing(targets, &reference),
         None => false,
     }
+}
+
+/// Whether what a value refers to must be there and isn't.
+fn is_missing(targets: &Targets, reference: &Reference) -> bool
+    ensures { result
+        ≡ document_faults.lacks_instance (times_of targets.now) (reference_view reference.now) }
+{
+    reference.is_required && !targets.has(reference.target, &reference.value)
 }
 
 /// Of entries, for the key and each `unique`, which of them have a tuple that another has; of items of a configuration

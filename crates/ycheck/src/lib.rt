@@ -14,4 +14,4 @@ pub use checking::faults;
 pub use fault::{ErrorTag, Fault, FaultCode, FaultParts, Info, LentInfo};
 pub use lines::{LineFault, write_line, write_parts, write_path};
 pub use repeated::tuple_of;
-pub use values::value_of;
+pub use values::{valid_value, value_of};

@@ -1,11 +1,11 @@
 //! The values that the targets of leafrefs have (RFC 7950, 9.9).
 
-ghost use Rattle.std.specs.Prelude.{◌≡◌, ◌||◌, true, [], OnOk};
+ghost use Rattle.std.specs.Prelude.{◌≡◌, ◌||◌, ◌==◌, true, [], ◌∷◌, Some, OnOk, if◌then◌else◌};
 ghost use Rattle.yspec.specs.Forest.{end, node};
 ghost use Rattle.yspec.specs.schema.Schema as spec;
 ghost use Rattle.yspec.specs.document.Document.{instances_in};
 ghost use Rattle.yspec.specs.document.Sorting.{IsSorted};
-ghost use Rattle.yschema_model.specs.Layout.{number_of, absence_view};
+ghost use Rattle.yschema_model.specs.Layout.{number_of, absence_view, leaf_type_view, targets_view};
 ghost use Rattle.yschema_model.specs.View as schema_view;
 ghost use Rattle.yinst_tree.specs.View as document_view;
 ghost use Rattle.ycheck.specs.Cases.{Chooses};
@@ -16,7 +16,7 @@ use crate::values::value_of;
 use std::alloc::{AllocError, Global};
 use std::collections::{BTreeMap, BTreeSet};
 use yinst_tree::{Stored, Tree, instances_of};
-use yschema_model::{Absence, Child, Children, Kind, Schema, SchemaId};
+use yschema_model::{Absence, Child, Children, Kind, LeafType, MemberTargets, Schema, SchemaId};
 use ytype::Val;
 
 /// For each schema node that a leafref requires an instance of, the values that its instances have, defaults in use
@@ -31,7 +31,7 @@ impl Targets {
     ghost use Rattle.yspec.specs.document.Sorting.{IsSorted};
     ghost use Rattle.yschema_model.specs.View as schema_view;
     ghost use Rattle.yinst_tree.specs.View as document_view;
-    ghost use Rattle.ycheck.specs.Targets.{is_kept, holds, one_value, HasValues, Gathers};
+    ghost use Rattle.ycheck.specs.Targets.{is_kept, holds, one_value, HasValues, HoldsSame, Gathers};
 
     /// The values that a document has. Nothing is walked where no leafref requires an instance.
     pub(crate) fn of(alloc: Global, schema: &Schema, tree: &Tree) -> Result<Targets, AllocError>
@@ -68,8 +68,7 @@ impl Targets {
     fn keep(&mut self, alloc: Global, id: SchemaId) -> Result<(), AllocError>
         ensures kept { OnOk result ((number : _) → is_kept self.new number
             ≡ (is_kept self.old number || id.0 == number)) }
-        ensures held { OnOk result ((number v : _) → holds self.new number v
-            ≡ holds self.old number v) }
+        ensures held { OnOk result (HoldsSame self.old self.new) }
     {
         if !self.is_kept(id) {
             self.sets.insert(id, BTreeSet::new(alloc))?;
@@ -88,22 +87,6 @@ impl Targets {
     }
 }
 
-/// The schema node that a node's values refer to, where its type requires an instance of it.
-fn required_target(kind: &Kind) -> Option<SchemaId>
-    ensures { number_of result ≡ words.required_target (schema_view.kind_view kind.now) }
-{
-    match kind {
-        Kind::Leaf { leaf_type, .. } | Kind::LeafList { leaf_type, .. } => {
-            if leaf_type.value_type.requires_instance() == Some(true) {
-                leaf_type.target
-            } else {
-                None
-            }
-        }
-        _ => None,
-    }
-}
-
 /// Keeps the values of the schema nodes to which these or those below them refer.
 fn keep_targets(
     alloc: Global,
@@ -113,8 +96,7 @@ fn keep_targets(
     ensures kept { OnOk result ((number : _) → words.is_kept targets.new number
         ≡ (words.is_kept targets.old number
         || words.is_target_in (schema_view.row_view children.entry) number)) }
-    ensures held { OnOk result ((number v : _) → words.holds targets.new number v
-        ≡ words.holds targets.old number v) }
+    ensures held { OnOk result (words.HoldsSame targets.old targets.new) }
 {
     for child in children {
         keep_target(alloc, child, targets)?;
@@ -123,15 +105,110 @@ fn keep_targets(
     Ok(())
 }
 
-/// Keeps the values of the schema node to which a node refers.
+/// Keeps the values of the schema nodes to which a node refers.
 fn keep_target(alloc: Global, child: Child<'_>, targets: &mut Targets) -> Result<(), AllocError>
     ensures kept { OnOk result ((number : _) → words.is_kept targets.new number
         ≡ (words.is_kept targets.old number
         || words.refers_to number (schema_view.label_of child.entry))) }
-    ensures held { OnOk result ((number v : _) → words.holds targets.new number v
-        ≡ words.holds targets.old number v) }
+    ensures held { OnOk result (words.HoldsSame targets.old targets.new) }
 {
-    match required_target(&child.node().kind) {
+    keep_of_kind(alloc, &child.node().kind, targets)
+}
+
+fn keep_of_kind(alloc: Global, kind: &Kind, targets: &mut Targets) -> Result<(), AllocError>
+    ensures kept { OnOk result (words.KeepsMore targets.old targets.new
+        (words.required_targets (schema_view.kind_view kind.now))) }
+    ensures held { OnOk result (words.HoldsSame targets.old targets.new) }
+{
+    match kind.leaf_type() {
+        Some(leaf_type) => keep_of_type(alloc, leaf_type, targets),
+        None => Ok(()),
+    }
+}
+
+/// Keeps the values of the schema nodes to which values of a type refer, where instances are required.
+fn keep_of_type(
+    alloc: Global,
+    leaf_type: &LeafType,
+    targets: &mut Targets,
+) -> Result<(), AllocError>
+    ensures kept { OnOk result (words.KeepsMore targets.old targets.new
+        (words.required_in (leaf_type_view leaf_type.now))) }
+    ensures held { OnOk result (words.HoldsSame targets.old targets.new) }
+{
+    let is_required = leaf_type.value_type.requires_instance().unwrap_or(false);
+    keep_where(alloc, is_required, leaf_type.target, targets)?;
+    keep_members(alloc, &leaf_type.targets, targets)
+}
+
+/// Keeps the values of those to which members of a union refer.
+fn keep_members(
+    alloc: Global,
+    all: &[MemberTargets],
+    targets: &mut Targets,
+) -> Result<(), AllocError>
+    ensures kept { OnOk result (words.KeepsMore targets.old targets.new
+        (words.required_by_members (targets_view all.now))) }
+    ensures held { OnOk result (words.HoldsSame targets.old targets.new) }
+{
+    for members in all {
+        keep_each(alloc, *members, targets)?;
+    }
+    Ok(())
+}
+
+fn keep_each(alloc: Global, members: MemberTargets, targets: &mut Targets) -> Result<(), AllocError>
+    ensures kept { OnOk result (words.KeepsMore targets.old targets.new
+        (words.required_by_members (targets_view (members ∷ [])))) }
+    ensures held { OnOk result (words.HoldsSame targets.old targets.new) }
+{
+    match members {
+        MemberTargets::Own(_) => Ok(()),
+        MemberTargets::One {
+            target,
+            is_required,
+        } => keep_where(alloc, is_required, Some(target), targets),
+        MemberTargets::All {
+            target,
+            count,
+            is_required,
+        } => keep_all(alloc, target, count, is_required, targets),
+    }
+}
+
+/// Keeps the values of a schema node to which so many members refer.
+fn keep_all(
+    alloc: Global,
+    target: SchemaId,
+    count: usize,
+    is_required: bool,
+    targets: &mut Targets,
+) -> Result<(), AllocError>
+    ensures kept { OnOk result (words.KeepsMore targets.old targets.new
+        (if count == 0 then [] else words.required_where is_required (Some target.0))) }
+    ensures held { OnOk result (words.HoldsSame targets.old targets.new) }
+{
+    if count == 0 {
+        return Ok(());
+    }
+    keep_where(alloc, is_required, Some(target), targets)
+}
+
+/// Keeps the values of a schema node, if there is one and an instance of it is required.
+fn keep_where(
+    alloc: Global,
+    is_required: bool,
+    target: Option<SchemaId>,
+    targets: &mut Targets,
+) -> Result<(), AllocError>
+    ensures kept { OnOk result (words.KeepsMore targets.old targets.new
+        (words.required_where is_required (number_of target))) }
+    ensures held { OnOk result (words.HoldsSame targets.old targets.new) }
+{
+    if !is_required {
+        return Ok(());
+    }
+    match target {
         Some(id) => targets.keep(alloc, id),
         None => Ok(()),
     }

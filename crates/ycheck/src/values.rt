@@ -16,7 +16,7 @@ use yschema_model::{Absence, Kind, Schema, SchemaId};
 use ytype::{BadValue, Raw, Val, YType};
 
 /// The value that a type takes, where it takes it.
-pub(crate) fn valid_value(
+pub fn valid_value(
     alloc: Global,
     value_type: &YType,
     raw: Option<&Raw>,

@@ -1,6 +1,6 @@
 -- The type `empty` bears no restriction, whatever a `type` statement means, and so what types take tells it.
 use Rattle.std.proofs.Common.{◌≡◌, ℕ, zero, suc, ◌+◌, ℤ, Bool, true, false, cond, ◌&&◌, List, [], ◌∷◌, Option, Some, None, is_some, option_map, refl, ap, ◌∙◌, subst}
-use Rattle.std.specs.Prelude.{codes, option_and_then, nat_lt}
+use Rattle.std.specs.Prelude.{codes, sum_by, option_and_then, nat_lt}
 use Rattle.std.specs.List.{list_any}
 use Rattle.std.specs.Option.{option_map_or}
 use Rattle.yspec.specs.Forest.{Forest, end, node, row, size}
@@ -17,7 +17,7 @@ use Rattle.yspec.specs.linking.Keyword as word
 use Rattle.yspec.specs.linking.Scopes.{Placed}
 use Rattle.yspec.specs.linking.Source.{Source, is_source_of, argument_in, argument_with, found_with}
 use Rattle.yspec.specs.linking.TypeStatements as spec
-use Rattle.yspec.specs.linking.DerivedTypes.{Known, known_by, known_in_row, known_within, known_named, named, number_named, typedef_row, verdict_by, is_member, verdict_of, meant_by}
+use Rattle.yspec.specs.linking.DerivedTypes.{Known, known_by, known_in_row, known_within, known_named, named, number_named, typedef_row, verdict_by, is_own_member, verdict_of, meant_by}
 use Rattle.yspec_wide.specs.VersionBreaks.{is_empty_type}
 use Rattle.ylink.specs.EmptyView.{IsBareShape, IsBare, IsBareMeant, are_alike}
 
@@ -233,8 +233,16 @@ bare_union (v ∷ vs) n e = by (spec.member_types (v ∷ vs)) n e
     of true ts n e = absurd cc
     of false ts n e = bare_means (spec.own (restriction.union_type ts)) tt n e
 
-    by : (o : Option (List types.YangType)) → IsBareVerdict (option_map_or spec.of_members o spec.unjudged)
-    by None n e = absurd cc
+    of_others : (b : Bool) (ms : List spec.Member) → IsBareVerdict (cond b spec.too_large (spec.means (spec.of_union ms)))
+    of_others true ms n e = absurd cc
+    of_others false ms n e = bare_means (spec.of_union ms) tt n e
+
+    referring : (o : Option (List spec.Member)) → IsBareVerdict (option_map_or spec.referring_union o spec.unjudged)
+    referring None n e = absurd cc
+    referring (Some ms) n e = of_others (nat_lt spec.member_limit (sum_by spec.width_of ms)) ms n e
+
+    by : (o : Option (List types.YangType)) → IsBareVerdict (option_map_or spec.of_members o (option_map_or spec.referring_union (spec.members_in (v ∷ vs)) spec.unjudged))
+    by None n e = referring (spec.members_in (v ∷ vs)) n e
     by (Some ts) n e = of (nat_lt spec.member_limit (restriction.member_count (restriction.union_type ts))) ts n e
 
 bare_leafref : (is_member : Bool) (s : Source) (below : Forest Source) → IsBareVerdict (spec.leafref_verdict is_member s below)
@@ -284,6 +292,7 @@ bare_restricted s below (spec.of_target home steps required) n bare e =
     by : (b r : Bool) → cond b (Some (spec.of_target home steps r)) None ≡ Some n → IsBareMeant n
     by true r e = let same : spec.of_target home steps r ≡ n = cc in subst IsBareMeant same tt
     by false r e = absurd cc
+bare_restricted s below (spec.of_union members) n bare e = absurd cc
 
 bare_all_restricted : (f : Forest Source) (m n : spec.Meant) → IsBareMeant m → spec.restricted_in f m ≡ Some n → IsBareMeant n
 unfolding spec.restricted_in
@@ -303,6 +312,7 @@ bare_all_matched f (spec.own type) n bare e = by (spec.matched_in f type) refl e
     by (Some t) is e = let same : spec.own t ≡ n = cc in subst IsBareMeant same (bare_matched f type t bare is)
 bare_all_matched f (spec.of_target home steps required) n bare e =
     let same : spec.of_target home steps required ≡ n = cc in subst IsBareMeant same tt
+bare_all_matched f (spec.of_union members) n bare e = let same : spec.of_union members ≡ n = cc in subst IsBareMeant same tt
 
 bare_to : (r : List Naming → restriction.Restriction) (name : Text) (number : Forest Source → Option ℤ) (f : Forest Source) (type t : types.YangType) → IsBare type
     → spec.restricted_to r name (λ s inner. true) number f type ≡ Some t → IsBare t
@@ -331,6 +341,7 @@ bare_all_named f (spec.own type) n bare e = by (spec.restricted_to restriction.o
     by (Some t) is e = behind t _ (bare_to restriction.of_enums spec.enum_text spec.value_stated f type t bare is) refl e
 bare_all_named f (spec.of_target home steps required) n bare e =
     let same : spec.of_target home steps required ≡ n = cc in subst IsBareMeant same tt
+bare_all_named f (spec.of_union members) n bare e = let same : spec.of_union members ≡ n = cc in subst IsBareMeant same tt
 
 bare_derived : (is_member : Bool) (below : Forest Source) (v : spec.Verdict) → IsBareVerdict v → IsBareVerdict (spec.derived is_member below v)
 bare_derived is_member below spec.wrong bare n e = absurd cc
@@ -402,5 +413,5 @@ module _ (modules : Forest Source) where
 
       by : (b : Bool) → cond b (spec.meaning_of (verdict_of modules p)) None ≡ Some m → IsBareMeant m
       by false e = absurd cc
-      by true e = bare_verdict modules names (is_member p.ancestors) p.source p.below (spec.verdicts modules names p.below)
+      by true e = bare_verdict modules names (is_own_member p) p.source p.below (spec.verdicts modules names p.below)
           (bare_named (known_within modules (size modules)) (λ k. bare_known (size modules) k)) m e

@@ -1,5 +1,5 @@
 -- Verdicts in a table, and on the members of a union, one after another.
-use Rattle.std.proofs.Common.{◌≡◌, ℕ, Bool, true, false, cond, List, [], ◌∷◌, ◌++◌, length, Option, Some, None, map, refl, sym, ap, ap₂, ◌∙◌}
+use Rattle.std.proofs.Common.{◌≡◌, ℕ, Bool, true, false, not, ◌&&◌, cond, List, [], ◌∷◌, ◌++◌, length, Option, Some, None, map, refl, sym, ap, ap₂, ◌∙◌}
 use Rattle.std.specs.Global.{Box}
 use Rattle.std.specs.Prelude.{slice_get, slice_set, option_map, option_and_then}
 use Rattle.std.specs.List.{flat_map}
@@ -13,7 +13,7 @@ use Rattle.yspec.specs.linking.Source.{Source, is_source_of}
 use Rattle.yspec.specs.linking.Scopes.{Placed, statement_at, statements_of}
 use Rattle.yspec.specs.linking.TypeStatements as spec
 use Rattle.yspec.specs.linking.DerivedTypes as derived
-use Rattle.yspec.specs.linking.DerivedTypes.{is_member, verdict_by, known_named, type_meant, type_break, type_breaks}
+use Rattle.yspec.specs.linking.DerivedTypes.{is_own_member, verdict_by, known_named, type_meant, type_break, type_breaks}
 use Rattle.yspec_wide.specs.Types.{Keeping, all_names, verdict_at, verdict_of, verdicts_of, verdict_on_of, known_named_of, meant_of}
 use Rattle.yspec_wide.proofs.CoreTypeLemmas.{verdict_alike, verdicts_alike, known_named_alike}
 use Rattle.ybase_preorder.specs.Layout.{numbered_by}
@@ -38,7 +38,7 @@ seam so_far mid full new inner y x n mid_is full_is n_is new_is =
 
 module _ (kept : Keeping) (modules : Forest Source) (named : ℕ → spec.Verdict) where
   abbrev one_judged : Source → Forest Source → spec.Verdict
-  one_judged s below = verdict_of kept modules named true s below (verdicts_of kept modules named below)
+  one_judged s below = verdict_of kept modules named (not s.may_refer) s below (verdicts_of kept modules named below)
 
   none_judged : verdicts_of kept modules named end ≡ []
   unfolding verdicts_of
@@ -57,7 +57,7 @@ module _ (kept : Keeping) (modules : Forest Source) (named : ℕ → spec.Verdic
     no_member false so_far whole other made = made
 
     pub next_member : (u : Bool) (so_far more : List spec.Verdict) (v : spec.Verdict) (whole : List spec.Verdict) → is_source_of type_word s ≡ true
-        → more ≡ so_far ++ members_in u v → v ≡ verdict_of kept modules named u s below (verdicts_of kept modules named below)
+        → more ≡ so_far ++ members_in u v → v ≡ verdict_of kept modules named (u && not s.may_refer) s below (verdicts_of kept modules named below)
         → so_far ++ members_below kept modules named u before ≡ whole → more ++ members_below kept modules named u after ≡ whole
     next_member true so_far more v whole stands added is made = next_verdict one_judged (verdicts_of kept modules named) none_judged
         judged_step s below after before first so_far more v whole stands added is made
@@ -118,13 +118,13 @@ kept_held kept f table are n =
 -- ---- all names
 
 module _ (modules : Forest Source) where
-  on_alike : (p : Placed) → verdict_on_of all_names modules (verdict_by (known_named_of all_names modules)) (is_member p.ancestors) p.source p.below
+  on_alike : (p : Placed) → verdict_on_of all_names modules (verdict_by (known_named_of all_names modules)) (is_own_member p) p.source p.below
       ≡ derived.verdict_of modules p
   on_alike p =
       let named = verdict_by (known_named modules) in
-      ap (λ known. verdict_on_of all_names modules (verdict_by known) (is_member p.ancestors) p.source p.below) (known_named_alike modules)
-      ∙ (ap (verdict_of all_names modules named (is_member p.ancestors) p.source p.below) (verdicts_alike modules named p.below)
-      ∙ verdict_alike modules named (is_member p.ancestors) p.source p.below (spec.verdicts modules named p.below))
+      ap (λ known. verdict_on_of all_names modules (verdict_by known) (is_own_member p) p.source p.below) (known_named_alike modules)
+      ∙ (ap (verdict_of all_names modules named (is_own_member p) p.source p.below) (verdicts_alike modules named p.below)
+      ∙ verdict_alike modules named (is_own_member p) p.source p.below (spec.verdicts modules named p.below))
 
   judged_alike : judged_of all_names modules (verdict_by (known_named_of all_names modules)) ≡ judged modules (verdict_by (known_named modules))
   judged_alike = fun_ext (λ p. ap (λ v. cond (is_source_of type_word p.source) (Some v) None) (on_alike p))

@@ -26,6 +26,7 @@ IsBare type = IsBareShape type.shape
 abbrev pub IsBareMeant : spec.Meant → Type 0
 IsBareMeant (spec.own type) = IsBare type
 IsBareMeant (spec.of_target home steps required) = ⊤
+IsBareMeant (spec.of_union members) = ⊤
 
 -- what statements mean, by the verdicts on them
 abbrev pub meant_held : List (Option spec.Verdict) → ℕ → Option spec.Meant

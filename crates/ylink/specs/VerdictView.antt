@@ -7,7 +7,7 @@ use Rattle.yspec.specs.linking.Keyword.{type_word}
 use Rattle.yspec.specs.linking.Source.{Source, is_source_of}
 use Rattle.yspec.specs.linking.Scopes.{Placed, statements_of}
 use Rattle.yspec.specs.linking.TypeStatements as spec
-use Rattle.yspec.specs.linking.DerivedTypes.{is_member, verdict_by, known_named}
+use Rattle.yspec.specs.linking.DerivedTypes.{is_own_member, verdict_by, known_named}
 use Rattle.yspec_wide.specs.Types.{Keeping, verdicts_of, verdict_on_of, known_named_of}
 use Rattle.ylink_types.specs.TypeView.{verdict_view}
 use Rattle.ylink_types.specs.declared.types.Verdict.{Verdict}
@@ -34,12 +34,12 @@ members_below kept modules named in_union row = if in_union then verdicts_of kep
 -- number names
 abbrev pub judged : Forest Source → (ℕ → spec.Verdict) → Placed → Option spec.Verdict
 judged modules named p = if is_source_of type_word p.source
-    then Some (spec.verdict_on modules named (is_member p.ancestors) p.source p.below) else None
+    then Some (spec.verdict_on modules named (is_own_member p) p.source p.below) else None
 
 -- the same over the names of values that are kept
 abbrev pub judged_of : Keeping → Forest Source → (ℕ → spec.Verdict) → Placed → Option spec.Verdict
 judged_of kept modules named p = if is_source_of type_word p.source
-    then Some (verdict_on_of kept modules named (is_member p.ancestors) p.source p.below) else None
+    then Some (verdict_on_of kept modules named (is_own_member p) p.source p.below) else None
 
 -- the table holds that on each `type` statement of a set
 abbrev pub AreVerdicts : List (Option (Box Verdict)) → Forest Source → Type 0

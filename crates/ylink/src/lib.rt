@@ -23,4 +23,4 @@ pub use modules::prefixed_in;
 pub use statements::Statements;
 pub use versions::means_empty;
 pub use ylink_grammar::{CompileCode, Language};
-pub use ylink_types::{Kept, Meant};
+pub use ylink_types::{Kept, Meant, Member};

@@ -1,6 +1,6 @@
 //! The verdict on each `type` statement of a set, by the statement's number (RFC 7950, 7.4 and 9).
 
-ghost use Rattle.std.specs.Prelude.{◌≡◌, ◌++◌, List, Some, IfOk, OnOk, map, option_map, slice_set};
+ghost use Rattle.std.specs.Prelude.{◌≡◌, ◌++◌, ◌&&◌, List, Some, IfOk, OnOk, not, map, option_map, slice_set};
 ghost use Rattle.yspec.specs.linking.DerivedTypes.{is_member};
 ghost use Rattle.yspec.specs.linking.Scopes.{placed};
 ghost use Rattle.ybase_preorder.specs.View.{row_by};
@@ -36,6 +36,7 @@ fn set_verdict<'t>(
 
 /// Adds a verdict to those on the members of a union, where it is on one.
 fn add_member<'t>(
+    alloc: Global,
     is_member: bool,
     verdict: &Verdict<'t>,
     members: &mut Vec<Verdict<'t>>,
@@ -44,9 +45,16 @@ fn add_member<'t>(
         ≡ map verdict_view members.old.items ++ members_in is_member (verdict_view verdict.now)) }
 {
     if is_member {
-        members.push(verdict.copy()?)?;
+        members.push(verdict.copy(alloc)?)?;
     }
     Ok(())
+}
+
+/// Whether a `type` statement, which is a member of a union or not, is one that may not be a leafref.
+fn is_own_member(in_union: bool, statement: &Source<'_>) -> bool
+    ensures { result ≡ (in_union && not statement.now.may_refer) }
+{
+    in_union && !statement.may_refer
 }
 
 /// Adds the verdicts on the `type` statements among the statements of a row, and below it, to a table, given which names of
@@ -79,8 +87,9 @@ fn add_verdicts<'t>(
         if !is_type {
             continue;
         }
-        let verdict = judge_type(alloc, sources, typedefs, kept, in_union, statement, inner)?;
-        add_member(in_union, &verdict, &mut members)?;
+        let is_own = is_own_member(in_union, statement.label());
+        let verdict = judge_type(alloc, sources, typedefs, kept, is_own, statement, inner)?;
+        add_member(alloc, in_union, &verdict, &mut members)?;
         set_verdict(alloc, table, number, verdict)?;
     }
     Ok(members)

@@ -72,7 +72,7 @@ pub fn means_empty(alloc: Global, meant: &Meant<'_>) -> Result<bool, AllocError>
 {
     match meant {
         Meant::Own(own) => is_empty(alloc, own),
-        Meant::OfTarget { .. } => Ok(false),
+        Meant::OfTarget { .. } | Meant::OfUnion(_) => Ok(false),
     }
 }
 

@@ -1,5 +1,5 @@
 -- The statements of a table as the specification's.
-use Rattle.std.specs.Prelude.{ℕ, List, Option, map}
+use Rattle.std.specs.Prelude.{ℕ, Bool, List, Option, map}
 use Rattle.yspec.specs.Forest.{Forest}
 use Rattle.yspec.specs.text.Statement.{Statement}
 use Rattle.yspec.specs.linking.Keyword as spec
@@ -21,6 +21,7 @@ source_view number s = record {
   statement = (text.view s.statement.now).0;
   number = number;
   home = s.home;
+  may_refer = s.may_refer;
 }
 
 abbrev pub stated_view : Stated → spec_source.Stated
@@ -34,8 +35,8 @@ abbrev pub whole_rows : Table Source → List text.Labelled
 whole_rows t = map (λ p. text.view p.label.statement.now) (laid (slots_in t))
 
 -- how statements that are kept lie below one, from a number on
-abbrev pub listed : Option ℕ → ℕ → ℕ → Forest (spec.Keyword × Statement) → List (Place spec_source.Source)
-listed parent home number statements = places parent number (numbered home number statements)
+abbrev pub listed : Option ℕ → Bool → ℕ → ℕ → Forest (spec.Keyword × Statement) → List (Place spec_source.Source)
+listed parent may home number statements = places parent number (numbered may home number statements)
 
 -- a statement in its row, and what stands below it
 abbrev pub node_view : Node Source → spec_source.Source × Forest spec_source.Source

@@ -87,7 +87,7 @@ fn kept_keyword(language: &Language, restricting: bool, statement: &Stmt) -> Opt
     }
 }
 
-/// Whether names restrict types in a module.
+/// Whether names restrict types in a module, and members of unions may be leafrefs.
 pub(crate) fn may_restrict(language: &Language, module: &Stmt) -> bool
     ensures { result ≡ spec.may_restrict (language_view language.now) (text.view module.now).1 }
 {
@@ -121,7 +121,7 @@ fn add_statements<'a>(
     statements: &'a [Stmt],
 ) -> Result<(), AllocError>
     ensures listed { OnOk result (seen_rows table.new ≡ seen_rows table.old
-        ++ listed parent home (length (slots_in table.old))
+        ++ listed parent may home (length (slots_in table.old))
         (kept_in (language_view language.now) may restricting (row_view statements.entry.now))) }
     ensures whole { OnOk result (whole_rows table.new ≡ whole_rows table.old
         ++ wholes_in (language_view language.now) (row_view statements.entry.now)) }
@@ -145,7 +145,7 @@ pub(crate) fn add_statement<'a>(
 ) -> Result<(), AllocError>
     ensures listed { let s = text.view statement.entry.now in
         OnOk result (seen_rows table.new ≡ seen_rows table.old
-        ++ listed parent home (length (slots_in table.old))
+        ++ listed parent may home (length (slots_in table.old))
         (kept_in (language_view language.now) may restricting (node s.0 s.1 end))) }
     ensures whole { let s = text.view statement.entry.now in
         OnOk result (whole_rows table.new ≡ whole_rows table.old
@@ -154,7 +154,7 @@ pub(crate) fn add_statement<'a>(
     let Some(keyword) = kept_keyword(language, restricting, statement) else {
         return Ok(());
     };
-    let source = Source::new(keyword, statement, home);
+    let source = Source::new(keyword, statement, home, may);
     let below = restricts_below(may, &source);
     let number = table.open(parent, source)?;
     add_statements(

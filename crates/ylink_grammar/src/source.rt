@@ -17,6 +17,8 @@ pub struct Source<'a> {
     type_name: Option<BuiltIn>,
     pub statement: &'a Stmt,
     pub home: usize,
+    /// Whether a member of a union may be a leafref in its module.
+    pub may_refer: bool,
     ghost named: { option_map built_in_view type_name ≡ type_named (keyword_view keyword) (view statement.now).0 },
 }
 
@@ -49,14 +51,20 @@ impl<'a> Source<'a> {
     ghost use Rattle.ylink_grammar.specs.SourceView.{source_view, stated_view};
     ghost use Rattle.ybase_words.specs.BuiltInView.{built_in_view};
 
-    /// A statement of a keyword, in the module of a number in the set.
-    pub(crate) fn new(keyword: Keyword, statement: &'a Stmt, home: usize) -> Source<'a>
+    /// A statement of a keyword, in the module of a number in the set, where members of unions may be leafrefs or not.
+    pub(crate) fn new(
+        keyword: Keyword,
+        statement: &'a Stmt,
+        home: usize,
+        may_refer: bool,
+    ) -> Source<'a>
         ensures label { (number : ℕ) → source_view number result
             ≡ record {
               keyword = keyword_view keyword;
               statement = (view statement.entry.now).0;
               number = number;
               home = home;
+              may_refer = may_refer;
             } }
         ensures whole { result.statement.now ≡ statement.entry.now }
         ensures keyword { result.keyword ≡ keyword }
@@ -66,6 +74,7 @@ impl<'a> Source<'a> {
             type_name: type_named(keyword, statement),
             statement,
             home,
+            may_refer,
         }
     }
 

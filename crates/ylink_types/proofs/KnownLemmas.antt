@@ -1,5 +1,5 @@
 -- What is known of a typedef rests on what is known of those alone that its `type` statements name.
-use Rattle.std.proofs.Common.{◌≡◌, ℕ, suc, Bool, true, false, cond, List, [], ◌∷◌, Option, Some, None, refl, sym, ap, ap₂, ◌∙◌, arith, subst}
+use Rattle.std.proofs.Common.{◌≡◌, ℕ, suc, Bool, true, false, not, cond, List, [], ◌∷◌, Option, Some, None, refl, sym, ap, ap₂, ◌∙◌, arith, subst}
 use Rattle.std.specs.Prelude.{⊤, option_map, option_and_then, find}
 use Rattle.std.specs.List.{Contains}
 use Rattle.std.specs.Option.{option_map_or}
@@ -36,13 +36,13 @@ module _ (kept : Keeping) (modules : Forest Source) (f g : ℕ → Known) where
       by : (b : Bool) → is_source_of type_word s ≡ b
           → (Agree below → verdicts_of kept modules (verdict_by f) below ≡ verdicts_of kept modules (verdict_by g) below)
           → verdicts_of kept modules (verdict_by f) after ≡ verdicts_of kept modules (verdict_by g) after
-          → cond b (verdict_of kept modules (verdict_by f) true s below (verdicts_of kept modules (verdict_by f) below) ∷ verdicts_of kept modules (verdict_by f) after) (verdicts_of kept modules (verdict_by f) after)
-          ≡ cond b (verdict_of kept modules (verdict_by g) true s below (verdicts_of kept modules (verdict_by g) below) ∷ verdicts_of kept modules (verdict_by g) after) (verdicts_of kept modules (verdict_by g) after)
+          → cond b (verdict_of kept modules (verdict_by f) (not s.may_refer) s below (verdicts_of kept modules (verdict_by f) below) ∷ verdicts_of kept modules (verdict_by f) after) (verdicts_of kept modules (verdict_by f) after)
+          ≡ cond b (verdict_of kept modules (verdict_by g) (not s.may_refer) s below (verdicts_of kept modules (verdict_by g) below) ∷ verdicts_of kept modules (verdict_by g) after) (verdicts_of kept modules (verdict_by g) after)
       by true is inner rest =
           let own = a.0 is in
           ap₂ (λ v vs. v ∷ vs)
-          (ap₂ (λ (k : Known) vs. option_map_or (λ type. cond (are_in_place type below) (verdict_in_place_of kept modules true s type below vs) wrong)
-          (built_in_meant modules s) (derived_by (named_kept kept below) true below k.verdict)) own.0 (inner own.1))
+          (ap₂ (λ (k : Known) vs. option_map_or (λ type. cond (are_in_place type below) (verdict_in_place_of kept modules (not s.may_refer) s type below vs) wrong)
+          (built_in_meant modules s) (derived_by (named_kept kept below) (not s.may_refer) below k.verdict)) own.0 (inner own.1))
           rest
       by false is inner rest = rest
 

@@ -8,5 +8,5 @@ mod types;
 
 pub use identities::Identities;
 pub use typedefs::Typedefs;
-pub use types::{Meant, Verdict, judge_type};
+pub use types::{Meant, Member, Verdict, judge_type};
 pub use ylink_values::Kept;

@@ -1,6 +1,6 @@
 //! What `type` statements name and mean (RFC 7950, 7.4 and 9).
 
-ghost use Rattle.std.specs.Prelude.{◌≡◌, ℕ, IfOk, false, true, None, map, nat_lt, option_map, option_and_then};
+ghost use Rattle.std.specs.Prelude.{◌≡◌, ◌++◌, ℕ, IfOk, OnOk, false, true, None, is_some, map, nat_lt, sum_by, option_map, option_and_then};
 ghost use Rattle.std.specs.Option.{option_map_or};
 ghost use Rattle.yspec.specs.Forest.{Forest, row};
 ghost use Rattle.yspec.specs.linking.Arguments.{fraction_digits_of, leafref_path_of};
@@ -18,7 +18,7 @@ ghost use Rattle.ybase_words.specs.BuiltInView.{built_in_view};
 ghost use Rattle.yspec.specs.linking.DerivedTypes.{unknown};
 ghost use Rattle.yspec.specs.types.Restriction.{member_count};
 ghost use Rattle.ylink_values.specs.KeptView.{kept_view};
-ghost use Rattle.ylink_types.specs.TypeView.{judged_union, meant_view, verdict_view};
+ghost use Rattle.ylink_types.specs.TypeView.{judged_union, member_view, meant_view, verdict_view};
 ghost use Rattle.ylink_types.specs.TypedefView.{known_view, verdicts_in, RestsOn};
 
 use crate::derived::bases_in;
@@ -34,6 +34,19 @@ use ylink_values::{
 };
 use ytype::{FractionDigits, YType};
 
+/// A member of a union.
+#[derive(Drop)]
+pub enum Member<'t> {
+    /// A type that refers to no other node.
+    Own(YType),
+    /// A leafref: the type of the node to which a path leads that stands in a module of the set.
+    Leafref {
+        home: usize,
+        steps: Vec<Name<'t>>,
+        required: bool,
+    },
+}
+
 /// What a `type` statement means.
 #[derive(Drop)]
 pub enum Meant<'t> {
@@ -45,6 +58,8 @@ pub enum Meant<'t> {
         steps: Vec<Name<'t>>,
         required: bool,
     },
+    /// A union with leafrefs among its members, those of the unions among them being its own (RFC 7950, 9.12).
+    OfUnion(Vec<Member<'t>>),
 }
 
 /// What is known of a `type` statement.
@@ -271,6 +286,108 @@ fn of_members<'t>(alloc: Global, types: &[YType]) -> Result<Verdict<'t>, AllocEr
     }
 }
 
+/// Whether each member has a type that refers to no other node.
+fn are_own(members: &[Verdict<'_>]) -> bool
+    ensures { result ≡ is_some (spec.member_types (map verdict_view members.now)) }
+{
+    for member in members {
+        if !member.is_own() {
+            return false;
+        }
+    }
+    true
+}
+
+/// The verdict on a union whose members have types that refer to no other node.
+fn own_union<'t>(alloc: Global, members: Vec<Verdict<'t>>) -> Result<Verdict<'t>, AllocError>
+    ensures { IfOk result (λ verdict. verdict_view verdict ≡ option_map_or spec.of_members
+        (spec.member_types (map verdict_view members.entry.items)) spec.unjudged) }
+{
+    match member_types(alloc, members)? {
+        Some(types) => Ok(of_members(alloc, &types)?),
+        None => Ok(Verdict::Unjudged),
+    }
+}
+
+/// Adds the members of a union that what one of its `type` statements means stands for.
+fn add_members<'t>(members: &mut Vec<Member<'t>>, meant: Meant<'t>) -> Result<(), AllocError>
+    ensures { OnOk result (map member_view members.new.items
+        ≡ map member_view members.old.items ++ spec.members_meant (meant_view meant.entry)) }
+{
+    match meant {
+        Meant::Own(value_type) => members.push(Member::Own(value_type))?,
+        Meant::OfTarget {
+            home,
+            steps,
+            required,
+        } => members.push(Member::Leafref {
+            home,
+            steps,
+            required,
+        })?,
+        Meant::OfUnion(mut others) => members.append(&mut others)?,
+    }
+    Ok(())
+}
+
+/// The members of a union, where each of its `type` statements has a meaning.
+#[tactic(auto, using(crate::proofs::TypeLemmas::more_members))]
+fn members_in<'t>(
+    alloc: Global,
+    verdicts: Vec<Verdict<'t>>,
+) -> Result<Option<Vec<Member<'t>>>, AllocError>
+    ensures { IfOk result (λ members. option_map (λ m. map member_view m.items) members
+        ≡ spec.members_in (map verdict_view verdicts.entry.items)) }
+{
+    let mut members = Vec::new(alloc);
+    for verdict in verdicts {
+        match verdict {
+            Verdict::Means(meant) => add_members(&mut members, meant)?,
+            _ => return Ok(None),
+        }
+    }
+    Ok(Some(members))
+}
+
+/// Whether a union has more members than are read, a leafref being one.
+fn are_too_many(members: &[Member<'_>]) -> bool
+    ensures { result
+        ≡ nat_lt spec.member_limit (sum_by spec.width_of (map member_view members.now)) }
+{
+    let mut left = MOST_MEMBERS;
+    for member in members {
+        let more = member.width();
+        if more > left {
+            return true;
+        }
+        left -= more;
+    }
+    false
+}
+
+/// The verdict on a union with leafrefs among its members.
+fn referring_union<'t>(members: Vec<Member<'t>>) -> Verdict<'t>
+    ensures { verdict_view result
+        ≡ spec.referring_union (map member_view members.entry.items) }
+{
+    if are_too_many(&members) {
+        Verdict::TooLarge
+    } else {
+        Verdict::Means(Meant::OfUnion(members))
+    }
+}
+
+/// The verdict on a union with members.
+fn judged_members<'t>(alloc: Global, members: Vec<Verdict<'t>>) -> Result<Verdict<'t>, AllocError>
+    ensures { IfOk result (λ verdict. verdict_view verdict ≡ option_map_or spec.referring_union
+        (spec.members_in (map verdict_view members.entry.items)) spec.unjudged) }
+{
+    match members_in(alloc, members)? {
+        Some(found) => Ok(referring_union(found)),
+        None => Ok(Verdict::Unjudged),
+    }
+}
+
 fn union_verdict<'t>(alloc: Global, members: Vec<Verdict<'t>>) -> Result<Verdict<'t>, AllocError>
     ensures { IfOk result (λ verdict. verdict_view verdict
         ≡ spec.union_verdict (map verdict_view members.entry.items)) }
@@ -278,9 +395,10 @@ fn union_verdict<'t>(alloc: Global, members: Vec<Verdict<'t>>) -> Result<Verdict
     if members.is_empty() {
         return Ok(Verdict::Wrong);
     }
-    match member_types(alloc, members)? {
-        Some(types) => Ok(of_members(alloc, &types)?),
-        None => Ok(Verdict::Unjudged),
+    if are_own(&members) {
+        own_union(alloc, members)
+    } else {
+        judged_members(alloc, members)
     }
 }
 
@@ -367,6 +485,7 @@ fn restricted_by<'t>(
                 required: argument_of(statement) == "true",
             }))
         }
+        Meant::OfUnion(_) => Ok(None),
     }
 }
 
@@ -405,6 +524,7 @@ fn matched_meant<'t>(
             None => Ok(None),
         },
         target @ Meant::OfTarget { .. } => Ok(Some(target)),
+        others @ Meant::OfUnion(_) => Ok(Some(others)),
     }
 }
 
@@ -441,6 +561,7 @@ fn named_meant<'t>(
             None => Ok(None),
         },
         target @ Meant::OfTarget { .. } => Ok(Some(target)),
+        others @ Meant::OfUnion(_) => Ok(Some(others)),
     }
 }
 
@@ -484,14 +605,14 @@ fn derived<'t>(
     if is_member && meant.is_reference() {
         return Ok(Verdict::Wrong);
     }
-    match derived_meant(alloc, kept, meant.copy()?, below)? {
+    match derived_meant(alloc, kept, meant.copy(alloc)?, below)? {
         Some(made) => Ok(Verdict::Means(made)),
         None => Ok(Verdict::Wrong),
     }
 }
 
-/// The verdict on a `type` statement of a set, given which names of values are kept, and those on the `type` statements below
-/// it.
+/// The verdict on a `type` statement of a set, given which names of values are kept, whether it is a member of a union that may
+/// not be a leafref, and those on the `type` statements below it.
 pub fn judge_type<'t>(
     alloc: Global,
     sources: &Sources<'t>,
@@ -537,13 +658,14 @@ fn member_verdicts<'t>(
             continue;
         }
         let members = member_verdicts(alloc, sources, typedefs, kept, statement.children())?;
-        let judged = judge_type(alloc, sources, typedefs, kept, true, statement, members)?;
+        let is_own = !statement.label().may_refer;
+        let judged = judge_type(alloc, sources, typedefs, kept, is_own, statement, members)?;
         found.push(judged)?;
     }
     Ok(found)
 }
 
-/// The verdict on a `type` statement of a set, a member of a union or not.
+/// The verdict on a `type` statement of a set, a member of a union that may not be a leafref or not.
 pub(crate) fn verdict_on<'t>(
     alloc: Global,
     sources: &Sources<'t>,
@@ -574,7 +696,7 @@ impl<'t> Meant<'t> {
     {
         match self {
             Meant::Own(value_type) => Some(value_type),
-            Meant::OfTarget { .. } => None,
+            Meant::OfTarget { .. } | Meant::OfUnion(_) => None,
         }
     }
 
@@ -584,7 +706,7 @@ impl<'t> Meant<'t> {
         matches!(self, Meant::OfTarget { .. })
     }
 
-    fn copy(&self) -> Result<Meant<'t>, AllocError>
+    fn copy(&self, alloc: Global) -> Result<Meant<'t>, AllocError>
         ensures { IfOk result (λ copy. meant_view copy ≡ meant_view self.now) }
     {
         match self {
@@ -598,21 +720,74 @@ impl<'t> Meant<'t> {
                 steps: steps.clone()?,
                 required: *required,
             }),
+            Meant::OfUnion(members) => Ok(Meant::OfUnion(copies_of(alloc, members)?)),
         }
     }
+}
+
+impl<'t> Member<'t> {
+    ghost use Rattle.std.specs.Prelude.{◌≡◌, IfOk};
+    ghost use Rattle.yspec.specs.linking.TypeStatements as spec;
+    ghost use Rattle.ylink_types.specs.TypeView.{member_view};
+
+    /// How many members it has, a leafref being one.
+    fn width(&self) -> usize
+        ensures { result ≡ spec.width_of (member_view self.now) }
+    {
+        match self {
+            Member::Own(value_type) => value_type.member_count(),
+            Member::Leafref { .. } => 1,
+        }
+    }
+
+    fn copy(&self) -> Result<Member<'t>, AllocError>
+        ensures { IfOk result (λ copy. member_view copy ≡ member_view self.now) }
+    {
+        match self {
+            Member::Own(own) => Ok(Member::Own(own.clone()?)),
+            Member::Leafref {
+                home,
+                steps,
+                required,
+            } => Ok(Member::Leafref {
+                home: *home,
+                steps: steps.clone()?,
+                required: *required,
+            }),
+        }
+    }
+}
+
+/// Copies of the members of a union.
+fn copies_of<'t>(alloc: Global, members: &[Member<'t>]) -> Result<Vec<Member<'t>>, AllocError>
+    ensures { IfOk result (λ copies. map member_view copies.items
+        ≡ map member_view members.now) }
+{
+    let mut copies = Vec::with_capacity(alloc, members.len())?;
+    for member in members {
+        copies.push(member.copy()?)?;
+    }
+    Ok(copies)
 }
 
 impl<'t> Verdict<'t> {
     ghost use Rattle.std.specs.Prelude.{◌≡◌, IfOk, option_map};
     ghost use Rattle.yspec.specs.linking.TypeStatements as spec;
-    ghost use Rattle.ylink_types.specs.TypeView.{meant_view, verdict_view};
+    ghost use Rattle.ylink_types.specs.TypeView.{is_own, meant_view, verdict_view};
+
+    /// Whether the statement means a type that refers to no other node.
+    fn is_own(&self) -> bool
+        ensures { result ≡ is_own (verdict_view self.now) }
+    {
+        matches!(self, Verdict::Means(Meant::Own(_)))
+    }
 
     /// A copy of it.
-    pub fn copy(&self) -> Result<Verdict<'t>, AllocError>
+    pub fn copy(&self, alloc: Global) -> Result<Verdict<'t>, AllocError>
         ensures { IfOk result (λ copy. verdict_view copy ≡ verdict_view self.now) }
     {
         match self {
-            Verdict::Means(meant) => Ok(Verdict::Means(meant.copy()?)),
+            Verdict::Means(meant) => Ok(Verdict::Means(meant.copy(alloc)?)),
             Verdict::Wrong => Ok(Verdict::Wrong),
             Verdict::TooLarge => Ok(Verdict::TooLarge),
             Verdict::Unjudged => Ok(Verdict::Unjudged),

@@ -9,9 +9,8 @@ use Rattle.yspec.specs.schema.Schema.{Schema, SchemaNode, LeafType, children_of,
 use Rattle.yspec.specs.document.Document.{Stored, Tree}
 use Rattle.yspec.specs.document.Fault.{Fault}
 use Rattle.yspec.specs.document.Fitting.{Fits, IsNumbered}
-use Rattle.yspec.specs.document.Instances.{times_in, value_of}
+use Rattle.yspec.specs.document.Instances.{times_in}
 use Rattle.yspec.specs.document.Faults.{Times, RowTimes, row_times, faults_at, faults_of}
-use Rattle.ycheck.specs.Targets.{required_target}
 use Rattle.ycheck.specs.Walk.{marks_told}
 use Rattle.yspec_fit.specs.Fit.{CasesInChoices}
 use Rattle.yspec_play.specs.Merging.{absences_below}
@@ -31,7 +30,7 @@ use Rattle.ystore_tree.specs.Ways.{Frame, Way, around, end_of}
 use Rattle.ystore_tree.proofs.HangingLemmas.{weigh_around, weigh_join, is_itself}
 use Rattle.ystore_tree.proofs.FoundLemmas.{around_more, end_more}
 use Rattle.ylive_facts.specs.Judging.{Judged, right, judged_view, kind_judged}
-use Rattle.ylive_facts.specs.Keys.{Key, flagged_key, key_view, value_key, kind_flags}
+use Rattle.ylive_facts.specs.Keys.{Key, flagged_key, key_view, kind_reference, kind_flags}
 use Rattle.ylive_facts.specs.Telling as telling
 use Rattle.ylive_facts.specs.Telling.{times_of, with_reference, flags_from, judged_faults, told_faults}
 use Rattle.ylive_facts.proofs.TellingLemmas.{told_by_keys}
@@ -101,7 +100,7 @@ module _ (schema : Schema) (above : Row) (s : Stored) (t : Tree) (count : Key �
     where
       unjudged : judged ≡ right
       unjudged = ap (λ (o : Option SchemaNode). with_reference count
-          (option_and_then (λ (n : SchemaNode). option_and_then (λ target. option_map (value_key target) (value_of schema s)) (required_target n.kind)) o)
+          (option_and_then (λ (n : SchemaNode). kind_reference schema n.kind s) o)
           (option_map_or (λ (n : SchemaNode). kind_judged (option_map (λ (type : LeafType). type.type) (type_in n.kind)) s.value) o right)) found
 
       unflagged : flags ≡ []

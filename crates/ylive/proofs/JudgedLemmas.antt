@@ -1,20 +1,20 @@
 -- What an index tells of the value of a node is what the definition tells of it.
 use Rattle.std.proofs.Common.{◌≡◌, ℕ, suc, Bool, true, false, ◌||◌, cond, eqb, ltb, List, [], ◌∷◌, ◌++◌, map, filter, length, Option, Some, None, refl, sym, ap, ap₂, ◌∙◌, arith}
-use Rattle.std.specs.Prelude.{option_map, option_and_then, string_bytes}
+use Rattle.std.specs.Prelude.{option_map, option_and_then, option_to_list, string_bytes}
 use Rattle.std.specs.Option.{option_map_or}
 use Rattle.std.specs.List.{list_any}
-use Rattle.std.proofs.lemmas.Bool.{false≢true}
+use Rattle.std.proofs.lemmas.Bool.{eq-eqb, false≢true}
 use Rattle.std.proofs.lemmas.Option.{none-some, same_Some}
 use Rattle.std.proofs.lemmas.List.Folds.{list_any-append}
 use Rattle.yspec.specs.Forest.{Forest, end, node, find_label, first_of, preorder}
 use Rattle.yspec.specs.text.Text.{Text}
 use Rattle.yspec.specs.types.Types.{Raw, Val, YangType, taken, app_tag_of}
 use Rattle.yspec.specs.schema.Schema.{Schema, SchemaNode, Kind, LeafType, node_at, type_in}
-use Rattle.yspec.specs.schema.References.{refers_to, target_in}
+use Rattle.yspec.specs.schema.References.{Reference, refers_to, targets_in, numbers_in, number_of, reference_in}
 use Rattle.yspec.specs.document.Document.{Stored, Tree}
 use Rattle.yspec.specs.document.Instances.{value_of}
-use Rattle.yspec.specs.document.Faults.{Times, RowTimes, requires_instance}
-use Rattle.ycheck.specs.Targets.{required_target}
+use Rattle.yspec.specs.document.Faults.{Times, RowTimes}
+use Rattle.yspec.proofs.SchemaProofs.AmongLemmas.{reference_among}
 use Rattle.ystore.specs.Store.{instances_at}
 use Rattle.ystore_rows.specs.declared.row.Row.{Row}
 use Rattle.ystore.specs.declared.key.Key as rust
@@ -24,7 +24,7 @@ use Rattle.ystore.specs.declared.record.Judged.TheVariants.{Right, Wrong, Missin
 use Rattle.ystore.specs.declared.nodes.Nodes.{Nodes}
 use Rattle.ylive_facts.specs.Given.{is_referred}
 use Rattle.ylive_facts.specs.Judging.{Judged, right, wrong, missing, judged_view, kind_judged, value_judged}
-use Rattle.ylive_facts.specs.Keys.{Key, value_key, item_key, tuple_key, texts_key, key_view, slot_of, reference_key, key_at}
+use Rattle.ylive_facts.specs.Keys.{Key, value_key, item_key, tuple_key, texts_key, key_view, slot_of, required_key, leaf_key, kind_reference, reference_key, key_at}
 use Rattle.ylive_facts.specs.Telling.{times_of, with_reference}
 use Rattle.ylive_facts.proofs.HeldLemmas.{held_slot, refers_first, value_first}
 use Rattle.ylive_marks.specs.Keys as told
@@ -114,26 +114,20 @@ some_left p (x ∷ xs) some = by (some_left p xs) (p x) some
     by later true some = more (length (map (λ (n : SchemaNode). n.number) (filter p xs)))
     by later false some = later some
 
-required_is : (kind : Kind) (target : ℕ) → required_target kind ≡ Some target → target_in kind ≡ Some target
-required_is kind target required = of (type_in kind) required
-  where
-    by : (b : Bool) (o : Option ℕ) → cond b o None ≡ Some target → o ≡ Some target
-    by true o e = e
-    by false o e = absurd (none-some target e)
+referred : (schema : Schema) (number target : ℕ) (n : SchemaNode) → node_at schema number ≡ Some n → refers_to target n ≡ true → is_referred schema target ≡ true
+referred schema number target n is refers =
+    some_left (refers_to target) (preorder schema.nodes) (found_any (λ (m : SchemaNode). eqb m.number number) (refers_to target) schema.nodes n is refers)
 
-    of : (type : Option LeafType) → option_and_then (λ (type : LeafType). cond (requires_instance type.type) type.target None) type ≡ Some target
-        → option_and_then (λ (type : LeafType). type.target) type ≡ Some target
-    of None e = absurd (none-some target e)
-    of (Some type) e = by (requires_instance type.type) type.target e
-
-referred : (schema : Schema) (number target : ℕ) (n : SchemaNode) → node_at schema number ≡ Some n → required_target n.kind ≡ Some target → is_referred schema target ≡ true
-referred schema number target n is required =
-    some_left (refers_to target) (preorder schema.nodes)
-    (found_any (λ (m : SchemaNode). eqb m.number number) (refers_to target) schema.nodes n is
-    (ap (λ o. option_map_or (λ (k : ℕ). eqb k target) o false) (required_is n.kind target required) ∙ itself target))
+-- what a value refers to is among what its node may refer to
+referred_among : (kind : Kind) (type : LeafType) (v : Val) (r : Reference) → type_in kind ≡ Some type → reference_in type v ≡ Some r
+    → list_any (λ target. eqb target r.target) (targets_in kind) ≡ true
+referred_among kind type v r at is =
+    ap (λ (o : Option LeafType). list_any (λ target. eqb target r.target) (option_map_or numbers_in o [])) at
+    ∙ reference_among type v r (option_map number_of) (option_to_list type.target) is
+    (λ target e same. ap (λ (o : Option ℕ). list_any (λ n. eqb n target) (option_to_list o)) e ∙ alone target) (λ m same. refl)
   where
-    itself : (k : ℕ) → eqb k k ≡ true
-    itself k = grind arith
+    alone : (n : ℕ) → (eqb n n || false) ≡ true
+    alone n = ap (λ b. b || false) (eq-eqb n n refl)
 
 -- the key of what a node refers to is of a value of a schema node that is referred to
 pub record Refers (schema : Schema) (key : Key) : Type 0 where
@@ -142,23 +136,32 @@ pub record Refers (schema : Schema) (key : Key) : Type 0 where
   pub is_key : key ≡ value_key number value
   pub is_referred : is_referred schema number ≡ true
 
-refers : (schema : Schema) (s : Stored) (key : Key) → reference_key schema s ≡ Some key → Refers schema key
-refers schema s key is = by (node_at schema s.schema_number) refl is
-  where
-    made : (target : ℕ) → is_referred schema target ≡ true → (o : Option Val) → option_map (value_key target) o ≡ Some key → Refers schema key
-    made target given None e = absurd (none-some key e)
-    made target given (Some v) e = record { number = target; value = v; is_key = sym (same_Some (value_key target v) key e); is_referred = given }
+module _ (schema : Schema) (s : Stored) (key : Key) where
+  of_reference : (r : Reference) → is_referred schema r.target ≡ true → (b : Bool) → cond b (Some (value_key r.target r.value)) None ≡ Some key → Refers schema key
+  of_reference r given true e =
+      record { number = r.target; value = r.value; is_key = sym (same_Some (value_key r.target r.value) key e); is_referred = given }
+  of_reference r given false e = absurd (none-some key e)
 
-    on : (n : SchemaNode) → node_at schema s.schema_number ≡ Some n → (o : Option ℕ) → required_target n.kind ≡ o
-        → option_and_then (λ target. option_map (value_key target) (value_of schema s)) o ≡ Some key → Refers schema key
-    on n found None required e = absurd (none-some key e)
-    on n found (Some target) required e = made target (referred schema s.schema_number target n found required) (value_of schema s) e
+  module _ (n : SchemaNode) (found : node_at schema s.schema_number ≡ Some n) (type : LeafType) (at : type_in n.kind ≡ Some type) where
+    by_reference : (v : Val) (o : Option Reference) → reference_in type v ≡ o → option_and_then required_key o ≡ Some key → Refers schema key
+    by_reference v None is e = absurd (none-some key e)
+    by_reference v (Some r) is e = of_reference r (referred schema s.schema_number r.target n found (referred_among n.kind type v r at is)) r.is_required e
 
-    by : (n : Option SchemaNode) → node_at schema s.schema_number ≡ n
-        → option_and_then (λ (n : SchemaNode). option_and_then (λ target. option_map (value_key target) (value_of schema s)) (required_target n.kind)) n ≡ Some key
-        → Refers schema key
-    by None found e = absurd (none-some key e)
-    by (Some n) found e = on n found (required_target n.kind) refl e
+    by_value : (o : Option Val) → option_and_then (leaf_key type) o ≡ Some key → Refers schema key
+    by_value None e = absurd (none-some key e)
+    by_value (Some v) e = by_reference v (reference_in type v) refl e
+
+  by_type : (n : SchemaNode) → node_at schema s.schema_number ≡ Some n → (t : Option LeafType) → type_in n.kind ≡ t
+      → option_and_then (λ type. option_and_then (leaf_key type) (value_of schema s)) t ≡ Some key → Refers schema key
+  by_type n found None at e = absurd (none-some key e)
+  by_type n found (Some type) at e = by_value n found type at (value_of schema s) e
+
+  refers : reference_key schema s ≡ Some key → Refers schema key
+  refers is = by (node_at schema s.schema_number) refl is
+    where
+      by : (n : Option SchemaNode) → node_at schema s.schema_number ≡ n → option_and_then (λ (n : SchemaNode). kind_reference schema n.kind s) n ≡ Some key → Refers schema key
+      by None found e = absurd (none-some key e)
+      by (Some n) found e = by_type n found (type_in n.kind) refl e
 
 -- a node whose first key is of no value refers to nothing
 abbrev is_of_value : Key → Bool

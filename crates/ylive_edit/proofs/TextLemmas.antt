@@ -13,7 +13,6 @@ use Rattle.yspec.specs.edit.EditText as edit
 use Rattle.yspec.specs.edit.Editing.{key_text, fits_keys, positions_where, the_one, refused}
 use Rattle.yschema_model.specs.Layout.{numbers_of}
 use Rattle.yschema_model.specs.declared.node.SchemaId.{SchemaId}
-use Rattle.ycheck.specs.Targets.{required_target}
 use Rattle.yinst_path.specs.Binding.{node_of}
 use Rattle.ystore.specs.Entries.{Entry}
 use Rattle.ystore.specs.Store.{holders_at, same_row, same_key}
@@ -26,9 +25,10 @@ use Rattle.ystore_tree.specs.Hanging.{Numbered, Branches, is_number, times, stor
 use Rattle.ystore_tree.specs.Parts.{OnlyReads}
 use Rattle.ystore_tree.specs.Ways.{Way, around, end_of}
 use Rattle.ystore_tree.proofs.HangingLemmas.{weigh_join, is_itself}
-use Rattle.ylive_facts.specs.Keys.{Key, value_key, item_key, tuple_key, texts_key, key_view, key_at, first_key, entry_key, texts_in, is_held, times_held}
+use Rattle.ylive_facts.specs.Keys.{Key, value_key, item_key, tuple_key, texts_key, key_view, key_at, first_key, kind_reference, entry_key, texts_in, is_held, times_held}
 use Rattle.ylive_facts.proofs.SameLemmas.{same_views}
 use Rattle.ylive_facts.proofs.EntryLemmas.{found_in}
+use Rattle.ylive_facts.proofs.ReferringLemmas.{refers_as}
 use Rattle.ylive_marks.specs.Keys.{Agrees, Keys, has_key, slot_of}
 use Rattle.ylive_marks.proofs.AgreeLemmas.{holders_counted}
 use Rattle.ylive_retell.specs.Each.{Each, weigh_at, weigh_beside}
@@ -40,13 +40,8 @@ use Rattle.ylive_edit.specs.Places.{IsAt}
 
 -- no node of another row holds a key of texts
 module _ (schema : Schema) (here : Row) (number : ℕ) (texts : List Text) (r : Row) (s : Stored) (below : Tree) (other : same_row here r ≡ false) where
-  referred : (target : ℕ) (o : Option Val) → is_held (texts_key here number texts) (option_map (value_key target) o) ≡ false
-  referred target None = refl
-  referred target (Some v) = refl
-
-  aimed : (o : Option ℕ) → is_held (texts_key here number texts) (option_and_then (λ target. option_map (value_key target) (value_of schema s)) o) ≡ false
-  aimed None = refl
-  aimed (Some target) = referred target (value_of schema s)
+  aimed : (kind : Kind) → is_held (texts_key here number texts) (kind_reference schema kind s) ≡ false
+  aimed kind = refers_as (λ held. is_held (texts_key here number texts) held ≡ false) refl (λ target v. refl) schema kind s
 
   told : (o : Option (List Text)) → is_held (texts_key here number texts) (option_map (texts_key r s.schema_number) o) ≡ false
   told None = refl
@@ -57,12 +52,12 @@ module _ (schema : Schema) (here : Row) (number : ℕ) (texts : List Text) (r : 
   entered (key ∷ keys) = told (texts_in schema (key ∷ keys) below)
 
   first : (kind : Kind) → is_held (texts_key here number texts) (first_key schema kind r s below) ≡ false
-  first (container presence) = aimed (required_target (container presence))
-  first (leaf type absence) = aimed (required_target (leaf type absence))
-  first (leaf_list type defaults amount) = aimed (required_target (leaf_list type defaults amount))
+  first (container presence) = aimed (container presence)
+  first (leaf type absence) = aimed (leaf type absence)
+  first (leaf_list type defaults amount) = aimed (leaf_list type defaults amount)
   first (list tuples amount) = entered tuples.keys
-  first (choice default_case is_mandatory) = aimed (required_target (choice default_case is_mandatory))
-  first case = aimed (required_target case)
+  first (choice default_case is_mandatory) = aimed (choice default_case is_mandatory)
+  first case = aimed case
 
   by_node : (n : Option SchemaNode) → is_held (texts_key here number texts) (option_and_then (λ (m : SchemaNode). first_key schema m.kind r s below) n) ≡ false
   by_node None = refl

@@ -13,11 +13,11 @@ use Rattle.yspec.specs.document.Document.{Stored, Tree, stored_in}
 use Rattle.yspec.specs.document.Instances.{value_of}
 use Rattle.yspec.specs.edit.EditText.{Key}
 use Rattle.yspec.specs.edit.Editing.{text_of, is_the_text, key_text, fits_keys, positions_where}
-use Rattle.ycheck.specs.Targets.{required_target}
 use Rattle.ystore.specs.Store.{same_row}
 use Rattle.ystore_rows.specs.declared.row.Row.{Row}
 use Rattle.ylive_facts.specs.Keys as words
 use Rattle.ylive_facts.specs.Keys.{value_key, texts_key, is_held, times_held, texts_in, entry_key, first_key, kind_reference, key_at}
+use Rattle.ylive_facts.proofs.ReferringLemmas.{refers_as}
 use Rattle.ylive_facts.proofs.SameLemmas.{row_itself}
 
 neither : (b : Bool) → (b && false) ≡ false
@@ -68,18 +68,16 @@ module _ (schema : Schema) (above : Row) (number : ℕ) (said : List Text) where
     no_entry [] = refl
     no_entry (n ∷ ns) = no_texts (texts_in schema (n ∷ ns) below)
 
-    no_value : (target : Option ℕ) (o : Option Val) → is_held key (option_and_then (λ t. option_map (value_key t) o) target) ≡ false
-    no_value None o = refl
-    no_value (Some t) None = refl
-    no_value (Some t) (Some v) = refl
+    no_value : (kind : Kind) → is_held key (kind_reference schema kind s) ≡ false
+    no_value kind = refers_as (λ held. is_held key held ≡ false) refl (λ target v. refl) schema kind s
 
     no_first : (kind : Kind) → is_held key (first_key schema kind above s below) ≡ false
-    no_first (container presence) = no_value (required_target (container presence)) (value_of schema s)
-    no_first (leaf type absence) = no_value (required_target (leaf type absence)) (value_of schema s)
-    no_first (leaf_list type defaults amount) = no_value (required_target (leaf_list type defaults amount)) (value_of schema s)
+    no_first (container presence) = no_value (container presence)
+    no_first (leaf type absence) = no_value (leaf type absence)
+    no_first (leaf_list type defaults amount) = no_value (leaf_list type defaults amount)
     no_first (list tuples amount) = no_entry tuples.keys
-    no_first (choice default_case is_mandatory) = no_value (required_target (choice default_case is_mandatory)) (value_of schema s)
-    no_first case = no_value (required_target case) (value_of schema s)
+    no_first (choice default_case is_mandatory) = no_value (choice default_case is_mandatory)
+    no_first case = no_value case
 
     no_node : (n : Option SchemaNode) → is_held key (option_and_then (λ (m : SchemaNode). first_key schema m.kind above s below) n) ≡ false
     no_node None = refl

@@ -12,9 +12,9 @@ use Rattle.yspec.specs.types.Order.{same_value}
 use Rattle.yspec.specs.schema.Schema.{Schema, SchemaNode, Kind, container, leaf, leaf_list, list, choice, case, Tuples, LeafPath, node_at}
 use Rattle.yspec.specs.document.Document.{Stored, Tree}
 use Rattle.yspec.specs.document.Instances.{Tuple, value_of, is_value, is_tuple, same_tuple, kind_tuple, tuple_of_paths, paths_of, tuples_in, items_in}
-use Rattle.ycheck.specs.Targets.{required_target}
 use Rattle.ystore_rows.specs.declared.row.Row.{Row}
 use Rattle.ylive_facts.specs.Keys.{Key, value_key, item_key, tuple_key, texts_key, slot_of, is_held, times_held, texts_in, entry_key, first_key, kind_reference, reference_key, key_at, kind_key, item_key_at, kind_flags, slots_of, is_item, is_kind_item}
+use Rattle.ylive_facts.proofs.ReferringLemmas.{refers_as}
 use Rattle.ylive_facts.proofs.SameLemmas.{row_itself}
 
 -- ---- slots
@@ -22,10 +22,6 @@ use Rattle.ylive_facts.proofs.SameLemmas.{row_itself}
 made_slot : {A : Type 0} (make : A → Key) (slot : ℕ) (o : Option A) (key : Key) → ((a : A) → slot_of (make a) ≡ Some slot) → option_map make o ≡ Some key → slot_of key ≡ Some slot
 made_slot make slot None key each is = absurd (none-some key is)
 made_slot make slot (Some a) key each is = ap slot_of (sym (same_Some (make a) key is)) ∙ each a
-
-referred_slot : (o : Option Val) (target : Option ℕ) (key : Key) → option_and_then (λ t. option_map (value_key t) o) target ≡ Some key → slot_of key ≡ Some 0
-referred_slot o None key is = absurd (none-some key is)
-referred_slot o (Some t) key is = made_slot (value_key t) 0 o key (λ v. refl) is
 
 abbrev is_of_value : Key → Bool
 is_of_value (value_key target v) = true
@@ -38,13 +34,17 @@ module _ (schema : Schema) (above : Row) (s : Stored) (below : Tree) where
   entry_slot [] key is = absurd (none-some key is)
   entry_slot (number ∷ numbers) key is = made_slot (texts_key above s.schema_number) 0 (texts_in schema (number ∷ numbers) below) key (λ texts. refl) is
 
+  referred_slot : (kind : Kind) (key : Key) → kind_reference schema kind s ≡ Some key → slot_of key ≡ Some 0
+  referred_slot kind key is = refers_as (λ held. held ≡ Some key → slot_of key ≡ Some 0) (λ e. absurd (none-some key e))
+      (λ target v e. sym (ap slot_of (same_Some (value_key target v) key e))) schema kind s is
+
   first_slot : (kind : Kind) (key : Key) → first_key schema kind above s below ≡ Some key → slot_of key ≡ Some 0
-  first_slot (container presence) key is = referred_slot (value_of schema s) (required_target (container presence)) key is
-  first_slot (leaf type absence) key is = referred_slot (value_of schema s) (required_target (leaf type absence)) key is
-  first_slot (leaf_list type defaults amount) key is = referred_slot (value_of schema s) (required_target (leaf_list type defaults amount)) key is
+  first_slot (container presence) key is = referred_slot (container presence) key is
+  first_slot (leaf type absence) key is = referred_slot (leaf type absence) key is
+  first_slot (leaf_list type defaults amount) key is = referred_slot (leaf_list type defaults amount) key is
   first_slot (list tuples amount) key is = entry_slot tuples.keys key is
-  first_slot (choice default_case is_mandatory) key is = referred_slot (value_of schema s) (required_target (choice default_case is_mandatory)) key is
-  first_slot case key is = referred_slot (value_of schema s) (required_target case) key is
+  first_slot (choice default_case is_mandatory) key is = referred_slot (choice default_case is_mandatory) key is
+  first_slot case key is = referred_slot case key is
 
   node_slot : (n : Option SchemaNode) (key : Key) → option_and_then (λ (m : SchemaNode). first_key schema m.kind above s below) n ≡ Some key → slot_of key ≡ Some 0
   node_slot None key is = absurd (none-some key is)

@@ -7,6 +7,7 @@ pub mod PassedLemmas
 pub mod PathLemmas
 pub mod PlayLemmas
 pub mod ReadLemmas
+pub mod ReferringLemmas
 pub mod RowLemmas
 pub mod SameLemmas
 pub mod TellingLemmas

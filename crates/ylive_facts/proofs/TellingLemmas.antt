@@ -1,5 +1,5 @@
 -- What is told at a stored node is told by its keys.
-use Rattle.std.proofs.Common.{◌≡◌, ℕ, suc, ◌+◌, Bool, true, false, cond, eqb, ltb, List, [], ◌∷◌, ◌++◌, length, Option, Some, None, refl, sym, ap, ap₂, ◌∙◌, arith}
+use Rattle.std.proofs.Common.{◌≡◌, ℕ, suc, ◌+◌, Bool, true, false, cond, eqb, ltb, ◌&&◌, List, [], ◌∷◌, ◌++◌, length, Option, Some, None, refl, sym, ap, ap₂, ◌∙◌, arith}
 use Rattle.std.specs.Prelude.{option_map, option_and_then}
 use Rattle.std.specs.Option.{option_map_or}
 use Rattle.std.proofs.lemmas.List.{append-nil}
@@ -11,12 +11,12 @@ use Rattle.yspec.specs.document.Document.{Stored, Tree}
 use Rattle.yspec.specs.document.FaultCode.{V1, V10, V11}
 use Rattle.yspec.specs.document.Fault.{Fault, fault, plain_fault}
 use Rattle.yspec.specs.document.Instances.{Tuple, tuple, kind_tuple, tuple_of_paths, paths_of, value_of, kind_value}
-use Rattle.yspec.specs.document.Faults.{Times, RowTimes, requires_instance, value_faults, item_twice, tuple_fault, tuple_faults, own_faults, faults_at}
-use Rattle.ycheck.specs.Targets.{required_target}
+use Rattle.yspec.specs.schema.References.{Reference, reference_in}
+use Rattle.yspec.specs.document.Faults.{Times, RowTimes, lacks_instance, reference_faults, value_faults, item_twice, tuple_fault, tuple_faults, own_faults, faults_at}
 use Rattle.ycheck.specs.Walk.{marks_told, repetition}
 use Rattle.ystore_rows.specs.declared.row.Row.{Row}
 use Rattle.ylive_facts.specs.Judging.{Judged, right, wrong, missing, kind_judged}
-use Rattle.ylive_facts.specs.Keys.{Key, value_key, item_key, tuple_key, kind_key, item_key_at, kind_flags}
+use Rattle.ylive_facts.specs.Keys.{Key, value_key, item_key, tuple_key, required_key, leaf_key, kind_key, item_key_at, kind_flags}
 use Rattle.ylive_facts.specs.Telling.{times_of, with_reference, is_shared, flags_from, judged_at, flags_at, judged_faults, told_faults}
 
 module _ (times : Times) (row : RowTimes) where
@@ -25,30 +25,29 @@ module _ (times : Times) (row : RowTimes) where
 
   -- ---- a value
 
-  abbrev referring : Bool → Option ℕ → Option ℕ
-  referring required target = cond required target None
-
   missing_or : (b : Bool) → cond b (plain_fault V11 [] ∷ []) [] ≡ judged_faults (cond b missing right)
   missing_or true = refl
   missing_or false = refl
 
-  value_by : (tag : Option Text) (o : Option Val) (required : Bool) (target : Option ℕ)
-      → option_map_or (λ v. cond required (option_map_or (λ t. cond (eqb (times t v) 0) (plain_fault V11 [] ∷ []) []) target []) []) o (fault V1 tag [] ∷ [])
-      ≡ judged_faults (with_reference count (option_and_then (λ t. option_map (value_key t) o) (referring required target)) (option_map_or (λ v. right) o (wrong tag)))
-  value_by tag None required target = refl
-  value_by tag (Some v) false target = refl
-  value_by tag (Some v) true None = refl
-  value_by tag (Some v) true (Some t) = missing_or (eqb (times t v) 0)
+  reference_told : (o : Option Reference) → option_map_or (λ r. cond (lacks_instance times r) (plain_fault V11 [] ∷ []) []) o []
+      ≡ judged_faults (with_reference count (option_and_then required_key o) right)
+  reference_told None = refl
+  reference_told (Some r) = by r.is_required
+    where
+      by : (b : Bool) → cond (b && eqb (times r.target r.value) 0) (plain_fault V11 [] ∷ []) []
+          ≡ judged_faults (with_reference count (cond b (Some (value_key r.target r.value)) None) right)
+      by true = missing_or (eqb (times r.target r.value) 0)
+      by false = refl
 
-  no_value : (target : Option ℕ) → None ≡ option_and_then (λ t. option_map (value_key t) None) target
-  no_value None = refl
-  no_value (Some t) = refl
+  value_by : (type : LeafType) (tag : Option Text) (o : Option Val) → option_map_or (reference_faults times type) o (fault V1 tag [] ∷ [])
+      ≡ judged_faults (with_reference count (option_and_then (leaf_key type) o) (option_map_or (λ v. right) o (wrong tag)))
+  value_by type tag None = refl
+  value_by type tag (Some v) = reference_told (reference_in type v)
 
   value_told : (type : LeafType) (value : Option Raw) → option_map_or (value_faults times type) value []
-      ≡ judged_faults (with_reference count (option_and_then (λ t. option_map (value_key t) (option_and_then (taken type.type) value)) (referring (requires_instance type.type) type.target))
-      (kind_judged (Some type.type) value))
-  value_told type None = ap (λ o. judged_faults (with_reference count o right)) (no_value (referring (requires_instance type.type) type.target))
-  value_told type (Some raw) = value_by (app_tag_of type.type raw) (taken type.type raw) (requires_instance type.type) type.target
+      ≡ judged_faults (with_reference count (option_and_then (leaf_key type) (option_and_then (taken type.type) value)) (kind_judged (Some type.type) value))
+  value_told type None = refl
+  value_told type (Some raw) = value_by type (app_tag_of type.type raw) (taken type.type raw)
 
   -- ---- flags
 
@@ -97,7 +96,7 @@ module _ (times : Times) (row : RowTimes) where
     value_as kind = option_and_then (kind_value kind) s.value
 
     abbrev judged_as : Kind → Judged
-    judged_as kind = with_reference count (option_and_then (λ t. option_map (value_key t) (value_as kind)) (required_target kind))
+    judged_as kind = with_reference count (option_and_then (λ type. option_and_then (leaf_key type) (value_as kind)) (type_in kind))
         (kind_judged (option_map (λ (type : LeafType). type.type) (type_in kind)) s.value)
 
     abbrev flags_as : Bool → Kind → List Bool
@@ -130,7 +129,7 @@ module _ (times : Times) (row : RowTimes) where
     judged_by_node : (n : SchemaNode) → node_at schema s.schema_number ≡ Some n → judged_at count schema s ≡ judged_as n.kind
     judged_by_node n e =
         ap (λ (o : Option SchemaNode). with_reference count
-        (option_and_then (λ (m : SchemaNode). option_and_then (λ t. option_map (value_key t) (option_and_then (λ (m : SchemaNode). value_as m.kind) o)) (required_target m.kind)) o)
+        (option_and_then (λ (m : SchemaNode). option_and_then (λ type. option_and_then (leaf_key type) (option_and_then (λ (m : SchemaNode). value_as m.kind) o)) (type_in m.kind)) o)
         (option_map_or (λ (m : SchemaNode). kind_judged (option_map (λ (type : LeafType). type.type) (type_in m.kind)) s.value) o right)) e
 
     flags_by_node : (n : SchemaNode) → node_at schema s.schema_number ≡ Some n → flags_at count schema above s below ≡ flags_as n.distinct_items n.kind

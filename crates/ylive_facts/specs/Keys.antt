@@ -7,11 +7,11 @@ use Rattle.yspec.specs.Forest.{weigh_row}
 use Rattle.yspec.specs.text.Text.{Text}
 use Rattle.yspec.specs.types.Types.{Val}
 use Rattle.yspec.specs.types.Order.{same_value}
-use Rattle.yspec.specs.schema.Schema.{Schema, Kind, leaf_list, list, node_at}
+use Rattle.yspec.specs.schema.Schema.{Schema, Kind, LeafType, leaf_list, list, node_at, type_in}
+use Rattle.yspec.specs.schema.References.{Reference, may_require, reference_in}
 use Rattle.yspec.specs.document.Document.{Stored, Tree, stored_in}
 use Rattle.yspec.specs.document.Instances.{Tuple, value_of, same_tuple, tuple_of_paths, paths_of}
 use Rattle.yspec.specs.edit.Editing.{text_of}
-use Rattle.ycheck.specs.Targets.{required_target}
 use Rattle.ystore.specs.Store.{same_row}
 use Rattle.ystore_rows.specs.declared.row.NodeId.{NodeId}
 use Rattle.ystore_rows.specs.declared.row.Row.{Row}
@@ -70,9 +70,23 @@ is_kind_item distinct _ = false
 abbrev pub is_item : Schema → ℕ → Bool
 is_item schema number = option_map_or (λ n. is_kind_item n.distinct_items n.kind) (node_at schema number) false
 
--- what a leaf or item refers to, where an instance of it is required
+-- the key of what a value refers to, where an instance of it is required
+abbrev pub required_key : Reference → Option Key
+required_key r = if r.is_required then Some (value_key r.target r.value) else None
+
+abbrev pub leaf_key : LeafType → Val → Option Key
+leaf_key type v = option_and_then required_key (reference_in type v)
+
+-- the type of a leaf or of items, where a value may have one
+abbrev pub type_asked : LeafType → Option LeafType
+type_asked type = if may_require type then Some type else None
+
+abbrev pub asking_type : Kind → Option LeafType
+asking_type kind = option_and_then type_asked (type_in kind)
+
+-- that of a leaf or item
 abbrev pub kind_reference : Schema → Kind → Stored → Option Key
-kind_reference schema kind s = option_and_then (λ target. option_map (value_key target) (value_of schema s)) (required_target kind)
+kind_reference schema kind s = option_and_then (λ type. option_and_then (leaf_key type) (value_of schema s)) (type_in kind)
 
 abbrev pub reference_key : Schema → Stored → Option Key
 reference_key schema s = option_and_then (λ n. kind_reference schema n.kind s) (node_at schema s.schema_number)

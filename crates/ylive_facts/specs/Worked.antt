@@ -20,6 +20,7 @@ references = record {
   name = codes "leafref";
   type = record (plain (integer_base uint8)) { requires_instance = Some true };
   target = Some 1;
+  targets = [];
 }
 
 abbrev any_amount : Amount

@@ -1,13 +1,12 @@
 //! The keys of indexes that nodes hold.
 
-ghost use Rattle.std.specs.Prelude.{◌≡◌, ◌+◌, ◌*◌, ◌≤◌, ◌^◌, ◌++◌, IfOk, OnOk, length, option_map, suc};
+ghost use Rattle.std.specs.Prelude.{◌≡◌, ◌+◌, ◌*◌, ◌≤◌, ◌^◌, ◌++◌, IfOk, OnOk, length, option_and_then, option_map, suc};
 ghost use Rattle.std.specs.Option.{option_map_or};
 ghost use Rattle.yspec.specs.Forest.{end, node};
 ghost use Rattle.yspec.specs.schema.Schema.{node_at};
 ghost use Rattle.yspec.specs.document.Instances as spec;
-ghost use Rattle.yschema_model.specs.Layout.{kind_view, number_of, numbers_of, tuples_view};
+ghost use Rattle.yschema_model.specs.Layout.{kind_view, leaf_type_view, numbers_of, reference_view, tuples_view};
 ghost use Rattle.yschema_model.specs.View as schema_view;
-ghost use Rattle.ycheck.specs.Targets as targets;
 ghost use Rattle.yspec_reach.specs.Sizes.{levels};
 ghost use Rattle.ystore.specs.Store.{reads};
 ghost use Rattle.ystore.specs.Views.{store_of, lent};
@@ -22,8 +21,9 @@ use crate::texts::texts_of;
 use crate::tuples::tuple_of;
 use crate::values::value_as;
 use std::alloc::AllocError;
-use yschema_model::{Kind, Schema, SchemaId, Tuples};
+use yschema_model::{Kind, LeafType, Reference, Schema, SchemaId, Tuples};
 use ystore::{Counted, Key, NodeId, Row};
+use ytype::Val;
 
 /// How many flags a node of a schema node has: whether another has its value or its tuple of the key, from 0, or of a
 /// `unique`, from 1.
@@ -48,15 +48,60 @@ fn kind_flags(distinct: bool, kind: &Kind) -> usize
     }
 }
 
-/// The schema node that a node's values refer to, where its type requires an instance of it.
-fn required_target(kind: &Kind) -> Option<SchemaId>
-    ensures { number_of result ≡ targets.required_target (kind_view kind.now) }
+/// The type of a leaf or of items, where a value of it may refer to something that must be there.
+fn asking_type(kind: &Kind) -> Option<&LeafType>
+    ensures { option_map (λ t. leaf_type_view t.now) result
+        ≡ words.asking_type (kind_view kind.now) }
 {
     let leaf_type = kind.leaf_type()?;
-    if leaf_type.value_type.requires_instance() == Some(true) {
-        leaf_type.target
+    if leaf_type.may_require() {
+        Some(leaf_type)
     } else {
         None
+    }
+}
+
+/// What a value refers to, where an instance of it is required.
+fn required_key(leaf_type: &LeafType, value: Val) -> Option<Key>
+    ensures { option_map words.key_view result
+        ≡ words.leaf_key (leaf_type_view leaf_type.now) value }
+{
+    match leaf_type.reference(value) {
+        Some(reference) => key_of(reference),
+        None => None,
+    }
+}
+
+/// The key of a reference, where an instance is required.
+fn key_of(reference: Reference) -> Option<Key>
+    ensures { option_map words.key_view result
+        ≡ words.required_key (reference_view reference) }
+{
+    if reference.is_required {
+        Some(Key::Value(reference.target, reference.value))
+    } else {
+        None
+    }
+}
+
+/// What a node of a type refers to, where an instance of it is required.
+fn leaf_key(
+    counted: &mut Counted<'_>,
+    schema: &Schema,
+    leaf_type: &LeafType,
+    of: SchemaId,
+    id: NodeId,
+) -> Result<Option<Key>, AllocError>
+    ensures key { let s = schema_view.view schema.now in
+        IfOk result (λ key. option_map words.key_view key
+        ≡ option_and_then (words.leaf_key (leaf_type_view leaf_type.now)) (spec.value_of s (leaf_at (store_of counted.old) of id))) }
+    ensures kept { OnlyReads (store_of counted.old) (store_of counted.new) }
+    ensures reads { reads (store_of counted.new) ≤ reads (store_of counted.old) + 1 }
+    ensures same_reference { lent counted.new ≡ lent counted.old }
+{
+    match value_as(counted, schema, of, id)? {
+        Some(value) => Ok(required_key(leaf_type, value)),
+        None => Ok(None),
     }
 }
 
@@ -75,11 +120,8 @@ fn reference_key(
     ensures reads { reads (store_of counted.new) ≤ reads (store_of counted.old) + 1 }
     ensures same_reference { lent counted.new ≡ lent counted.old }
 {
-    let Some(target) = required_target(kind) else {
-        return Ok(None);
-    };
-    match value_as(counted, schema, of, id)? {
-        Some(value) => Ok(Some(Key::Value(target, value))),
+    match asking_type(kind) {
+        Some(leaf_type) => leaf_key(counted, schema, leaf_type, of, id),
         None => Ok(None),
     }
 }

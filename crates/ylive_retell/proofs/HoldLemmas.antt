@@ -7,10 +7,9 @@ use Rattle.std.specs.List.{flat_map}
 use Rattle.std.proofs.lemmas.Option.{none-some}
 use Rattle.yspec.specs.text.Text.{Text}
 use Rattle.yspec.specs.types.Types.{Raw, Val, taken, app_tag_of}
-use Rattle.yspec.specs.schema.Schema.{Schema, SchemaNode, Kind, container, leaf, leaf_list, list, choice, case, type_in, node_at}
+use Rattle.yspec.specs.schema.Schema.{Schema, SchemaNode, Kind, LeafType, container, leaf, leaf_list, list, choice, case, type_in, node_at}
 use Rattle.yspec.specs.document.Document.{Stored, Tree}
 use Rattle.yspec.specs.document.Instances.{kind_value, value_of}
-use Rattle.ycheck.specs.Targets.{required_target}
 use Rattle.ystore_rows.specs.declared.row.NodeId.{NodeId}
 use Rattle.ystore_rows.specs.declared.row.Row.{Row}
 use Rattle.ystore_rows.specs.declared.row.Row.TheVariants.{Below}
@@ -20,7 +19,7 @@ use Rattle.ystore.specs.declared.nodes.Nodes.{Nodes}
 use Rattle.ystore_tree.specs.Growing as shape
 use Rattle.ystore_tree.specs.Hanging.{Branches, stored_of, tree_of}
 use Rattle.ylive_facts.specs.Judging.{right, wrong, kind_judged, value_judged}
-use Rattle.ylive_facts.specs.Keys.{Key, value_key, Holding, key_view, holdings, held_with, first_key, key_at, keys_from, kind_flags, flags_of, slots_of}
+use Rattle.ylive_facts.specs.Keys.{Key, Holding, key_view, holdings, held_with, leaf_key, first_key, key_at, keys_from, kind_flags, flags_of, slots_of}
 use Rattle.ylive_marks.specs.Keys.{Own, own_at, flag_of}
 use Rattle.ylive_marks.specs.Totals.{StandsIn}
 use Rattle.ylive_retell.specs.IsTold.{TellsOwn, wrong_in}
@@ -50,34 +49,21 @@ counts_same schema number = by (node_at schema number)
 
 -- ---- a node that refers to a value has one that its type takes
 
-module _ (key : Key) (target : ℕ) where
-  took : (o : Option Val) (tag : Option Text) → option_map (value_key target) o ≡ Some key → option_map_or (λ (v : Val). right) o (wrong tag) ≡ right
+module _ (key : Key) (type : LeafType) where
+  took : (o : Option Val) (tag : Option Text) → option_and_then (leaf_key type) o ≡ Some key → option_map_or (λ (v : Val). right) o (wrong tag) ≡ right
   took None tag e = absurd (none-some key e)
   took (Some v) tag e = refl
 
-  valued : (kind : Kind) (value : Option Raw) → option_map (value_key target) (option_and_then (kind_value kind) value) ≡ Some key
-      → kind_judged (option_map (λ type. type.type) (type_in kind)) value ≡ right
-  valued kind None e = absurd (none-some key e)
-  valued (leaf type absence) (Some raw) e = took (taken type.type raw) (app_tag_of type.type raw) e
-  valued (leaf_list type defaults amount) (Some raw) e = took (taken type.type raw) (app_tag_of type.type raw) e
-  valued (container presence) (Some raw) e = refl
-  valued (list tuples amount) (Some raw) e = refl
-  valued (choice default_case is_mandatory) (Some raw) e = refl
-  valued case (Some raw) e = refl
+  valued : (value : Option Raw) → option_and_then (leaf_key type) (option_and_then (taken type.type) value) ≡ Some key → kind_judged (Some type.type) value ≡ right
+  valued None e = absurd (none-some key e)
+  valued (Some raw) e = took (taken type.type raw) (app_tag_of type.type raw) e
 
 -- a node that holds a key at its first slot has no value, or a right one
 module _ (schema : Schema) (above : Row) (s : Stored) (below : Tree) (key : Key) where
-  referring : (kind : Kind) (value : Option Val) (o : Option ℕ) → value ≡ option_and_then (kind_value kind) s.value
-      → option_and_then (λ target. option_map (value_key target) value) o ≡ Some key
-      → kind_judged (option_map (λ type. type.type) (type_in kind)) s.value ≡ right
-  referring kind value None same e = absurd (none-some key e)
-  referring kind value (Some target) same e = valued key target kind s.value (sym (ap (option_map (value_key target)) same) ∙ e)
-
   first_kind : (kind : Kind) → value_of schema s ≡ option_and_then (kind_value kind) s.value → first_key schema kind above s below ≡ Some key
       → kind_judged (option_map (λ type. type.type) (type_in kind)) s.value ≡ right
-  first_kind (leaf type absence) same e = referring (leaf type absence) (value_of schema s) (required_target (leaf type absence)) same e
-  first_kind (leaf_list type defaults amount) same e =
-      referring (leaf_list type defaults amount) (value_of schema s) (required_target (leaf_list type defaults amount)) same e
+  first_kind (leaf type absence) same e = valued key type s.value (sym (ap (option_and_then (leaf_key type)) same) ∙ e)
+  first_kind (leaf_list type defaults amount) same e = valued key type s.value (sym (ap (option_and_then (leaf_key type)) same) ∙ e)
   first_kind (container presence) same e = refl
   first_kind (list tuples amount) same e = refl
   first_kind (choice default_case is_mandatory) same e = refl

@@ -74,7 +74,7 @@ of_modules =
     said (codes "C17") (codes "The path of a leafref leads nowhere, to no leaf, in a circle, or from configuration to state.")
     (codes "the leaf or leaf-list") (codes "Name each data node on the way with its prefix; write require-instance false where configuration may refer to state.") (codes "RFC 7950, 9.9") ∷
     said (codes "C18") (codes "The modules define more than 65,535 nodes, nodes stand more than 60 deep, or a union has more than 65,535 members.")
-    (codes "the module that is given last, or the union's type") (codes "Give fewer modules at once; name each member of a union once.") (codes "a limit of this program") ∷
+    (codes "the module that is given last, or the union's type or leaf") (codes "Give fewer modules at once; name each member of a union once.") (codes "a limit of this program") ∷
     said (codes "C20") (codes "A pattern isn't a regular expression as XML Schema has it.")
     (codes "the pattern") (codes "Close each class and group, and put a backslash before a sign that stands for itself; blocks such as IsGreek aren't read.") (codes "RFC 7950, 9.4.5; XML Schema, part 2, appendix F") ∷
     said (codes "C22") (codes "A condition names no feature, or features lead back to themselves by their conditions.")

@@ -188,7 +188,7 @@ const OF_MODULES: &[Explanation] = &[
     Explanation {
         code: "C18",
         cause: "The modules define more than 65,535 nodes, nodes stand more than 60 deep, or a union has more than 65,535 members.",
-        place: "the module that is given last, or the union's type",
+        place: "the module that is given last, or the union's type or leaf",
         remedy: "Give fewer modules at once; name each member of a union once.",
         source: "a limit of this program",
     },

@@ -1,10 +1,11 @@
 -- What is said of a fault of a document: a path, and what is there or is missing.
-use Rattle.std.specs.Prelude.{ℕ, ◌++◌, List, [], codes, decimal, Option, Some, None, option_and_then, unwrap_or}
+use Rattle.std.specs.Prelude.{ℕ, ◌++◌, List, [], codes, decimal, Option, Some, None, option_map, option_and_then, unwrap_or}
 use Rattle.std.specs.Option.{option_map_or}
-use Rattle.yspec.specs.Forest.{Forest}
+use Rattle.yspec.specs.Forest.{Forest, first_of}
 use Rattle.yspec.specs.text.Text.{Text}
-use Rattle.yspec.specs.types.Types.{Raw}
-use Rattle.yspec.specs.schema.Schema.{Schema, SchemaNode, Kind, list, leaf_list, Amount, node_at, children_of, written_name}
+use Rattle.yspec.specs.types.Types.{Raw, taken}
+use Rattle.yspec.specs.schema.References as references
+use Rattle.yspec.specs.schema.Schema.{Schema, SchemaNode, Kind, LeafType, list, leaf_list, Amount, node_at, children_of, written_name}
 use Rattle.yspec.specs.document.Document.{Tree, Step, instances_in}
 use Rattle.yspec.specs.document.FaultCode.{FaultCode, V1, V2, V3, V4, V5, V6, V7, V8, V9, V10, V11, V12}
 use Rattle.yspec.specs.document.Fault.{Fault, Info, choice_name, unique_number}
@@ -44,8 +45,17 @@ amount_in _ = None
 abbrev pub amount_at : Schema → ℕ → Option Amount
 amount_at schema number = option_and_then (λ n. amount_in n.kind) (node_at schema number)
 
-abbrev pub target_at : Schema → ℕ → Option ℕ
-target_at schema number = option_and_then (λ t. t.target) (type_at schema number)
+-- the schema node to which that member of a union refers that takes a value
+abbrev pub member_target : LeafType → Option Raw → Option ℕ
+member_target type value =
+    option_map references.number_of (option_and_then (references.member_target type.targets) (option_and_then (taken type.type) value))
+
+-- a leafref's target, or that
+abbrev pub target_by : LeafType → Option Raw → Option ℕ
+target_by type value = first_of type.target (member_target type value)
+
+abbrev pub target_at : Schema → ℕ → Option Raw → Option ℕ
+target_at schema number value = option_and_then (λ t. target_by t value) (type_at schema number)
 
 -- ---- where nodes may stand
 
@@ -59,6 +69,10 @@ children_at schema steps =
 -- the value of the leaf or item to which it leads
 abbrev pub value_to : Tree → Step → Option Raw
 value_to row step = option_and_then (λ found. found.0.value) (instance_to row step)
+
+-- the schema node to which that refers
+abbrev pub target_to : Schema → Tree → Step → Option ℕ
+target_to schema row step = target_at schema step.schema_number (value_to row step)
 
 -- the message of the module for that value
 abbrev pub message_to : Schema → Tree → Step → Option Text
@@ -115,7 +129,7 @@ same_item schema row above step = codes "its value " ++ (value_text (value_to ro
 -- V11
 abbrev pub no_target : Schema → Tree → Tree → Step → Text
 no_target schema tree row step =
-    let target = target_at schema step.schema_number in
+    let target = target_to schema row step in
     let value = value_to row step in
     codes "no instance of " ++ (target_path schema target ++ (codes " is " ++ (value_text value
     ++ near_words (nearest_target schema tree target value))))

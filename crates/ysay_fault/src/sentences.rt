@@ -4,7 +4,8 @@ ghost use Rattle.std.specs.Prelude.{◌≡◌, IfOk, option_and_then, option_map
 ghost use Rattle.std.specs.Option.{option_map_or};
 ghost use Rattle.yspec.specs.document.Sorting.{IsSorted};
 ghost use Rattle.ytype.specs.View as held;
-ghost use Rattle.yschema_model.specs.Layout.{amount_view, number_of};
+ghost use Rattle.yspec.specs.schema.References as references;
+ghost use Rattle.yschema_model.specs.Layout.{amount_view, leaf_type_view, number_of};
 ghost use Rattle.yschema_model.specs.View as schema_view;
 ghost use Rattle.yinst_tree.specs.View as document_view;
 ghost use Rattle.ysay_fault.specs.Fellows.{fellow_entry, fellow_item};
@@ -16,14 +17,15 @@ use crate::cases::stored_case_names;
 use crate::fellows::fellow_text;
 use itoa::Buffer;
 use std::alloc::{AllocError, Global};
+use ycheck::valid_value;
 use yinst_tree::{Step, Stored, Tree};
 use ysay_place::{count_of, instance_found, module_at, row_at, row_found, target_path};
 use ysay_value::{
     hint_words, keys_at, keys_said, leafs_said, message_at, message_words, near_words, taken_words,
     type_at, unique_at, value_text,
 };
-use yschema_model::{Amount, Children, Kind, Schema, SchemaId};
-use ytype::Raw;
+use yschema_model::{Amount, Children, Kind, LeafType, Schema, SchemaId};
+use ytype::{Raw, Val};
 
 // ---- what the schema says
 
@@ -65,10 +67,63 @@ fn hint_at(
     }
 }
 
-fn target_at(schema: &Schema, id: SchemaId) -> Option<SchemaId>
-    ensures { number_of result ≡ spec.target_at (schema_view.view schema.now) id.0 }
+/// The schema node to which that member of a union refers which took a value.
+fn target_of(leaf_type: &LeafType, value: &Val) -> Option<SchemaId>
+    ensures { number_of result ≡ option_map references.number_of
+        (references.member_target (leaf_type_view leaf_type.now).targets value.now) }
 {
-    type_at(schema, id)?.target
+    match leaf_type.member_target(value) {
+        Some(member) => Some(member.target),
+        None => None,
+    }
+}
+
+/// The same of that member which takes a value.
+fn member_target(
+    alloc: Global,
+    leaf_type: &LeafType,
+    raw: Option<&Raw>,
+) -> Result<Option<SchemaId>, AllocError>
+    ensures { IfOk result (λ target. number_of target
+        ≡ spec.member_target (leaf_type_view leaf_type.now)
+        (option_map (λ r. held.raw_of r.now) raw.entry)) }
+{
+    match valid_value(alloc, &leaf_type.value_type, raw)? {
+        Some(value) => Ok(target_of(leaf_type, &value)),
+        None => Ok(None),
+    }
+}
+
+fn target_by(
+    alloc: Global,
+    leaf_type: &LeafType,
+    raw: Option<&Raw>,
+) -> Result<Option<SchemaId>, AllocError>
+    ensures { IfOk result (λ target. number_of target
+        ≡ spec.target_by (leaf_type_view leaf_type.now)
+        (option_map (λ r. held.raw_of r.now) raw.entry)) }
+{
+    match leaf_type.target {
+        Some(target) => Ok(Some(target)),
+        None => member_target(alloc, leaf_type, raw),
+    }
+}
+
+/// The schema node to which a leaf or item refers that has a value.
+fn target_at(
+    alloc: Global,
+    schema: &Schema,
+    id: SchemaId,
+    raw: Option<&Raw>,
+) -> Result<Option<SchemaId>, AllocError>
+    ensures { IfOk result (λ target. number_of target
+        ≡ spec.target_at (schema_view.view schema.now) id.0
+        (option_map (λ r. held.raw_of r.now) raw.entry)) }
+{
+    match type_at(schema, id) {
+        Some(leaf_type) => target_by(alloc, leaf_type, raw),
+        None => Ok(None),
+    }
 }
 
 fn amount_in(kind: &Kind) -> Option<&Amount>
@@ -135,6 +190,22 @@ fn value_to(
         (document_view.step_view step.now))) }
 {
     value_text(alloc, raw_to(row, in_order, step))
+}
+
+/// The schema node to which that refers.
+fn target_to(
+    alloc: Global,
+    schema: &Schema,
+    row: &[Stored],
+    in_order: bool,
+    step: &Step,
+) -> Result<Option<SchemaId>, AllocError>
+    requires order { in_order ≡ true → IsSorted (document_view.row_view row.now) }
+    ensures { IfOk result (λ target. number_of target
+        ≡ spec.target_to (schema_view.view schema.now) (document_view.row_view row.now)
+        (document_view.step_view step.now)) }
+{
+    target_at(alloc, schema, step.id, raw_to(row, in_order, step))
 }
 
 /// The message of the module for that value.
@@ -392,7 +463,7 @@ pub(crate) fn no_target(
         ≡ spec.no_target (schema_view.view schema.now) (document_view.tree_view tree.now)
         (document_view.row_view row.now) (document_view.step_view step.now)) }
 {
-    let target = target_at(schema, step.id);
+    let target = target_to(alloc, schema, row, in_order, step)?;
     let path = target_path(alloc, schema, target)?;
     let value = value_to(alloc, row, in_order, step)?;
     let near = near_words(alloc, schema, tree, target, raw_to(row, in_order, step))?;

@@ -93,7 +93,7 @@ fn type_or_text(alloc: Global, value_type: Option<&YType>) -> Result<YType, Allo
     value_type.clone()
 }
 
-/// The type of a leaf or of items, and to which node it refers.
+/// The type of a leaf or of items, and to which nodes it and its members refer.
 fn leaf_type_of<'a, 't>(
     alloc: Global,
     language: &Language,
@@ -109,10 +109,12 @@ fn leaf_type_of<'a, 't>(
 {
     let name = TypeName::of(alloc, node.planned.type_name())?;
     let value_type = type_or_text(alloc, resolved.value_type(node.number))?;
+    let targets = Vec::from_slice(alloc, resolved.member_targets(node.number))?;
     Ok(LeafType {
         name,
         value_type,
         target: id_of(resolved.target(node.number)),
+        targets,
     })
 }
 

@@ -16,18 +16,18 @@ use Rattle.yschema_given.specs.Keeping.{are_kept_right, is_kept_right}
 module _ (language : Language) where
   -- a statement with the keyword that it is kept with
   abbrev IsKept : Keyword → Statement → Type 0
-  IsKept k s = (home number : ℕ) → is_kept_right language (record { keyword = k; statement = s; number = number; home = home }) ≡ true
+  IsKept k s = (may : Bool) (home number : ℕ) → is_kept_right language (record { keyword = k; statement = s; number = number; home = home; may_refer = may }) ≡ true
 
   abbrev AllKept : Forest (Keyword × Statement) → Type 0
   AllKept end = Unit {0}
   AllKept (node (k, s) below after) = IsKept k s × AllKept below × AllKept after
 
-  kept_numbered : (home number : ℕ) (f : Forest (Keyword × Statement)) → AllKept f → are_kept_right language (numbered home number f) ≡ true
+  kept_numbered : (may : Bool) (home number : ℕ) (f : Forest (Keyword × Statement)) → AllKept f → are_kept_right language (numbered may home number f) ≡ true
   unfolding numbered
-  kept_numbered home number end all = refl
-  kept_numbered home number (node (k, s) below after) all =
-      ap₂ (λ x y. x && y) (all.0 home number)
-      (ap₂ (λ x y. x && y) (kept_numbered home (number + 1) below all.1) (kept_numbered home (number + suc (size below)) after all.2))
+  kept_numbered may home number end all = refl
+  kept_numbered may home number (node (k, s) below after) all =
+      ap₂ (λ x y. x && y) (all.0 may home number)
+      (ap₂ (λ x y. x && y) (kept_numbered may home (number + 1) below all.1) (kept_numbered may home (number + suc (size below)) after all.2))
 
   kept_joined : (f g : Forest Source) → are_kept_right language f ≡ true → are_kept_right language g ≡ true → are_kept_right language (join f g) ≡ true
   kept_joined end g first second = second
@@ -79,14 +79,14 @@ module _ (language : Language) (each : (restricting : Bool) (s : Statement) (k :
   unfolding sources_in_from
   from_keeps home number end = refl
   from_keeps home number (node s below after) =
-      kept_joined language (numbered home number (module_kept language s below))
+      kept_joined language (numbered (may_restrict language below) home number (module_kept language s below))
       (sources_in_from language (home + 1) (number + size (module_kept language s below)) after)
-      (kept_numbered language home number (module_kept language s below) (all_kept language each (may_restrict language below) false (node s below end)))
+      (kept_numbered language (may_restrict language below) home number (module_kept language s below) (all_kept language each (may_restrict language below) false (node s below end)))
       (from_keeps (home + 1) (number + size (module_kept language s below)) after)
 
 each_kept : (language : Language) (restricting : Bool) (s : Statement) (k : Keyword) → kept_keyword_in language restricting s ≡ Some k → IsKept language k s
-each_kept core restricting s k kept home number = refl
-each_kept (rfc wide) restricting s k kept home number =
+each_kept core restricting s k kept may home number = refl
+each_kept (rfc wide) restricting s k kept may home number =
     by (is_text s.keyword (word_text if_feature_word)) refl (is_text s.keyword (word_text when_word)) refl
   where
     by : (b : Bool) → is_text s.keyword (word_text if_feature_word) ≡ b → (c : Bool) → is_text s.keyword (word_text when_word) ≡ c

@@ -2,11 +2,12 @@
 use Rattle.std.proofs.Common.{◌≡◌, ℕ, zero, suc, ◌+◌, Bool, true, false, cond, ◌&&◌, List, [], ◌∷◌, ◌++◌, map, filter, length, take, drop, Option, Some, None, refl, sym, ap, ap₂, ◌∙◌}
 use mathlib.Core.Logic.{∥∥₁_map}
 use Rattle.std.specs.Prelude.{◌==◌}
-use Rattle.std.specs.Option.{option_eq, option_map_or}
+use Rattle.std.specs.List.{list_any}
+use Rattle.std.specs.Option.{option_eq}
 use Rattle.std.proofs.lemmas.List.{map-append}
 use Rattle.yspec.specs.Forest.{Forest, end, node, relabelled}
 use Rattle.yspec.specs.schema.Configuration.{unasked, asked_node, configuration_schema}
-use Rattle.yspec.specs.schema.References.{refers_to, target_in}
+use Rattle.yspec.specs.schema.References.{refers_to, targets_in}
 use Rattle.yspec.specs.schema.Schema.{Schema, SchemaNode, Kind, container, leaf, leaf_list, list, choice, case, is_called}
 use Rattle.yspec_fit.specs.Fit.{IsFit}
 use Rattle.yspec_fit.proofs.ConfigurationLemmas.{data_kept, kept_by}
@@ -35,7 +36,7 @@ asked_push slots asked r s e here =
 
 -- ---- what a node keeps
 
-unasked-target : (k : Kind) → target_in (unasked k) ≡ target_in k
+unasked-target : (k : Kind) → targets_in (unasked k) ≡ targets_in k
 unasked-target (container presence) = refl
 unasked-target (leaf type absence) = refl
 unasked-target (leaf_list type defaults amount) = refl
@@ -44,7 +45,7 @@ unasked-target (choice default_case is_mandatory) = refl
 unasked-target case = refl
 
 asked-refers : (target : ℕ) (n : SchemaNode) → refers_to target (asked_node n) ≡ refers_to target n
-asked-refers target n = ap (λ o. option_map_or (λ t. t == target) o false) (kept_by target_in unasked-target n)
+asked-refers target n = ap (list_any (λ t. t == target)) (kept_by targets_in unasked-target n)
 
 -- ---- rows of nodes
 

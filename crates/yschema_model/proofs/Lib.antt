@@ -1,6 +1,8 @@
 pub mod LayoutLemmas
 pub mod QueryLemmas
 pub mod ReferenceLemmas
+pub mod LeafTypeLemmas
+pub mod TargetLemmas
 pub mod RowLemmas
 pub mod WayLemmas
 pub mod ChildLemmas

@@ -1,8 +1,10 @@
 -- How the nodes of a schema lie in slots: each before those below it, with how many these are.
-use Rattle.std.specs.Prelude.{ℕ, zero, suc, ◌+◌, Bool, true, ◌&&◌, nat_le, length, take, drop, map, List, [], ◌∷◌, ◌++◌, Option, Some, None, option_map, option_and_then, slice_get, if◌then◌else◌, string_bytes, ◌≡◌}
+use Rattle.std.specs.Prelude.{ℕ, zero, suc, ◌+◌, Bool, true, ◌&&◌, nat_le, length, take, drop, map, replicate, List, [], ◌∷◌, ◌++◌, Option, Some, None, option_map, option_and_then, slice_get, if◌then◌else◌, string_bytes, ◌≡◌}
+use Rattle.std.specs.List.{flat_map, range_with_len}
 use Rattle.yspec.specs.Forest.{Forest, end, node, size}
 use Rattle.yspec.specs.text.Text.{Text}
 use Rattle.yspec.specs.schema.Schema as spec
+use Rattle.yspec.specs.schema.References as references
 use Rattle.yspec.specs.linking.TypeStatements.{built_in_name}
 use Rattle.ybase_words.specs.BuiltInView.{built_in_view}
 pub use Rattle.ybase_words.specs.WordView.{status_view}
@@ -12,7 +14,11 @@ use Rattle.yschema_model.specs.declared.node.Kind.{Kind}
 use Rattle.yschema_model.specs.declared.node.Kind.TheVariants as kinds
 use Rattle.yschema_model.specs.declared.node.TypeName.{TypeName}
 use Rattle.yschema_model.specs.declared.node.TypeName.TheVariants as type_names
+use Rattle.yschema_model.specs.declared.node.MemberTarget.{MemberTarget}
+use Rattle.yschema_model.specs.declared.node.MemberTargets.{MemberTargets}
+use Rattle.yschema_model.specs.declared.node.MemberTargets.TheVariants as targets
 use Rattle.yschema_model.specs.declared.node.LeafType.{LeafType}
+use Rattle.yschema_model.specs.declared.node.Reference.{Reference}
 use Rattle.yschema_model.specs.declared.node.Absence.{Absence}
 use Rattle.yschema_model.specs.declared.node.Absence.TheVariants as absences
 use Rattle.yschema_model.specs.declared.node.Amount.{Amount}
@@ -33,9 +39,30 @@ abbrev pub type_name_view : TypeName → Text
 type_name_view (type_names.BuiltIn b) = built_in_name (built_in_view b)
 type_name_view (type_names.Derived name) = string_bytes name
 
+abbrev pub member_target_view : MemberTarget → spec.MemberTarget
+member_target_view m = record { target = m.target.0; member = m.member; is_required = m.is_required }
+
+-- what each of some members refers to that stand one behind the other
+abbrev pub each_target : MemberTargets → List (Option spec.MemberTarget)
+each_target (targets.Own count) = replicate count None
+each_target (targets.One target is_required) =
+    Some (record { target = target.0; member = None; is_required = is_required }) ∷ []
+each_target (targets.All target count is_required) =
+    map (λ i. Some (record { target = target.0; member = Some i; is_required = is_required })) (range_with_len 0 count)
+
+abbrev pub targets_view : List MemberTargets → List (Option spec.MemberTarget)
+targets_view = flat_map each_target
+
 abbrev pub leaf_type_view : LeafType → spec.LeafType
-leaf_type_view t =
-    record { name = type_name_view t.name; type = t.value_type; target = number_of t.target }
+leaf_type_view t = record {
+  name = type_name_view t.name;
+  type = t.value_type;
+  target = number_of t.target;
+  targets = targets_view t.targets.items;
+}
+
+abbrev pub reference_view : Reference → references.Reference
+reference_view r = record { target = r.target.0; value = r.value; is_required = r.is_required }
 
 abbrev pub absence_view : Absence → spec.Absence
 absence_view absences.Allowed = spec.allowed

@@ -61,13 +61,191 @@ impl TypeName {
     }
 }
 
+/// What a member of a union refers to that is one of a leafref's (RFC 7950, 9.9 and 9.12).
+#[derive(Clone, Copy, Debug, PartialEq, Eq)]
+pub struct MemberTarget {
+    /// The leafref's target.
+    pub target: SchemaId,
+    /// As which member of its type the value stands there, where that is a union.
+    pub member: Option<usize>,
+    pub is_required: bool,
+}
+
+/// What members of a union refer to that stand one behind the other, however many they are.
+#[derive(Clone, Copy, Debug, PartialEq, Eq)]
+pub enum MemberTargets {
+    /// So many that are no leafref's: nothing.
+    Own(usize),
+    /// That of a leafref whose target's type is no union.
+    One {
+        target: SchemaId,
+        is_required: bool,
+    },
+    /// Those of a leafref whose target's type is a union of so many members, in its order.
+    All {
+        target: SchemaId,
+        count: usize,
+        is_required: bool,
+    },
+}
+
+impl MemberTargets {
+    ghost use Rattle.std.specs.Prelude.{◌≡◌, ◌<◌, None, length, option_map, slice_get, unwrap_or};
+    ghost use Rattle.yspec.specs.schema.References as words;
+    ghost use Rattle.yschema_model.specs.Layout.{each_target, member_target_view, targets_view};
+
+    /// How many these members are.
+    pub(crate) fn count(&self) -> usize
+        ensures { result ≡ length (each_target self.now) }
+    {
+        match self {
+            MemberTargets::Own(count) => *count,
+            MemberTargets::One { .. } => 1,
+            MemberTargets::All { count, .. } => *count,
+        }
+    }
+
+    /// What the one of a number among them refers to.
+    fn at(&self, number: usize) -> Option<MemberTarget>
+        ensures { number < length (each_target self.now)
+            → option_map member_target_view result
+            ≡ unwrap_or (slice_get (each_target self.now) number) None }
+    {
+        match self {
+            MemberTargets::Own(_) => None,
+            MemberTargets::One {
+                target,
+                is_required,
+            } => Some(MemberTarget {
+                target: *target,
+                member: None,
+                is_required: *is_required,
+            }),
+            MemberTargets::All {
+                target,
+                is_required,
+                ..
+            } => Some(MemberTarget {
+                target: *target,
+                member: Some(number),
+                is_required: *is_required,
+            }),
+        }
+    }
+
+    /// What the member of a number refers to, of all members of a union.
+    fn found(all: &[MemberTargets], number: usize) -> Option<MemberTarget>
+        ensures { option_map member_target_view result
+            ≡ unwrap_or (slice_get (targets_view all.now) number) None }
+    {
+        let mut left = number;
+        for members in all {
+            let count = members.count();
+            if left < count {
+                return members.at(left);
+            }
+            left -= count;
+        }
+        None
+    }
+
+    /// Whether there is any member.
+    fn are_some(all: &[MemberTargets]) -> bool
+        ensures { result ≡ words.has_leafrefs (targets_view all.now) }
+    {
+        for members in all {
+            if members.count() > 0 {
+                return true;
+            }
+        }
+        false
+    }
+}
+
 /// The type of a leaf or of items, and its name in the `type` statement; of a leafref it is that of its target, which
-/// stands beside it (RFC 7950, 9.9).
+/// stands beside it (RFC 7950, 9.9). Beside a union with leafrefs stands what its members refer to, those of the targets'
+/// types being its own; beside any other, nothing.
 #[derive(Debug, Drop)]
 pub struct LeafType {
     pub name: TypeName,
     pub value_type: YType,
     pub target: Option<SchemaId>,
+    pub targets: Vec<MemberTargets>,
+}
+
+/// What a value refers to: a schema node, the value that an instance of it has, and whether there must be one.
+#[derive(Debug, Drop)]
+pub struct Reference {
+    pub target: SchemaId,
+    pub value: Val,
+    pub is_required: bool,
+}
+
+impl LeafType {
+    ghost use Rattle.std.specs.Prelude.{◌≡◌, option_map};
+    ghost use Rattle.yspec.specs.schema.References as words;
+    ghost use Rattle.yschema_model.specs.Layout.{leaf_type_view, member_target_view, reference_view, targets_view};
+
+    /// Whether a value of it may refer to something that must be there.
+    pub fn may_require(&self) -> bool
+        ensures { result ≡ words.may_require (leaf_type_view self.now) }
+    {
+        if MemberTargets::are_some(&self.targets) {
+            return true;
+        }
+        match self.target {
+            Some(_) => self.requires_instance(),
+            None => false,
+        }
+    }
+
+    /// Whether an instance of its target is required, where it is a leafref.
+    fn requires_instance(&self) -> bool
+        ensures { result ≡ words.requires_instance self.now.value_type }
+    {
+        self.value_type.requires_instance().unwrap_or(false)
+    }
+
+    /// What the member of a union refers to that took a value.
+    pub fn member_target(&self, value: &Val) -> Option<MemberTarget>
+        ensures { option_map member_target_view result
+            ≡ words.member_target (targets_view self.now.targets.items) value.now }
+    {
+        match value.member() {
+            Some(number) => MemberTargets::found(&self.targets, number),
+            None => None,
+        }
+    }
+
+    /// What a value of it refers to, by the leafref that it is or the member of a union that took the value.
+    pub fn reference(&self, value: Val) -> Option<Reference>
+        ensures { option_map reference_view result
+            ≡ words.reference_in (leaf_type_view self.now) value }
+    {
+        match self.target {
+            Some(target) => Some(Reference {
+                target,
+                value,
+                is_required: self.requires_instance(),
+            }),
+            None => self.member_reference(value),
+        }
+    }
+
+    /// What a value refers to by the member of a union that took it.
+    fn member_reference(&self, value: Val) -> Option<Reference>
+        ensures { option_map reference_view result ≡ option_map (words.member_reference value)
+            (words.member_target (targets_view self.now.targets.items) value) }
+    {
+        match self.member_target(&value) {
+            Some(member) => Some(Reference {
+                target: member.target,
+                value: value.of_member(member.member),
+                is_required: member.is_required,
+            }),
+            None => None,
+        }
+    }
 }
 
 /// What it means that a leaf isn't stored.

@@ -26,7 +26,7 @@ use Rattle.yschema_plan.specs.PlanView.{view}
 use Rattle.yschema_plan.specs.declared.plan.Plan as code
 use Rattle.yschema_plan.proofs.NeedLemmas.{told_at}
 use Rattle.yschema_resolve.specs.Standing.{TellsStanding, addition_breaks_unless_let}
-use Rattle.yschema_resolve.proofs.TypeLemmas.{number_is}
+use Rattle.yschema_types.proofs.TypeLemmas.{number_is}
 
 told_in : Source → List Break
 told_in s = broken 15 s.home s.statement.line

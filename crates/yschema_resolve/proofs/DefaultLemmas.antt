@@ -26,8 +26,8 @@ use Rattle.yspec.proofs.TypeProofs.OrderLemmas.{tells_values}
 use Rattle.ylink_grammar.specs.SourceView.{stated_view}
 use Rattle.ylink_grammar.specs.declared.source.Stated as code
 use Rattle.ylink_grammar.proofs.SourceLemmas.{first_found}
-use Rattle.yschema_resolve.specs.ModulesView.{AreNamesOf, value_by}
-use Rattle.yschema_resolve.specs.declared.modules.ModuleTable.{ModuleTable}
+use Rattle.yschema_types.specs.ModulesView.{AreNamesOf, value_by}
+use Rattle.yschema_types.specs.declared.modules.ModuleTable.{ModuleTable}
 use Rattle.yschema_resolve.specs.Values.{comes_twice, is_refused_by, unmarked_type, wrong_leaf, wrong_leaf_list}
 
 -- ---- values that were seen

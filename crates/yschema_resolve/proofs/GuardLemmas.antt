@@ -13,7 +13,7 @@ use Rattle.yschema_plan.specs.PlanView.{view}
 use Rattle.yschema_plan.specs.declared.plan.Plan as code
 use Rattle.yschema_plan.proofs.NodeLemmas.{stands_at}
 use Rattle.yschema_resolve.specs.Guarding.{TellsUnguarded, hangs_by, is_guarded_by}
-use Rattle.yschema_resolve.proofs.TypeLemmas.{stands}
+use Rattle.yschema_types.proofs.TypeLemmas.{stands}
 
 -- ---- steps of the way up
 

@@ -8,14 +8,15 @@ use Rattle.yspec.proofs.SchemaProofs.LeastLemmas.{least_of_both}
 use Rattle.yspec.specs.linking.Planned.{Planned, nodes_of}
 use Rattle.yschema_plan.specs.PlanView.{view}
 use Rattle.yschema_plan.specs.declared.plan.Plan.{Plan}
-use Rattle.yschema_resolve.proofs.TypeLemmas.{number_is}
+use Rattle.yschema_types.proofs.TypeLemmas.{number_is}
 
-pub five_told : (start first second third fourth last : Option Break) (a b c d e : List Break)
+pub six_told : (start first second third fourth fifth last : Option Break) (a b c d e f : List Break)
     → first ≡ least_from start a → second ≡ least_from first b → third ≡ least_from second c → fourth ≡ least_from third d
-    → last ≡ least_from fourth e → last ≡ least_from start (a ++ (b ++ (c ++ (d ++ e))))
-five_told start first second third fourth last a b c d e first_is second_is third_is fourth_is last_is =
-    joined third fourth last d e fourth_is last_is ∙ joined_after second third c (d ++ e) third_is
-    ∙ (joined_after first second b (c ++ (d ++ e)) second_is ∙ joined_after start first a (b ++ (c ++ (d ++ e))) first_is)
+    → fifth ≡ least_from fourth e → last ≡ least_from fifth f → last ≡ least_from start (a ++ (b ++ (c ++ (d ++ (e ++ f)))))
+six_told start first second third fourth fifth last a b c d e f first_is second_is third_is fourth_is fifth_is last_is =
+    joined fourth fifth last e f fifth_is last_is ∙ joined_after third fourth d (e ++ f) fourth_is
+    ∙ (joined_after second third c (d ++ (e ++ f)) third_is ∙ (joined_after first second b (c ++ (d ++ (e ++ f))) second_is
+    ∙ joined_after start first a (b ++ (c ++ (d ++ (e ++ f)))) first_is))
   where
     joined_after : (before now : Option Break) (xs ys : List Break) → now ≡ least_from before xs → least_from now ys ≡ least_from before (xs ++ ys)
     joined_after before now xs ys is = ap (λ t. least_from t ys) is ∙ sym (least_of_both before xs ys)

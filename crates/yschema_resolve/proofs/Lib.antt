@@ -1,10 +1,3 @@
-pub mod ChainPlanLemmas
-pub mod MeaningLemmas
-pub mod CollectLemmas
-pub mod ModuleLemmas
-pub mod TypeLemmas
-pub mod KeptLemmas
-pub mod CoreLemmas
 pub mod ReferenceLemmas
 pub mod DefaultLemmas
 pub mod ConfigLemmas
@@ -14,4 +7,6 @@ pub mod JudgingLemmas
 pub mod AdditionLemmas
 pub mod UnfitKeyLemmas
 pub mod GuardLemmas
+pub mod WidthLemmas
 pub mod CallerLemmas
+pub mod MemberLemmas

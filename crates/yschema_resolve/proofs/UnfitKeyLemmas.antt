@@ -12,7 +12,7 @@ use Rattle.yspec.specs.linking.Source.{Source, first_with}
 use Rattle.yspec.specs.linking.TypeStatements as spec
 use Rattle.ylink.specs.EmptyView.{IsBareMeant}
 use Rattle.ylink.proofs.EmptyLemmas.{bare_meant}
-use Rattle.yschema_resolve.specs.TypesView.{meant_at}
+use Rattle.yschema_types.specs.MeantNodes.{meant_at}
 
 -- what is asked of the row below a statement, where there is one
 pub asked_below : (test : Forest Source → Bool) → test end ≡ false → (o : Option Placed)

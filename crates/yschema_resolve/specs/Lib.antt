@@ -1,7 +1,3 @@
-pub mod ChainTypes
-pub mod MeaningsView
-pub mod ModulesView
-pub mod TypesView
 pub mod Values
 pub mod TuplesView
 pub mod ResolvedView

@@ -6,8 +6,8 @@ use Rattle.yspec_wide.specs.Guards.{is_guarded}
 use Rattle.yspec_wide.specs.Language.{Language}
 use Rattle.ylink.specs.LinkedView as statements
 use Rattle.ylink_features.specs.VersionView.{AreVersionsOf}
-use Rattle.yschema_resolve.specs.ModulesView.{AreNamesOf}
-use Rattle.yschema_resolve.specs.TypesView.{AreOf, AreTyped}
+use Rattle.yschema_types.specs.ModulesView.{AreNamesOf}
+use Rattle.yschema_types.specs.TypesView.{AreOf, AreTyped}
 use Rattle.yschema_resolve.specs.declared.resolved.Resolved.{Resolved}
 
 pub record IsOf (resolved : Resolved) (language : Language) (plan : Plan) : Type 0 where

@@ -1,5 +1,5 @@
 -- What the statements of a list name.
-use Rattle.std.specs.Prelude.{ℕ, Bool, true, List, [], ◌∷◌, map, Option, Some, option_map, slice_set, unwrap_or, if◌then◌else◌}
+use Rattle.std.specs.Prelude.{ℕ, List, [], map, Option, Some, option_map, unwrap_or, if◌then◌else◌}
 use Rattle.std.specs.List.{flat_map}
 use Rattle.std.specs.Global.{Vec}
 use Rattle.yspec.specs.linking.Keyword.{key_word, list_word}
@@ -32,13 +32,3 @@ ways_named plan p s = map (λ names. way plan (Some p.number) (nodes_named plan 
 -- the numbers of the keys that a node has, which only lists have
 abbrev pub keys_of : Plan → Planned → List ℕ
 keys_of plan p = if is_a list_word p then key_numbers plan p else []
-
--- marks with those of some numbers set
-abbrev pub marked : List Bool → List ℕ → List Bool
-marked marks [] = marks
-marked marks (n ∷ ns) = marked (slice_set marks n true) ns
-
--- marks with those set that each of some says
-abbrev pub marked_by : {A : Type 0} → (A → List ℕ) → List Bool → List A → List Bool
-marked_by says marks [] = marks
-marked_by says marks (a ∷ others) = marked_by says (marked marks (says a)) others

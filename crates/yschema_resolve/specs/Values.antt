@@ -7,8 +7,8 @@ use Rattle.yspec.specs.linking.Planned.{Planned, Plan}
 use Rattle.yspec.specs.linking.Source.{Stated}
 use Rattle.yspec_wide.specs.Language.{Language}
 use Rattle.yspec_wide.specs.Types.{are_wrong_defaults_in, unmarked, is_wrong_default_in, same_if_any, type_of_kept}
-use Rattle.yschema_resolve.specs.ModulesView.{value_by}
-use Rattle.yschema_resolve.specs.declared.modules.ModuleTable.{ModuleTable}
+use Rattle.yschema_types.specs.ModulesView.{value_by}
+use Rattle.yschema_types.specs.declared.modules.ModuleTable.{ModuleTable}
 
 -- whether one of a list is the same as a later one
 abbrev pub comes_twice : {A : Type 0} → (A → A → Bool) → List A → Bool

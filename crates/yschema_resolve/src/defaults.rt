@@ -18,14 +18,12 @@ ghost use Rattle.ylink.specs.LinkedView.{IsOf};
 ghost use Rattle.yschema_plan.specs.NodesView.{node_view};
 ghost use Rattle.yschema_plan.specs.PlannedView.{planned_view};
 ghost use Rattle.yschema_plan.specs.PlanView.{view};
-ghost use Rattle.yschema_resolve.specs.ModulesView.{value_by};
+ghost use Rattle.yschema_types.specs.ModulesView.{value_by};
 ghost use Rattle.yschema_resolve.specs.ResolvedView as resolved_as;
-ghost use Rattle.yschema_resolve.specs.TypesView.{unmarked_view};
+ghost use Rattle.yschema_types.specs.TypesView.{unmarked_view};
 ghost use Rattle.yschema_resolve.specs.Values.{comes_twice, is_refused_by, is_right_by, unmarked_type, value_if_any, wrong_leaf, wrong_leaf_list};
 
-use crate::modules::ModuleTable;
 use crate::resolved::Resolved;
-use crate::types::Unmarked;
 use std::alloc::{AllocError, Global};
 use std::collections::BTreeSet;
 use ybase_words::Keyword;
@@ -33,6 +31,7 @@ use ylink::Linked;
 use ylink_features::Versions;
 use ylink_grammar::Stated;
 use yschema_plan::{Plan, PlanNode, Planned, is_wrong_case, own_defaults};
+use yschema_types::{ModuleTable, Unmarked};
 use ytype::{BadValue, Val, YType};
 
 /// The value that a type takes from a text of a module, where it takes it.

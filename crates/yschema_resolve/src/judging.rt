@@ -17,6 +17,7 @@ use crate::references::is_wrong_reference;
 use crate::resolved::Resolved;
 use crate::tuples::has_wrong_tuples;
 use crate::unfit_keys::least_key;
+use crate::widths::is_too_wide;
 use std::alloc::{AllocError, Global};
 use ylink_grammar::{BrokenRule, CompileCode, Language, least_when};
 use yschema_plan::{Plan, PlanNode};
@@ -44,6 +45,8 @@ fn broken_own_rule<'a, 't>(
     let keyed = least_key(alloc, language, plan, resolved, node, told)?;
     let reference = is_wrong_reference(plan, &resolved.types, node);
     let told = least_when(reference, keyed, planned.broken(CompileCode::C17));
+    let wide = is_too_wide(language, &resolved.types, node);
+    let told = least_when(wide, told, planned.broken(CompileCode::C18));
     let (is_key, value_type) = (
         resolved.is_key(node.number),
         resolved.value_type(node.number),
@@ -53,8 +56,8 @@ fn broken_own_rule<'a, 't>(
     Ok(told)
 }
 
-/// The lesser of one so far and of the rules of defaults, keys, config and references that nodes break in a language, by module,
-/// line and number.
+/// The lesser of one so far and of the rules of defaults, keys, config, references and unions with leafrefs that nodes break in a
+/// language, by module, line and number.
 pub fn broken_node_rule<'t>(
     alloc: Global,
     language: &Language,

@@ -6,13 +6,11 @@ mod config;
 mod defaults;
 mod guarding;
 mod judging;
-mod meanings;
-mod modules;
 mod references;
 mod resolved;
 mod tuples;
-mod types;
 mod unfit_keys;
+mod widths;
 
 pub use additions::broken_addition_rule;
 pub use defaults::default_values;

@@ -1,19 +1,20 @@
-//! Leafrefs that lead nowhere, in a circle, or from configuration to state (RFC 7950, 9.9).
+//! Leafrefs that lead nowhere, in a circle, or from configuration to state, those among the members of unions too (RFC 7950, 9.9 and
+//! 9.12).
 
-ghost use Rattle.std.specs.Prelude.{◌≡◌, ◌&&◌, Some, false, option_map, slice_get};
+ghost use Rattle.std.specs.Prelude.{◌≡◌, ◌&&◌, Some, false, map, option_map, slice_get};
+ghost use Rattle.std.specs.List.{list_any};
 ghost use Rattle.std.specs.Option.{option_map_or};
 ghost use Rattle.yspec.specs.linking.Planned as spec;
 ghost use Rattle.yspec.specs.linking.NodeBreaks as breaks;
-ghost use Rattle.ylink.specs.TypeView.{meant_view};
+ghost use Rattle.ylink.specs.TypeView.{meant_view, member_view};
 ghost use Rattle.yschema_plan.specs.NodesView.{node_view};
 ghost use Rattle.yschema_plan.specs.PlannedView.{planned_view};
 ghost use Rattle.yschema_plan.specs.PlanView.{view};
-ghost use Rattle.yschema_resolve.specs.TypesView.{AreOf};
+ghost use Rattle.yschema_types.specs.TypesView.{AreOf};
 
-use crate::meanings::target_meant;
-use crate::types::{Types, meant_at};
-use ylink::Meant;
+use ylink::{Meant, Member};
 use yschema_plan::{Plan, PlanNode, Planned};
+use yschema_types::{Types, meant_at, path_target, target_meant};
 
 /// Whether the target of a leafref isn't there, or is state where configuration requires an instance of it.
 fn is_wrong_target(
@@ -28,6 +29,40 @@ fn is_wrong_target(
         Some(target) => planned.config && required && !target.planned.config,
         None => true,
     }
+}
+
+/// Whether a member of a union is a leafref that is wrong.
+fn is_wrong_member<'a, 't>(plan: &Plan<'a, 't>, node: PlanNode<'a, 't>, member: &Member<'_>) -> bool
+    ensures { result ≡ breaks.is_wrong_member (view plan.now) (node_view node.entry)
+        (member_view member.now) }
+{
+    match member {
+        Member::Own(_) => false,
+        Member::Leafref {
+            home,
+            steps,
+            required,
+        } => {
+            let target = path_target(plan, node.planned.owner(), *home, steps.as_slice());
+            is_wrong_target(&node.planned, *required, target)
+        }
+    }
+}
+
+fn has_wrong_member<'a, 't>(
+    plan: &Plan<'a, 't>,
+    node: PlanNode<'a, 't>,
+    members: &[Member<'_>],
+) -> bool
+    ensures { result ≡ list_any (breaks.is_wrong_member (view plan.now) (node_view node.entry))
+        (map member_view members.now) }
+{
+    for member in members {
+        if is_wrong_member(plan, node, member) {
+            return true;
+        }
+    }
+    false
 }
 
 /// Whether what the type of a node means is a wrong reference, given whether references lead back to the node.
@@ -46,6 +81,7 @@ fn is_wrong_meant<'a, 't>(
             let target = target_meant(plan, node.planned.owner(), meant);
             is_wrong_target(&node.planned, *required, target) || on_circle
         }
+        Meant::OfUnion(members) => has_wrong_member(plan, node, members.as_slice()) || on_circle,
     }
 }
 

@@ -8,14 +8,14 @@ ghost use Rattle.ylink_features.specs.VersionView.{AreVersionsOf};
 ghost use Rattle.yschema_plan.specs.PlannedView.{planned_view};
 
 use crate::guarding::guarded_of;
-use crate::modules::ModuleTable;
 use crate::tuples::keys;
-use crate::types::{Types, types_of};
 use std::alloc::{AllocError, Global};
 use ylink::{Language, Linked};
 use ylink_features::Versions;
 use ylink_standing::FeaturesOn;
+use yschema_model::MemberTargets;
 use yschema_plan::{Plan, Planned};
+use yschema_types::{ModuleTable, Types, types_of};
 use ytype::YType;
 
 /// The types of a plan's nodes in a language, to what leafrefs refer, which leafs are keys and which nodes hang on a `when`, what
@@ -45,11 +45,12 @@ impl<'l, 't> Resolved<'l, 't> {
     ghost use Rattle.yspec.specs.linking.SchemaNodes as nodes;
     ghost use Rattle.yspec_wide.specs.Language as languages;
     ghost use Rattle.yspec_wide.specs.Guards.{is_guarded};
-    ghost use Rattle.yspec_wide.specs.Types.{standing_type};
+    ghost use Rattle.yspec_wide.specs.Types.{meant_in_of, standing_names, standing_type};
     ghost use Rattle.yspec_wide.specs.VersionBreaks.{has_distinct_items};
     ghost use Rattle.ylink_grammar.specs.LanguageView.{language_view};
     ghost use Rattle.ylink_standing.specs.StandingView.{IsOf as AreOn};
     ghost use Rattle.ylink.specs.LinkedView as linked_as;
+    ghost use Rattle.yschema_model.specs.Layout.{targets_view};
     ghost use Rattle.yschema_plan.specs.PlannedView.{planned_view};
     ghost use Rattle.yschema_plan.specs.PlanView.{view};
     ghost use Rattle.yschema_resolve.specs.Guarding.{TellsUnguarded};
@@ -86,8 +87,8 @@ impl<'l, 't> Resolved<'l, 't> {
         })
     }
 
-    /// The type of the node of a number over the names that stand, in its module; a leafref has its target's, and none where it
-    /// leads nowhere.
+    /// The type of the node of a number over the names that stand, in its module; a leafref has its target's, and a member that is one
+    /// the members of that. There is none where one leads nowhere or in a circle, or to too many members.
     pub fn value_type(&self, number: u32) -> Option<&YType>
         ensures { (language : languages.Language) (plan : spec.Plan) (p : spec.Planned)
             → IsOf self.now language plan
@@ -108,6 +109,18 @@ impl<'l, 't> Resolved<'l, 't> {
             Some(target) => *target,
             None => None,
         }
+    }
+
+    /// What the members of the type of the node of a number refer to that are those of leafrefs, in order; nothing of a type without
+    /// such members.
+    pub fn member_targets(&self, number: u32) -> &[MemberTargets]
+        ensures { (language : languages.Language) (plan : spec.Plan) (p : spec.Planned)
+            → IsOf self.now language plan
+            → slice_get (spec.nodes_of plan) number ≡ Some p
+            → targets_view result.now ≡ spec.targets_of plan (standing_type language plan) p
+            (meant_in_of (standing_names language plan.modules) plan p) }
+    {
+        self.types.member_targets(number)
     }
 
     /// Whether the node of a number is a key of the list right above it.

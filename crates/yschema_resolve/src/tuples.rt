@@ -18,7 +18,8 @@ ghost use Rattle.ylink_grammar.specs.SourceView.{source_view};
 ghost use Rattle.yschema_plan.specs.NodesView.{node_view};
 ghost use Rattle.yschema_plan.specs.PlanView.{view};
 ghost use Rattle.yschema_model.specs.Layout.{numbers_of, tuples_view};
-ghost use Rattle.yschema_resolve.specs.TuplesView.{children_named, ways_named, marked, way_view, ways_view};
+ghost use Rattle.yschema_types.specs.Marks.{marked};
+ghost use Rattle.yschema_resolve.specs.TuplesView.{children_named, ways_named, way_view, ways_view};
 
 use std::alloc::{AllocError, Global};
 use std::collections::BTreeSet;
@@ -28,6 +29,7 @@ use ylink_arguments::{Name, key_names, unique_paths};
 use ylink_grammar::{Source, argument_of};
 use yschema_model::{SchemaId, Tuples};
 use yschema_plan::{Plan, PlanNode};
+use yschema_types::mark;
 
 /// The nodes along a way down, where all are there.
 type WayDown<'a, 't> = Option<Vec<PlanNode<'a, 't>>>;
@@ -281,14 +283,6 @@ fn mark_keys<'a, 't>(
         mark(marks, *number as usize);
     }
     Ok(())
-}
-
-fn mark(marks: &mut Vec<bool>, place: usize)
-    ensures { marks.new.items ≡ slice_set marks.old.items place true }
-{
-    if let Some(mark) = marks.get_mut(place) {
-        *mark = true;
-    }
 }
 
 /// Of each node, by number, whether it is a key of the list right above it.

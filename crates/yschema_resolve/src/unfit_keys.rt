@@ -15,17 +15,17 @@ ghost use Rattle.yschema_plan.specs.NodesView.{node_view};
 ghost use Rattle.yschema_plan.specs.PlannedView.{planned_view};
 ghost use Rattle.yschema_plan.specs.PlanView.{view};
 ghost use Rattle.yschema_resolve.specs.ResolvedView.{IsOf};
-ghost use Rattle.yschema_resolve.specs.TypesView.{AreOf};
+ghost use Rattle.yschema_types.specs.TypesView.{AreOf};
 ghost use Rattle.yschema_resolve.specs.UnfitKeys.{unfit_by};
 
 use crate::resolved::Resolved;
-use crate::types::{Types, meant_at};
 use std::alloc::{AllocError, Global};
 use ybase_words::Keyword;
 use ylink::means_empty;
 use ylink_grammar::{BrokenRule, CompileCode, Language, least_when};
 use yschema_given::bears_guard;
 use yschema_plan::{Plan, PlanNode, Planned};
+use yschema_types::{Types, meant_at};
 
 /// Whether the statement of a node bears a condition or a `when` itself.
 fn bears_itself(language: &Language, plan: &Plan<'_, '_>, planned: &Planned<'_, '_>) -> bool

@@ -1,3 +1,5 @@
 pub mod NodeLemmas
 pub mod LeastLemmas
 pub mod NumberLemmas
+pub mod MemberLemmas
+pub mod AmongLemmas

@@ -4,3 +4,4 @@ pub mod Schema
 pub mod Breaks
 pub mod Diagram
 pub mod Configuration
+pub mod ReferenceExamples

@@ -11,6 +11,7 @@ pub mod editing;
 pub mod expansion;
 pub mod octets;
 pub mod reading;
+pub mod references;
 pub mod spelling;
 pub mod text;
 pub mod types;

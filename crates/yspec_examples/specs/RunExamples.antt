@@ -188,6 +188,18 @@ abbrev pub validated_in : Language → Text → Text → Printed
 validated_in language module_bytes document =
     printed_by (validate language plainly (codes "d.json") (codes "m.yang" ∷ [])) (Some module_bytes ∷ Some document ∷ [])
 
+-- the same with what is said of each fault
+abbrev pub explained_in : Language → Text → Text → Printed
+explained_in language module_bytes document =
+    printed true (outcome (validate language plainly (codes "d.json") (codes "m.yang" ∷ [])) (Some module_bytes ∷ Some document ∷ []))
+
+-- a module with a union that has a leafref among its members, and one with a leaf of such a type
+abbrev pub referring_module : Text
+referring_module = module_text (codes "u") (codes "  leaf-list y { type int8; }\n  leaf x { type union { type boolean; type leafref { path /y; } } }\n")
+
+abbrev pub referring_to : Text → Text
+referring_to path = module_text (codes "u") (codes "  leaf x { type union { type string; type leafref { path " ++ (path ++ codes "; } } }\n"))
+
 -- a module with conditions, and what `validate d.json m.yang` prints of it and an empty document where some aren't judged
 abbrev pub conditions_module : Text
 conditions_module = codes "module b {\n  yang-version 1.1;\n  namespace \"urn:b\";\n  prefix b;\n"

@@ -35,7 +35,7 @@ of_base name base = own_type name (plain base)
 
 -- a leafref that requires an instance
 abbrev pub referring : Shape → ℕ → LeafType
-referring shape target = record { name = codes "leafref"; type = record { shape = shape; requires_instance = Some true }; target = Some target }
+referring shape target = record { name = codes "leafref"; type = record { shape = shape; requires_instance = Some true }; target = Some target; targets = [] }
 
 abbrev pub any_amount : Amount
 any_amount = record { min_elements = 0; max_elements = None }

@@ -9,7 +9,7 @@ ghost use Rattle.ysay_codes.specs.Codes.{reason_of};
 ghost use Rattle.yspec_run.specs.Script.{lines_of};
 ghost use Rattle.yspec_examples.specs.SchemaExamples.{hosts, one_host};
 ghost use Rattle.yspec.specs.edit.Examples.{module_p, module_text};
-ghost use Rattle.yspec_examples.specs.RunExamples.{and_saved, conditions_module, configured, counted, counted_in, drawn_as, dumped, edited_configuration, edited_with_reasons, faulty, feature_module, keyed_module, line_with_reasons, no_features, of_configuration, refused_alone, refused_beside, saved_by, scripted, shown, shown_as_json, shown_of_configuration, shown_of_two, state_module, without_faults, one_with_reasons, refused_with_reasons, shown_with_reasons, strictly_edited, strictly_shown, validated_in, validated_unjudged, with_reasons};
+ghost use Rattle.yspec_examples.specs.RunExamples.{and_saved, conditions_module, configured, counted, counted_in, drawn_as, dumped, edited_configuration, edited_with_reasons, explained_in, faulty, feature_module, keyed_module, line_with_reasons, no_features, of_configuration, refused_alone, refused_beside, saved_by, scripted, shown, shown_as_json, shown_of_configuration, shown_of_two, state_module, without_faults, one_with_reasons, referring_module, referring_to, refused_with_reasons, shown_with_reasons, strictly_edited, strictly_shown, validated_in, validated_unjudged, with_reasons};
 
 /// How many nodes modules define.
 pub fn counts()
@@ -42,6 +42,22 @@ pub fn unjudged()
     ensures musts { validated_unjudged true false conditions_module ≡ failed 2 (codes "m.yang:5: C1") }
     ensures whens { validated_unjudged false true conditions_module ≡ failed 2 (codes "m.yang:5: C1") }
     ensures none { validated_unjudged true true module_p ≡ found 1 (codes "V3 data-missing - /p:c/id -\n1 faults\n") }
+{}
+
+/// Unions with leafrefs among their members: the first that takes a value decides, and V11 is told where it is a leafref and
+/// nothing has the value there.
+pub fn unions_that_refer()
+    ensures in_the_core { counted referring_module ≡ failed 2 (codes "m.yang:6: C10") }
+    ensures by_a_leafref { validated_in (rfc_with []) referring_module (codes "{\"u:x\":7}")
+        ≡ found 1 (codes "V11 data-missing instance-required /u:x -\n1 faults\n") }
+    ensures by_another { validated_in (rfc_with []) referring_module (codes "{\"u:x\":true}")
+        ≡ found 0 (codes "0 faults\n") }
+    ensures to_an_instance { validated_in (rfc_with []) referring_module (codes "{\"u:y\":[7],\"u:x\":7}")
+        ≡ found 0 (codes "0 faults\n") }
+    ensures explained { explained_in (rfc_with []) referring_module (codes "{\"u:x\":7}")
+        ≡ one_with_reasons (codes "V11 data-missing instance-required /u:x -") (codes "/u:x: no instance of /u:y is 7.") (codes "V11") }
+    ensures nowhere { counted_in (rfc_with []) (referring_to (codes "/z")) ≡ failed 2 (codes "m.yang:5: C17") }
+    ensures on_a_circle { counted_in (rfc_with []) (referring_to (codes "/x")) ≡ failed 2 (codes "m.yang:5: C17") }
 {}
 
 /// The diagram of a module by its name, and names that no module has.

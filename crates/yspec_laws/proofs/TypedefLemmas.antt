@@ -40,21 +40,21 @@ placed_join ancestors (node s below after) g =
     ap (λ ps. record { source = s; below = below; ancestors = ancestors } ∷ (under ++ ps)) (placed_join ancestors after g)
     ∙ ap (λ ps. record { source = s; below = below; ancestors = ancestors } ∷ ps) (sym (append_assoc under (placed ancestors after) (placed ancestors g)))
 
-numbered_from : (ancestors : List (Source × Forest Source)) (home k : ℕ) (f : Forest (Keyword × Statement))
-    → AreFrom number_of k (placed ancestors (numbered home k f))
+numbered_from : (may : Bool) (ancestors : List (Source × Forest Source)) (home k : ℕ) (f : Forest (Keyword × Statement))
+    → AreFrom number_of k (placed ancestors (numbered may home k f))
 unfolding placed numbered
-numbered_from ancestors home k end = tt
-numbered_from ancestors home k (node (word, s) below after) =
-    let source : Source = record { keyword = word; statement = s; number = k; home = home } in
-    let inner = numbered home (k + 1) below in
+numbered_from may ancestors home k end = tt
+numbered_from may ancestors home k (node (word, s) below after) =
+    let source : Source = record { keyword = word; statement = s; number = k; home = home; may_refer = may } in
+    let inner = numbered may home (k + 1) below in
     let under = placed ((source, inner) ∷ ancestors) inner in
-    let behind = placed ancestors (numbered home (k + suc (size below)) after) in
+    let behind = placed ancestors (numbered may home (k + suc (size below)) after) in
     let count = length_placed ((source, inner) ∷ ancestors) inner in
-    let few = size-numbered home (k + 1) below in
+    let few = size-numbered may home (k + 1) below in
     let same : k + suc (size below) ≡ (k + 1) + length under = omega (arith, count, few) in (
       refl,
-      from_append number_of (k + 1) under behind (numbered_from ((source, inner) ∷ ancestors) home (k + 1) below)
-          (subst (λ n. AreFrom number_of n behind) same (numbered_from ancestors home (k + suc (size below)) after)),
+      from_append number_of (k + 1) under behind (numbered_from may ((source, inner) ∷ ancestors) home (k + 1) below)
+          (subst (λ n. AreFrom number_of n behind) same (numbered_from may ancestors home (k + suc (size below)) after)),
     )
 
 sources_numbered : (home k : ℕ) (f : Forest Statement) → AreFrom number_of k (placed [] (sources_from home k f))
@@ -62,13 +62,13 @@ unfolding placed sources_from
 sources_numbered home k end = tt
 sources_numbered home k (node s below after) =
     let row = kept (node s below end) in
-    let own = placed [] (numbered home k row) in
+    let own = placed [] (numbered false home k row) in
     let behind = placed [] (sources_from (home + 1) (k + size row) after) in
-    let count = length_placed [] (numbered home k row) in
-    let few = size-numbered home k row in
+    let count = length_placed [] (numbered false home k row) in
+    let few = size-numbered false home k row in
     let same : k + size row ≡ k + length own = omega (arith, count, few) in
-    subst (λ ps. AreFrom number_of k ps) (sym (placed_join [] (numbered home k row) (sources_from (home + 1) (k + size row) after)))
-    (from_append number_of k own behind (numbered_from [] home k row)
+    subst (λ ps. AreFrom number_of k ps) (sym (placed_join [] (numbered false home k row) (sources_from (home + 1) (k + size row) after)))
+    (from_append number_of k own behind (numbered_from false [] home k row)
     (subst (λ n. AreFrom number_of n behind) same (sources_numbered (home + 1) (k + size row) after)))
 
 -- ---- fewer edges than statements

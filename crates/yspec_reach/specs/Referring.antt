@@ -5,8 +5,8 @@ use Rattle.std.specs.Option.{option_map_or}
 use Rattle.yspec.specs.Forest.{weigh}
 use Rattle.yspec.specs.types.Types.{Val}
 use Rattle.yspec.specs.types.Order.{same_value}
-use Rattle.yspec.specs.schema.Schema.{Schema, node_at}
-use Rattle.yspec.specs.schema.References.{target_in}
+use Rattle.yspec.specs.schema.Schema.{Schema, Kind, node_at, type_in}
+use Rattle.yspec.specs.schema.References.{reference_in}
 use Rattle.yspec.specs.document.Document.{Stored, Tree}
 use Rattle.yspec.specs.document.Instances.{value_of}
 
@@ -17,10 +17,14 @@ Reference = ℕ × Val
 abbrev pub same_reference : Reference → Reference → Bool
 same_reference r q = r.0 == q.0 && same_value r.1 q.1
 
+-- what a value of a kind of node refers to
+abbrev pub reference_by : Kind → Val → Option Reference
+reference_by kind v = option_map (λ r. (r.target, r.value)) (option_and_then (λ type. reference_in type v) (type_in kind))
+
 -- what a stored leaf or item refers to, by its valid value
 abbrev pub reference_of : Schema → Stored → Option Reference
-reference_of schema s = option_and_then (λ target. option_map (λ v. (target, v)) (value_of schema s))
-    (option_and_then (λ n. target_in n.kind) (node_at schema s.schema_number))
+reference_of schema s =
+    option_and_then (λ n. option_and_then (reference_by n.kind) (value_of schema s)) (node_at schema s.schema_number)
 
 -- ---- some of them
 

@@ -125,8 +125,8 @@ sources_alike : (home number : ℕ) (f : Forest Statement) → sources_in_from c
 unfolding sources_in_from sources_from
 sources_alike home number end = refl
 sources_alike home number (node s below after) =
-    ap (λ rows. join (numbered home number rows) (sources_in_from core (home + 1) (number + size rows) after)) (kept_alike (node s below end))
-    ∙ ap (join (numbered home number (kept (node s below end))))
+    ap (λ rows. join (numbered false home number rows) (sources_in_from core (home + 1) (number + size rows) after)) (kept_alike (node s below end))
+    ∙ ap (join (numbered false home number (kept (node s below end))))
     (sources_alike (home + 1) (number + size (kept (node s below end))) after)
 
 pub kept_of_all_alike : (modules : Forest Statement) → sources_in core modules ≡ sources_of modules

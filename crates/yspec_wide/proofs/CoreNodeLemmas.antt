@@ -12,7 +12,8 @@ use Rattle.yspec.specs.linking.Keyword.{Keyword, same_keyword, leaf_word, leaf_l
 use Rattle.yspec.proofs.LinkingProofs.KeywordLemmas.{same_is}
 use Rattle.yspec.specs.linking.Source.{Source}
 use Rattle.yspec.specs.linking.Scopes.{Placed, statement_at}
-use Rattle.yspec.specs.linking.Planned.{Planned, Plan, node_of, nodes_of, is_a, stated_in, target_of, type_of}
+use Rattle.yspec.specs.linking.TypeStatements.{Meant}
+use Rattle.yspec.specs.linking.Planned.{Planned, Plan, node_of, nodes_of, is_a, stated_in, target_of, targets_of, type_of}
 use Rattle.yspec.specs.linking.SchemaNodes.{is_mandatory, min_elements_of, own_defaults, default_texts, value_stated, default_values, default_case, absent_by, first_value, absence_of, leaf_type, amount_of, type_name, number_in, is_key, kind_by, schema_node, schema_nodes}
 use Rattle.yspec.specs.linking.NodeBreaks.{config_breaks, tuple_breaks, reference_breaks, default_breaks, addition_breaks, is_empty, is_refused, is_wrong_default, are_wrong_defaults, has_equal, is_wrong_case, must_be, has_mandatory, row_below, is_needed, is_foreign, broken_in, broken_at, own_breaks, node_breaks}
 use Rattle.yspec.specs.schema.Breaks.{Break, when, or_told}
@@ -25,7 +26,7 @@ use Rattle.yspec_wide.specs.Types.{type_of_kept, default_texts_in, unmarked, sam
 use Rattle.yspec_wide.specs.Additions.{stands_itself, has_mandatory_standing, is_needed_standing, addition_breaks_in}
 use Rattle.yspec_wide.specs.Compiling.{own_breaks_in, node_breaks_in}
 use Rattle.yspec_wide.proofs.CoreLinkingLemmas.{all_stand_in_core}
-use Rattle.yspec_wide.proofs.CoreTypeLemmas.{type_alike}
+use Rattle.yspec_wide.proofs.CoreTypeLemmas.{type_alike, meant_in_alike}
 use Rattle.yspec_wide.proofs.LeastLemmas.{told_in_two}
 
 -- ---- what is asked of something that may be there
@@ -126,11 +127,12 @@ module _ (plan : Plan) (p : Planned) where
       standing_alike texts_alike
 
   leaf_type_alike : leaf_type_in core plan p ≡ leaf_type plan p
-  leaf_type_alike = ap (λ (found : Option YangType). record {
+  leaf_type_alike = ap₂ (λ (types : Planned → Option YangType) (meant : Planned → Option Meant). record {
     name = type_name p;
-    type = unwrap_or found string_type;
+    type = unwrap_or (types p) string_type;
     target = option_map number_in (target_of plan p);
-  }) standing_alike
+    targets = targets_of plan types p (meant p);
+  }) (fun_ext (type_alike plan)) (meant_in_alike plan)
 
   absence_alike : absence_in core plan p ≡ absence_of plan (is_key plan p) p
   absence_alike = ap (λ values. if is_key plan p then key else (if is_mandatory p then mandatory else absent_by (first_value values)))

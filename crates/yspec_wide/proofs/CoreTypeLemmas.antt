@@ -1,5 +1,5 @@
 -- Where the names of all values are kept, types are what they are without a language.
-use Rattle.std.proofs.Common.{◌≡◌, ℕ, zero, suc, ℤ, Bool, true, false, ◌&&◌, ◌++◌, cond, List, [], ◌∷◌, filter, Option, Some, None, option_map, option_and_then, refl, ap, ap₂, subst, ◌∙◌, append_assoc}
+use Rattle.std.proofs.Common.{◌≡◌, ℕ, zero, suc, ℤ, Bool, true, false, not, ◌&&◌, ◌++◌, cond, List, [], ◌∷◌, filter, Option, Some, None, option_map, option_and_then, refl, ap, ap₂, subst, ◌∙◌, append_assoc}
 use Rattle.std.proofs.Math.Path.{fun_ext}
 use Rattle.std.proofs.lemmas.Bool.{and_from, and_parts, or_left, or_right}
 use Rattle.std.specs.Prelude.{int_lt, if◌then◌else◌}
@@ -17,7 +17,7 @@ use Rattle.yspec.specs.linking.Source.{Source, is_source_of, argument_in, first_
 use Rattle.yspec.specs.linking.Scopes.{statement_at}
 use Rattle.yspec.specs.linking.Identities.{module_name, bases_in}
 use Rattle.yspec.specs.linking.TypeStatements.{BuiltIn, integer, decimal64, string, boolean, empty, enumeration, bits, union, leafref, identityref, binary, Meant, own, Verdict, means, wrong, built_in_meant, are_in_place, of_names, namings, value_stated, position_stated, single_type, identity_verdict, verdict_in_place, derived, verdict, verdicts, verdict_on, meaning_of}
-use Rattle.yspec.specs.linking.DerivedTypes.{Known, unknown, named, verdict_by, typedef_row, is_member, known_by, known_in_row, known_within, known_named, meant_by}
+use Rattle.yspec.specs.linking.DerivedTypes.{Known, unknown, named, verdict_by, typedef_row, is_own_member, known_by, known_in_row, known_within, known_named, meant_by}
 use Rattle.yspec.specs.linking.Planned.{Planned, Plan, type_by, meant_in, type_within, type_of}
 use Rattle.yspec_wide.specs.Types as wide
 
@@ -156,8 +156,8 @@ module _ (modules : Forest Source) where
   unfolding wide.verdicts_of verdicts
   verdicts_alike names end = refl
   verdicts_alike names (node s below after) = ap₂ (λ here others. if is_source_of word.type_word s then here ∷ others else others)
-      (ap (wide.verdict_of wide.all_names modules names true s below) (verdicts_alike names below)
-      ∙ verdict_alike names true s below (verdicts modules names below))
+      (ap (wide.verdict_of wide.all_names modules names (not s.may_refer) s below) (verdicts_alike names below)
+      ∙ verdict_alike names (not s.may_refer) s below (verdicts modules names below))
       (verdicts_alike names after)
 
   verdict_on_alike : (names : ℕ → Verdict) (member : Bool) (s : Source) (below : Forest Source)
@@ -188,13 +188,13 @@ module _ (modules : Forest Source) where
 
   meant_alike : wide.meant_of wide.all_names modules ≡ meant_by modules
   meant_alike = fun_ext (λ p. ap (λ v. if is_source_of word.type_word p.source then meaning_of v else None)
-      (ap (λ known. wide.verdict_on_of wide.all_names modules (verdict_by known) (is_member p.ancestors) p.source p.below) known_named_alike
-      ∙ verdict_on_alike (verdict_by (known_named modules)) (is_member p.ancestors) p.source p.below))
+      (ap (λ known. wide.verdict_on_of wide.all_names modules (verdict_by known) (is_own_member p) p.source p.below) known_named_alike
+      ∙ verdict_on_alike (verdict_by (known_named modules)) (is_own_member p) p.source p.below))
 
 -- ---- types of nodes
 
 module _ (plan : Plan) where
-  meant_in_alike : wide.meant_in_of wide.all_names plan ≡ meant_in plan
+  pub meant_in_alike : wide.meant_in_of wide.all_names plan ≡ meant_in plan
   meant_in_alike = fun_ext (λ p. ap (λ meant. option_and_then (λ (s : Source). option_and_then meant (statement_at plan.modules s.number))
       (first_with word.type_word p.part.own)) (meant_alike plan.modules))
 

@@ -46,14 +46,14 @@ module _ (word : Text) (unknown : keyword_named word ≡ None) where
       by false e (Some k) is inside later = or_from _ _ e
           (list_any-append (λ (q : Keyword × Statement). has_it q.1) (preorder (kept below)) (preorder (kept after)) ∙ or_from _ _ inside later)
 
-  numbered_alike : (home number : ℕ) (f : Forest (Keyword × Statement))
-      → list_any (λ (s : Source). has_it s.statement) (preorder (numbered home number f)) ≡ list_any (λ (q : Keyword × Statement). has_it q.1) (preorder f)
+  numbered_alike : (may : Bool) (home number : ℕ) (f : Forest (Keyword × Statement))
+      → list_any (λ (s : Source). has_it s.statement) (preorder (numbered may home number f)) ≡ list_any (λ (q : Keyword × Statement). has_it q.1) (preorder f)
   unfolding numbered
-  numbered_alike home number end = refl
-  numbered_alike home number (node (k, s) below after) = ap (λ others. has_it s || others)
-      (list_any-append (λ (s : Source). has_it s.statement) (preorder (numbered home (number + 1) below))
-      (preorder (numbered home (number + suc (size below)) after))
-      ∙ (ap₂ (λ inside later. inside || later) (numbered_alike home (number + 1) below) (numbered_alike home (number + suc (size below)) after)
+  numbered_alike may home number end = refl
+  numbered_alike may home number (node (k, s) below after) = ap (λ others. has_it s || others)
+      (list_any-append (λ (s : Source). has_it s.statement) (preorder (numbered may home (number + 1) below))
+      (preorder (numbered may home (number + suc (size below)) after))
+      ∙ (ap₂ (λ inside later. inside || later) (numbered_alike may home (number + 1) below) (numbered_alike may home (number + suc (size below)) after)
       ∙ sym (list_any-append (λ (q : Keyword × Statement). has_it q.1) (preorder below) (preorder after))))
 
   none_from : (home number : ℕ) (f : Forest Statement) → list_any (λ (s : Source). has_it s.statement) (preorder (sources_from home number f)) ≡ false
@@ -61,9 +61,9 @@ module _ (word : Text) (unknown : keyword_named word ≡ None) where
   none_from home number end = refl
   none_from home number (node s below after) =
       ap (list_any (λ (s : Source). has_it s.statement))
-      (preorder_joined (numbered home number (kept (node s below end))) (sources_from (home + 1) (number + size (kept (node s below end))) after))
-      ∙ (list_any-append (λ (s : Source). has_it s.statement) (preorder (numbered home number (kept (node s below end)))) _
-      ∙ or_from _ _ (numbered_alike home number (kept (node s below end)) ∙ none_kept (node s below end))
+      (preorder_joined (numbered false home number (kept (node s below end))) (sources_from (home + 1) (number + size (kept (node s below end))) after))
+      ∙ (list_any-append (λ (s : Source). has_it s.statement) (preorder (numbered false home number (kept (node s below end)))) _
+      ∙ or_from _ _ (numbered_alike false home number (kept (node s below end)) ∙ none_kept (node s below end))
       (none_from (home + 1) (number + size (kept (node s below end))) after))
 
   pub none_in_core : (modules : Forest Statement) → list_any (λ (s : Source). has_it s.statement) (preorder (sources_in core modules)) ≡ false

@@ -25,7 +25,7 @@ use Rattle.yspec_wide.specs.Expansion.{augmented_in, unfit_breaks_in, augment_br
 use Rattle.yspec_wide.specs.Standing.{standing}
 use Rattle.yspec_wide.specs.VersionBreaks.{version_import_breaks, version_type_breaks, key_break}
 use Rattle.yspec_wide.specs.Patterns.{pattern_breaks}
-use Rattle.yspec_wide.specs.Types.{default_breaks_in, schema_nodes_in}
+use Rattle.yspec_wide.specs.Types.{width_breaks, default_breaks_in, schema_nodes_in}
 use Rattle.yspec_wide.specs.Additions.{addition_breaks_in}
 
 -- all nodes, and those that stand
@@ -59,10 +59,10 @@ linking_phases_in language modules = let sources = sources_in language modules i
     ∷ meanings_phase_in language sources
     ∷ (type_breaks sources ++ (version_type_breaks language sources ++ pattern_breaks language sources)) ∷ []
 
--- C11, C12, C16 and C17
+-- C11, C12, C16, C17, and C18 of a union
 abbrev pub own_breaks_in : Language → Plan → Planned → List Break
 own_breaks_in language plan p = config_breaks plan p ++ (tuple_breaks plan p ++ (key_break language plan p ++ (reference_breaks plan p
-    ++ default_breaks_in language plan p)))
+    ++ (width_breaks language plan p ++ default_breaks_in language plan p))))
 
 -- those of the nodes that stand, and C15 of all augments
 abbrev pub node_breaks_in : Language → Plan → Plan → List Break

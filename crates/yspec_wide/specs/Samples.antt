@@ -120,3 +120,8 @@ colours = codes "  typedef c { type enumeration { enum white { value 1; } enum y
 
 abbrev pub speeds : Text
 speeds = codes "  typedef b { type bits { bit half; bit fast; bit slow { position 4; } } }\n"
+
+-- ---- a union with a leafref among its members, which stands in line 8
+
+abbrev pub referring_union : Text
+referring_union = codes "  leaf y { type string; }\n  leaf x {\n    type union {\n      type leafref { path /y; }\n    }\n  }\n"

@@ -1,5 +1,5 @@
--- The statements that linking stands on, with features, conditions, patterns, and names that restrict types among them (RFC 7950,
--- 7.20.1, 7.20.2, 7.21.5, 9.4.5, 9.6.4, 9.7.4).
+-- The statements that linking stands on, with features, conditions, patterns, and names that restrict types among them, and members
+-- of unions that may be leafrefs (RFC 7950, 7.20.1, 7.20.2, 7.21.5, 9.4.5, 9.6.4, 9.7.4, 9.12).
 use Rattle.std.specs.Prelude.{ℕ, ◌+◌, Bool, false, not, ◌&&◌, ◌||◌, List, [], Option, Some, None, filter, is_some, option_map, option_and_then, unwrap_or, if◌then◌else◌}
 use Rattle.std.specs.List.{list_any}
 use Rattle.std.specs.Option.{option_map_or}
@@ -32,8 +32,8 @@ kept_keyword_in language restricting s = let k = option_and_then keyword_kept (w
 abbrev pub is_derived_type : Keyword → Statement → Bool
 is_derived_type k s = same_keyword type_word k && not (is_some (built_in_named (unwrap_or s.argument [])))
 
--- whether names restrict types in a module, by what stands below its `module` statement: YANG 1 has nothing of it (RFC 6020, 9.6
--- and 9.7)
+-- whether names restrict types in a module, and members of unions may be leafrefs, by what stands below its `module` statement: YANG 1
+-- has nothing of it (RFC 6020, 9.6, 9.7 and 9.12)
 abbrev pub may_restrict : Language → Forest Statement → Bool
 may_restrict core below = false
 may_restrict (rfc wide) below = not (is_yang_1 (version_below below))
@@ -55,7 +55,7 @@ module_kept language s below = kept_in language (may_restrict language below) fa
 unfoldable pub sources_in_from : Language → ℕ → ℕ → Forest Statement → Forest Source
 sources_in_from language home number end = end
 sources_in_from language home number (node s below after) = let module_row = module_kept language s below in
-    join (numbered home number module_row) (sources_in_from language (home + 1) (number + size module_row) after)
+    join (numbered (may_restrict language below) home number module_row) (sources_in_from language (home + 1) (number + size module_row) after)
 
 abbrev pub sources_in : Language → Forest Statement → Forest Source
 sources_in language modules = sources_in_from language 0 0 modules

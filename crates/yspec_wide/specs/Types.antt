@@ -14,9 +14,9 @@ use Rattle.yspec.specs.linking.Keyword as word
 use Rattle.yspec.specs.linking.Source.{Source, Stated, is_source_of, argument_in, first_with, found_with, stated_with}
 use Rattle.yspec.specs.linking.Scopes.{Placed, statement_at}
 use Rattle.yspec.specs.linking.Identities.{module_name, assigned_identity, identities_of, derives, bases_in}
-use Rattle.yspec.specs.linking.TypeStatements.{BuiltIn, enumeration, bits, union, leafref, identityref, Meant, own, Verdict, means, wrong, built_in_meant, are_in_place, of_names, namings, value_stated, position_stated, single_type, union_verdict, leafref_verdict, named_where, derived_by, meaning_of}
-use Rattle.yspec.specs.linking.DerivedTypes.{Known, unknown, named, verdict_by, typedef_row, is_member}
-use Rattle.yspec.specs.linking.Planned.{Planned, Plan, is_a, stated_in, type_by, target_of}
+use Rattle.yspec.specs.linking.TypeStatements.{BuiltIn, enumeration, bits, union, leafref, identityref, Meant, own, of_union, Verdict, means, wrong, built_in_meant, are_in_place, of_names, namings, value_stated, position_stated, single_type, union_verdict, leafref_verdict, named_where, derived_by, meaning_of}
+use Rattle.yspec.specs.linking.DerivedTypes.{Known, unknown, named, verdict_by, typedef_row, is_own_member}
+use Rattle.yspec.specs.linking.Planned.{Planned, Plan, is_a, stated_in, is_leaf_or_leaf_list, is_too_wide, member_types, type_by, target_of, targets_of}
 use Rattle.yspec.specs.linking.SchemaNodes as schema_nodes
 use Rattle.yspec.specs.linking.SchemaNodes.{is_mandatory, min_elements_of, own_defaults, is_key}
 use Rattle.yspec.specs.linking.NodeBreaks.{is_empty, has_equal, is_wrong_case, broken_at}
@@ -94,7 +94,7 @@ module _ (kept : Keeping) where
   unfoldable pub verdicts_of : Forest Source → (ℕ → Verdict) → Forest Source → List Verdict
   verdicts_of modules names end = []
   verdicts_of modules names (node s below after) = if is_source_of word.type_word s
-      then verdict_of modules names true s below (verdicts_of modules names below) ∷ verdicts_of modules names after
+      then verdict_of modules names (not s.may_refer) s below (verdicts_of modules names below) ∷ verdicts_of modules names after
       else verdicts_of modules names after
 
   abbrev pub verdict_on_of : Forest Source → (ℕ → Verdict) → Bool → Source → Forest Source → Verdict
@@ -119,7 +119,7 @@ module _ (kept : Keeping) where
 
   abbrev pub verdict_at : Forest Source → Placed → Verdict
   verdict_at modules p =
-      verdict_on_of modules (verdict_by (known_named_of modules)) (is_member p.ancestors) p.source p.below
+      verdict_on_of modules (verdict_by (known_named_of modules)) (is_own_member p) p.source p.below
 
   abbrev pub meant_of : Forest Source → Placed → Option Meant
   meant_of modules p = if is_source_of word.type_word p.source then meaning_of (verdict_at modules p) else None
@@ -190,6 +190,20 @@ is_default_wrong_in language plan p = if is_a word.leaf_word p
 abbrev pub default_breaks_in : Language → Plan → Planned → List Break
 default_breaks_in language plan p = when (is_default_wrong_in language plan p) (broken_at 11 p)
 
+-- ---- C18: a union that has too many members with those of what its leafrefs lead to
+
+abbrev pub is_wide_union : Keeping → Plan → Planned → Meant → Bool
+is_wide_union kept plan p (of_union members) = option_map_or is_too_wide (member_types plan (type_of_kept kept plan) p members) false
+is_wide_union kept plan p _ = false
+
+abbrev pub is_wide_over : Keeping → Plan → Planned → Bool
+is_wide_over kept plan p = option_map_or (is_wide_union kept plan p) (meant_in_of kept plan p) false
+
+abbrev pub width_breaks : Language → Plan → Planned → List Break
+width_breaks core plan p = []
+width_breaks (rfc wide) plan p =
+    when (is_leaf_or_leaf_list p && is_wide_over (standing_names (rfc wide) plan.modules) plan p) (broken_at 18 p)
+
 -- ---- schema nodes: their types without the names that are off, and their defaults
 
 abbrev pub default_values_in : Language → Plan → Planned → List Val
@@ -201,6 +215,7 @@ leaf_type_in language plan p = record {
   name = schema_nodes.type_name p;
   type = unwrap_or (standing_type language plan p) string_type;
   target = option_map schema_nodes.number_in (target_of plan p);
+  targets = targets_of plan (standing_type language plan) p (meant_in_of (standing_names language plan.modules) plan p);
 }
 
 abbrev pub absence_in : Language → Plan → Planned → Absence

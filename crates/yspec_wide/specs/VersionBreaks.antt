@@ -9,7 +9,7 @@ use Rattle.yspec.specs.linking.Keyword as word
 use Rattle.yspec.specs.linking.Source.{Source, is_source_of, argument_in, argument_with, first_with}
 use Rattle.yspec.specs.linking.Imports.{module_called}
 use Rattle.yspec.specs.linking.Scopes.{Placed, statements_of, statement_at}
-use Rattle.yspec.specs.linking.TypeStatements.{Meant, own, of_target}
+use Rattle.yspec.specs.linking.TypeStatements.{Meant, own, of_target, of_union}
 use Rattle.yspec.specs.linking.DerivedTypes.{is_member, meant_by}
 use Rattle.yspec.specs.linking.Planned.{Planned, Plan, node_of, is_a, meant_in}
 use Rattle.yspec.specs.linking.SchemaNodes.{is_key}
@@ -38,6 +38,7 @@ is_empty_type type = is_none type.requires_instance && is_empty_shape type.shape
 abbrev pub is_empty_meant : Meant → Bool
 is_empty_meant (own type) = is_empty_type type
 is_empty_meant (of_target home steps required) = false
+is_empty_meant (of_union members) = false
 
 module _ (language : Language) where
   abbrev pub is_of_yang_1 : Forest Source → Source → Bool

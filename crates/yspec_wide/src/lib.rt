@@ -9,6 +9,7 @@ pub mod features;
 pub mod guards;
 pub mod laws;
 pub mod patterns;
+pub mod referring;
 pub mod restricting;
 pub mod standing;
 pub mod versions;

@@ -269,56 +269,56 @@ legal_more home few more covers (node s below after) legal = (
   legal_more home few more covers after legal.2,
 )
 
-legal_as_extension : (home number : ℕ) (allowed : List narrow.Allowed) (k : Keyword) (s : Statement) (f g : Forest (Keyword × Statement))
+legal_as_extension : (refers : Bool) (home number : ℕ) (allowed : List narrow.Allowed) (k : Keyword) (s : Statement) (f g : Forest (Keyword × Statement))
     → ((j : Keyword) → narrow_breaks.is_allowed j (may_stand k) ≡ true → narrow_breaks.is_allowed j (may_stand extension_word) ≡ true)
-    → IsLegal home allowed (numbered home number (node (k, s) f g)) → IsLegal home allowed (numbered home number (node (extension_word, s) f g))
+    → IsLegal home allowed (numbered refers home number (node (k, s) f g)) → IsLegal home allowed (numbered refers home number (node (extension_word, s) f g))
 unfolding numbered
-legal_as_extension home number allowed k s f g covers legal = (
+legal_as_extension refers home number allowed k s f g covers legal = (
   record { known = λ other. absurd cc; named = λ defines. absurd cc; stands = refl },
-  legal_more home (may_stand k) (may_stand extension_word) covers (numbered home (number + 1) f) legal.1,
+  legal_more home (may_stand k) (may_stand extension_word) covers (numbered refers home (number + 1) f) legal.1,
   legal.2,
 )
 
-legal_as_restricting : (home number : ℕ) (allowed : List narrow.Allowed) (o : Option Keyword) (s : Statement) (f g : Forest (Keyword × Statement))
-    → IsLegal home allowed (numbered home number (kept_at o s f g)) → IsLegal home allowed (numbered home number (kept_at (option_map keyword_restricting o) s f g))
-legal_as_restricting home number allowed None s f g legal = legal
-legal_as_restricting home number allowed (Some k) s f g legal = by (same_keyword enum_word k) refl (same_keyword bit_word k) refl
+legal_as_restricting : (refers : Bool) (home number : ℕ) (allowed : List narrow.Allowed) (o : Option Keyword) (s : Statement) (f g : Forest (Keyword × Statement))
+    → IsLegal home allowed (numbered refers home number (kept_at o s f g)) → IsLegal home allowed (numbered refers home number (kept_at (option_map keyword_restricting o) s f g))
+legal_as_restricting refers home number allowed None s f g legal = legal
+legal_as_restricting refers home number allowed (Some k) s f g legal = by (same_keyword enum_word k) refl (same_keyword bit_word k) refl
   where
     by : (a : Bool) → same_keyword enum_word k ≡ a → (b : Bool) → same_keyword bit_word k ≡ b
-        → IsLegal home allowed (numbered home number (node (cond (a || b) extension_word k, s) f g))
-    by true is b of_bit = legal_as_extension home number allowed k s f g
+        → IsLegal home allowed (numbered refers home number (node (cond (a || b) extension_word k, s) f g))
+    by true is b of_bit = legal_as_extension refers home number allowed k s f g
         (subst (λ w. (j : Keyword) → narrow_breaks.is_allowed j (may_stand w) ≡ true → narrow_breaks.is_allowed j (may_stand extension_word) ≡ true)
         (same_is enum_word k is) below_enum) legal
-    by false other true is = legal_as_extension home number allowed k s f g
+    by false other true is = legal_as_extension refers home number allowed k s f g
         (subst (λ w. (j : Keyword) → narrow_breaks.is_allowed j (may_stand w) ≡ true → narrow_breaks.is_allowed j (may_stand extension_word) ≡ true)
         (same_is bit_word k is) below_bit) legal
     by false other false not_bit = legal
 
-legal_restricting : (restricting : Bool) (language : Language) (home number : ℕ) (allowed : List narrow.Allowed) (s : Statement) (f g : Forest (Keyword × Statement))
-    → IsLegal home allowed (numbered home number (kept_at (kept_keyword_in language false s) s f g))
-    → IsLegal home allowed (numbered home number (kept_at (kept_keyword_in language restricting s) s f g))
-legal_restricting false language home number allowed s f g legal = legal
-legal_restricting true language home number allowed s f g legal =
-    legal_as_restricting home number allowed (kept_keyword_in language false s) s f g legal
+legal_restricting : (refers restricting : Bool) (language : Language) (home number : ℕ) (allowed : List narrow.Allowed) (s : Statement) (f g : Forest (Keyword × Statement))
+    → IsLegal home allowed (numbered refers home number (kept_at (kept_keyword_in language false s) s f g))
+    → IsLegal home allowed (numbered refers home number (kept_at (kept_keyword_in language restricting s) s f g))
+legal_restricting refers false language home number allowed s f g legal = legal
+legal_restricting refers true language home number allowed s f g legal =
+    legal_as_restricting refers home number allowed (kept_keyword_in language false s) s f g legal
 
 -- ---- a row of statements
 
-module _ (language : Language) (version : YangVersion) (m : ℕ) where
+module _ (language : Language) (version : YangVersion) (refers : Bool) (m : ℕ) where
   Inside : Word → List Break → Forest (Keyword × Statement) → Type 0
-  Inside w inner f = (allowed : List narrow.Allowed) → Covers (rule_in language version w).substatements allowed → inner ≡ [] → (n : ℕ) → IsLegal m allowed (numbered m n f)
+  Inside w inner f = (allowed : List narrow.Allowed) → Covers (rule_in language version w).substatements allowed → inner ≡ [] → (n : ℕ) → IsLegal m allowed (numbered refers m n f)
 
   -- one that the core doesn't have
   legal_added : (number : ℕ) (rows : List Allowed) (allowed : List narrow.Allowed) (w : Word) → Covers (rule_in language version w).substatements (may_stand extension_word)
       → same_word w (known extension_word) ≡ false → keyword_kept w ≡ Some extension_word
       → (s : Statement) (below : Forest Statement) (inner : List Break) (f g : Forest (Keyword × Statement))
-      → known_breaks language version m rows w s below inner ≡ [] → Inside w inner f → ((n : ℕ) → IsLegal m allowed (numbered m n g))
-      → IsLegal m allowed (numbered m number (kept_at (keyword_kept w) s f g))
+      → known_breaks language version m rows w s below inner ≡ [] → Inside w inner f → ((n : ℕ) → IsLegal m allowed (numbered refers m n g))
+      → IsLegal m allowed (numbered refers m number (kept_at (keyword_kept w) s f g))
   unfolding numbered Inside
   legal_added number rows allowed w covers other is s below inner f g e inside rest =
-      subst (λ k. IsLegal m allowed (numbered m number (kept_at k s f g))) (sym is) (by (is_allowed w rows) (same_word w (known extension_word)) other e)
+      subst (λ k. IsLegal m allowed (numbered refers m number (kept_at k s f g))) (sym is) (by (is_allowed w rows) (same_word w (known extension_word)) other e)
     where
       by : (a x : Bool) → x ≡ false → cond (not a) (broken 1 m s.line) (cond x [] (own_breaks language version m w s below ++ inner)) ≡ []
-          → IsLegal m allowed (numbered m number (kept_at (Some extension_word) s f g))
+          → IsLegal m allowed (numbered refers m number (kept_at (Some extension_word) s f g))
       by false x unlike e = absurd cc
       by true true unlike e = absurd cc
       by true false unlike e = (
@@ -330,8 +330,8 @@ module _ (language : Language) (version : YangVersion) (m : ℕ) where
   -- one of the core's
   legal_known : (number : ℕ) (rows : List Allowed) (allowed : List narrow.Allowed) → Covers rows allowed → (k : Keyword)
       → (s : Statement) (below : Forest Statement) (inner : List Break) (f g : Forest (Keyword × Statement))
-      → known_breaks language version m rows (known k) s below inner ≡ [] → Inside (known k) inner f → ((n : ℕ) → IsLegal m allowed (numbered m n g))
-      → IsLegal m allowed (numbered m number (kept_at (unless_extension k) s f g))
+      → known_breaks language version m rows (known k) s below inner ≡ [] → Inside (known k) inner f → ((n : ℕ) → IsLegal m allowed (numbered refers m n g))
+      → IsLegal m allowed (numbered refers m number (kept_at (unless_extension k) s f g))
   unfolding numbered Inside
   legal_known number rows allowed covers k s below inner f g e inside rest = by (is_allowed (known k) rows) refl (same_keyword k extension_word) e
     where
@@ -340,7 +340,7 @@ module _ (language : Language) (version : YangVersion) (m : ℕ) where
 
       by : (a : Bool) → is_allowed (known k) rows ≡ a → (x : Bool)
           → cond (not a) (broken 1 m s.line) (cond x [] (own_breaks language version m (known k) s below ++ inner)) ≡ []
-          → IsLegal m allowed (numbered m number (kept_at (cond x None (Some k)) s f g))
+          → IsLegal m allowed (numbered refers m number (kept_at (cond x None (Some k)) s f g))
       by false may x e = absurd cc
       by true may true e = rest number
       by true may false e =
@@ -357,8 +357,8 @@ module _ (language : Language) (version : YangVersion) (m : ℕ) where
   legal_named : (number : ℕ) (rows : List Allowed) (allowed : List narrow.Allowed) → Covers rows allowed
       → (s : Statement) (below : Forest Statement) (inner : List Break) (f g : Forest (Keyword × Statement)) (prefixed : Bool) (o : Option Word) → (prefixed ≡ true → o ≡ None)
       → cond prefixed [] (named_breaks language version m rows o s below inner) ≡ []
-      → ((w : Word) → o ≡ Some w → Inside w inner f) → ((n : ℕ) → IsLegal m allowed (numbered m n g))
-      → IsLegal m allowed (numbered m number (kept_at (option_and_then keyword_kept o) s f g))
+      → ((w : Word) → o ≡ Some w → Inside w inner f) → ((n : ℕ) → IsLegal m allowed (numbered refers m n g))
+      → IsLegal m allowed (numbered refers m number (kept_at (option_and_then keyword_kept o) s f g))
   legal_named number rows allowed covers s below inner f g true None is e inside rest = rest number
   legal_named number rows allowed covers s below inner f g true (Some w) is e inside rest = let none = is refl in absurd cc
   legal_named number rows allowed covers s below inner f g false None is e inside rest = absurd cc
@@ -377,14 +377,14 @@ module _ (language : Language) (version : YangVersion) (m : ℕ) where
       legal_added number rows allowed when_word (covers_when language version) refl refl s below inner f g e (inside when_word refl) rest
 
   pub legal_row : (may restricting : Bool) (rows : List Allowed) (allowed : List narrow.Allowed) → Covers rows allowed → (f : Forest Statement)
-      → row_breaks_in language version m rows f ≡ [] → (number : ℕ) → IsLegal m allowed (numbered m number (kept_in language may restricting f))
+      → row_breaks_in language version m rows f ≡ [] → (number : ℕ) → IsLegal m allowed (numbered refers m number (kept_in language may restricting f))
   unfolding row_breaks_in kept_in numbered Inside
   legal_row may restricting rows allowed covers end e number = tt
   legal_row may restricting rows allowed covers (node s below after) e number =
       let inner = row_breaks_in language version m (substatements_of language version s.keyword) below in
       let this = breaks_at language version m rows s below inner in
       let within = restricts_below may (kept_keyword_in language restricting s) s in
-      legal_restricting restricting language m number allowed s (kept_in language may within below) (kept_in language may restricting after)
+      legal_restricting refers restricting language m number allowed s (kept_in language may within below) (kept_in language may restricting after)
       (legal_named number rows allowed covers s below inner (kept_in language may within below) (kept_in language may restricting after)
       (is_prefixed s.keyword) (word_named language s.keyword)
       (prefixed_none language s.keyword)
@@ -441,12 +441,12 @@ is_module language m s below e = by (word_named language s.keyword) refl e
 -- a module is one source, and the others follow
 pub sources_first : (language : Language) (home number : ℕ) (s : Statement) (below after : Forest Statement) → kept_keyword_in language false s ≡ Some module_word
     → sources_in_from language home number (node s below after)
-    ≡ node (record { keyword = module_word; statement = s; number = number; home = home }) (numbered home (number + 1) (kept_in language (may_restrict language below) false below))
+    ≡ node (record { keyword = module_word; statement = s; number = number; home = home; may_refer = may_restrict language below }) (numbered (may_restrict language below) home (number + 1) (kept_in language (may_restrict language below) false below))
     (sources_in_from language (home + 1) (number + suc (size (kept_in language (may_restrict language below) false below) + 0)) after)
 unfolding sources_in_from kept_in numbered
 sources_first language home number s below after is =
     let may = may_restrict language below in
-    ap (λ o. join (numbered home number (kept_at o s (kept_in language may (restricts_below may o s) below) end))
+    ap (λ o. join (numbered may home number (kept_at o s (kept_in language may (restricts_below may o s) below) end))
     (sources_in_from language (home + 1) (number + size (kept_at o s (kept_in language may (restricts_below may o s) below) end)) after)) is
 
 module_form : (language : Language) (version : YangVersion) → (rule_in language version (known module_word)).form ≡ as_before identifier_form
@@ -465,7 +465,7 @@ are_modules language home (node s below after) e number =
       refl,
       refl,
       identifier_is version home form s (none_first (argument_breaks home version form s) _ here.own) (module_form language version),
-      legal_row language version home (may_restrict language below) false (rule_in language version (known module_word)).substatements (may_stand module_word) (covers_known language version module_word)
+      legal_row language version (may_restrict language below) home (may_restrict language below) false (rule_in language version (known module_word)).substatements (may_stand module_word) (covers_known language version module_word)
           below here.inner (number + 1),
       are_modules language (home + 1) after (none_second (top_breaks language home s below) (breaks_in_from language (home + 1) after) e) _,
     )

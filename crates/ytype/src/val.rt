@@ -117,6 +117,23 @@ impl Val {
         Val { member, content }
     }
 
+    /// The number of the member of a union that took it, those of unions in it numbered as well; none of another type.
+    pub fn member(&self) -> Option<usize>
+        ensures { result ≡ self.now.member }
+    {
+        self.member
+    }
+
+    /// The same as a member of another union took it, or another type that is none.
+    pub fn of_member(self, member: Option<usize>) -> Val
+        ensures { result ≡ value member self.content }
+    {
+        Val {
+            member,
+            content: self.content,
+        }
+    }
+
     /// The canonical text of the value, which is one of this type (RFC 7950, 9.1).
     pub fn canonical(&self, alloc: Global, of: &YType) -> Result<String, AllocError>
         ensures { IfOk result (λ text. string_bytes text ≡ canonical of.now self.now) }

@@ -4,7 +4,7 @@ ghost use Rattle.std.specs.Prelude.{◌≡◌, ◌++◌, Ok, IfOk, OnOk, Some, N
 ghost use Rattle.yspec.specs.types.Types.{taken, error_text_of, app_tag_of, message_of, shape_in, type_in, plain, integer_type, string_type, uint8_type, int8, int16, int32, int64, uint8, uint16, uint32, uint64, boolean_base, empty_base, decimal_base, enumeration_base, bits_base, binary_base};
 ghost use Rattle.yspec.specs.types.Values.{value_of_text, taker};
 ghost use Rattle.yspec.specs.types.Names as names;
-ghost use Rattle.yspec.specs.types.Restriction.{has_name, member_count, members_of, union_type, leafref_type, narrowed};
+ghost use Rattle.yspec.specs.types.Restriction.{has_name, is_union, member_count, members_of, union_type, leafref_type, narrowed};
 ghost use Rattle.ytype_numbers.specs.View.{restriction_of, text_of};
 ghost use Rattle.yspec.specs.Results.{Gives};
 ghost use Rattle.ytype_numbers.specs.Words.{narrow_refusal, same};
@@ -294,6 +294,16 @@ impl YType {
         ensures { IfOk result (λ members. members.items ≡ members_of self.now.shape) }
     {
         all_of(alloc, &self.shape.members(alloc)?)
+    }
+
+    /// Whether it is a union.
+    pub fn is_union(&self) -> bool
+        ensures { result ≡ is_union self.now.shape }
+    {
+        match &self.shape {
+            Shape::Single(_) => false,
+            Shape::Union(_) => true,
+        }
     }
 
     /// How many members a union has, those of unions in it as well; 1 of another type.

@@ -42,13 +42,13 @@ fitting_of m k s below e =
 -- a statement of a row with a keyword of the table
 legal_known : (m number : ℕ) (allowed : List Allowed) (k : Keyword) (s : Statement) (below : Forest Statement) (inner : List Break) (f g : Forest (Keyword × Statement))
     → known_breaks m allowed k s below inner ≡ []
-    → (inner ≡ [] → (n : ℕ) → IsLegal m (rule_of k).substatements (numbered m n f)) → ((n : ℕ) → IsLegal m allowed (numbered m n g))
-    → IsLegal m allowed (numbered m number (kept_at (unless_extension k) s f g))
+    → (inner ≡ [] → (n : ℕ) → IsLegal m (rule_of k).substatements (numbered false m n f)) → ((n : ℕ) → IsLegal m allowed (numbered false m n g))
+    → IsLegal m allowed (numbered false m number (kept_at (unless_extension k) s f g))
 unfolding numbered
 legal_known m number allowed k s below inner f g e inside rest = by (is_allowed k allowed) refl (same_keyword k extension_word) e
   where
     by : (a : Bool) → is_allowed k allowed ≡ a → (x : Bool) → cond (not a) (broken 1 m s.line) (cond x [] (own_breaks m k s below ++ inner)) ≡ []
-        → IsLegal m allowed (numbered m number (kept_at (cond x None (Some k)) s f g))
+        → IsLegal m allowed (numbered false m number (kept_at (cond x None (Some k)) s f g))
     by false known x e = absurd cc
     by true known true e = rest number
     by true known false e = (
@@ -59,14 +59,14 @@ legal_known m number allowed k s below inner f g e inside rest = by (is_allowed 
 
 legal_named : (m number : ℕ) (allowed : List Allowed) (s : Statement) (below : Forest Statement) (inner : List Break) (f g : Forest (Keyword × Statement))
     (prefixed : Bool) (o : Option Keyword) → (prefixed ≡ true → o ≡ None) → cond prefixed [] (named_breaks m allowed o s below inner) ≡ []
-    → (inner ≡ [] → (n : ℕ) → IsLegal m (option_map_or (λ k. (rule_of k).substatements) o []) (numbered m n f)) → ((n : ℕ) → IsLegal m allowed (numbered m n g))
-    → IsLegal m allowed (numbered m number (kept_at (option_and_then unless_extension o) s f g))
+    → (inner ≡ [] → (n : ℕ) → IsLegal m (option_map_or (λ k. (rule_of k).substatements) o []) (numbered false m n f)) → ((n : ℕ) → IsLegal m allowed (numbered false m n g))
+    → IsLegal m allowed (numbered false m number (kept_at (option_and_then unless_extension o) s f g))
 legal_named m number allowed s below inner f g true None is e inside rest = rest number
 legal_named m number allowed s below inner f g true (Some k) is e inside rest = let none = is refl in absurd cc
 legal_named m number allowed s below inner f g false None is e inside rest = absurd cc
 legal_named m number allowed s below inner f g false (Some k) is e inside rest = legal_known m number allowed k s below inner f g e inside rest
 
-pub legal_from : (m : ℕ) (allowed : List Allowed) (f : Forest Statement) → row_breaks m allowed f ≡ [] → (number : ℕ) → IsLegal m allowed (numbered m number (kept f))
+pub legal_from : (m : ℕ) (allowed : List Allowed) (f : Forest Statement) → row_breaks m allowed f ≡ [] → (number : ℕ) → IsLegal m allowed (numbered false m number (kept f))
 unfolding row_breaks kept numbered
 legal_from m allowed end e number = tt
 legal_from m allowed (node s below after) e number =
@@ -120,11 +120,11 @@ is_module m s below e = by (keyword_named s.keyword) refl e
 -- a module is one source, and the others follow
 pub sources_first : (home number : ℕ) (s : Statement) (below after : Forest Statement) → kept_keyword s ≡ Some module_word
     → sources_from home number (node s below after)
-    ≡ node (record { keyword = module_word; statement = s; number = number; home = home }) (numbered home (number + 1) (kept below))
+    ≡ node (record { keyword = module_word; statement = s; number = number; home = home; may_refer = false }) (numbered false home (number + 1) (kept below))
     (sources_from (home + 1) (number + suc (size (kept below) + 0)) after)
 unfolding sources_from kept numbered
 sources_first home number s below after is =
-    ap (λ o. join (numbered home number (kept_at o s (kept below) end)) (sources_from (home + 1) (number + size (kept_at o s (kept below) end)) after)) is
+    ap (λ o. join (numbered false home number (kept_at o s (kept below) end)) (sources_from (home + 1) (number + size (kept_at o s (kept below) end)) after)) is
 
 pub are_modules : (home : ℕ) (modules : Forest Statement) → breaks_from home modules ≡ [] → (number : ℕ) → AreModules home (sources_from home number modules)
 unfolding sources_from breaks_from

@@ -1,11 +1,12 @@
 -- The faults of a document, in order (RFC 7950, 8.1, 8.3.1 and 15), and the line that each prints.
-use Rattle.std.specs.Prelude.{ℕ, zero, suc, ◌+◌, ◌++◌, ◌==◌, Bool, false, List, [], ◌∷◌, map, codes, decimal, Option, Some, None, filter, unwrap_or, if◌then◌else◌, nat_le, nat_lt}
+use Rattle.std.specs.Prelude.{ℕ, zero, suc, ◌+◌, ◌++◌, ◌==◌, ◌&&◌, Bool, false, List, [], ◌∷◌, map, codes, decimal, Option, Some, None, filter, unwrap_or, if◌then◌else◌, nat_le, nat_lt}
 use Rattle.std.specs.List.{flat_map}
 use Rattle.std.specs.Option.{option_map_or}
 use Rattle.yspec.specs.Forest.{end, node}
 use Rattle.yspec.specs.text.Text.{Text}
-use Rattle.yspec.specs.types.Types.{Raw, Val, YangType, taken, app_tag_of}
+use Rattle.yspec.specs.types.Types.{Raw, Val, taken, app_tag_of}
 use Rattle.yspec.specs.schema.Schema.{Schema, SchemaNode, Kind, leaf, leaf_list, list, LeafType, LeafPath, node_at, children_of}
+use Rattle.yspec.specs.schema.References.{Reference, reference_in}
 use Rattle.yspec.specs.document.Document.{Stored, Tree, Step, step_to, step_at, instances_in}
 use Rattle.yspec.specs.document.FaultCode.{FaultCode, V1, V8, V9, V10, V11, fault_number}
 use Rattle.yspec.specs.document.Fault.{Info, no_info, choice_name, unique_number, Fault, fault, fault_with, plain_fault}
@@ -26,13 +27,14 @@ pub record RowTimes : Type 0 where
 
 -- ---- the faults at one stored node, their steps leading from itself
 
-abbrev pub requires_instance : YangType → Bool
-requires_instance type = unwrap_or type.requires_instance false
+-- whether an instance that a reference requires isn't there
+abbrev pub lacks_instance : Times → Reference → Bool
+lacks_instance times r = r.is_required && times r.target r.value == 0
 
 -- V11
 abbrev pub reference_faults : Times → LeafType → Val → List Fault
-reference_faults times type v = if requires_instance type.type
-    then option_map_or (λ target. if times target v == 0 then plain_fault V11 [] ∷ [] else []) type.target [] else []
+reference_faults times type v =
+    option_map_or (λ r. if lacks_instance times r then plain_fault V11 [] ∷ [] else []) (reference_in type v) []
 
 -- V1, else V11
 abbrev pub value_faults : Times → LeafType → Raw → List Fault

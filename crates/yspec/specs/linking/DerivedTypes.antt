@@ -1,5 +1,5 @@
 -- What typedefs mean, each by way of those that it names, and so `type` statements: types, and defaults (RFC 7950, 7.3 and 9).
-use Rattle.std.specs.Prelude.{ℕ, zero, suc, Bool, false, List, [], ◌∷◌, Option, Some, None, option_map, option_and_then, if◌then◌else◌}
+use Rattle.std.specs.Prelude.{ℕ, zero, suc, ◌&&◌, Bool, false, not, List, [], ◌∷◌, Option, Some, None, option_map, option_and_then, if◌then◌else◌}
 use Rattle.std.specs.List.{flat_map}
 use Rattle.std.specs.Option.{option_map_or}
 use Rattle.yspec.specs.Forest.{Forest, size, first_of}
@@ -58,8 +58,12 @@ abbrev pub is_member : List (Source × Forest Source) → Bool
 is_member [] = false
 is_member (a ∷ ancestors) = is_source_of word.type_word a.0
 
+-- one that may not be a leafref
+abbrev pub is_own_member : Placed → Bool
+is_own_member p = is_member p.ancestors && not p.source.may_refer
+
 abbrev pub verdict_of : Forest Source → Placed → Verdict
-verdict_of modules p = verdict_on modules (verdict_by (known_named modules)) (is_member p.ancestors) p.source p.below
+verdict_of modules p = verdict_on modules (verdict_by (known_named modules)) (is_own_member p) p.source p.below
 
 -- what a statement means that is a `type` statement
 abbrev pub meant_by : Forest Source → Placed → Option Meant

@@ -10,8 +10,8 @@ use Rattle.yspec.specs.linking.Keyword.{Keyword}
 use Rattle.yspec.specs.linking.Keyword as word
 use Rattle.yspec.specs.linking.Source.{Stated, argument_in}
 use Rattle.yspec.specs.linking.Scopes.{statement_at}
-use Rattle.yspec.specs.linking.TypeStatements.{Meant, own, of_target}
-use Rattle.yspec.specs.linking.Planned.{Planned, Plan, same_number, nodes_of, node_of, child_called, is_a, is_leaf_or_leaf_list, stated_in, meant_in, target_meant, type_of, is_on_circle}
+use Rattle.yspec.specs.linking.TypeStatements.{Member, own_member, leafref_member, Meant, own, of_target, of_union}
+use Rattle.yspec.specs.linking.Planned.{Planned, Plan, same_number, nodes_of, node_of, child_called, is_a, is_leaf_or_leaf_list, stated_in, meant_in, path_target, target_meant, type_of, is_on_circle}
 use Rattle.yspec.specs.linking.SchemaNodes.{is_mandatory, min_elements_of, key_names, key_numbers, unique_ways, own_defaults, default_texts, value_stated, default_case, is_key}
 use Rattle.yspec.specs.schema.Breaks.{Break, broken, when}
 
@@ -84,16 +84,21 @@ abbrev pub tuple_breaks : Plan → Planned → List Break
 tuple_breaks plan p = when (is_a word.list_word p && (is_wrong_key plan p || list_any is_wrong_unique (unique_ways plan p)))
     (broken_at 12 p)
 
--- ---- C17: leafrefs that lead nowhere, in a circle, or from configuration to state
+-- ---- C17: leafrefs that lead nowhere, in a circle, or from configuration to state, those among the members of unions too
 
 abbrev pub is_wrong_target : Planned → Bool → Option Planned → Bool
 is_wrong_target p required None = true
 is_wrong_target p required (Some target) = p.config && (required && not target.config)
 
+abbrev pub is_wrong_member : Plan → Planned → Member → Bool
+is_wrong_member plan p (own_member type) = false
+is_wrong_member plan p (leafref_member home steps required) = is_wrong_target p required (path_target plan p home steps)
+
 abbrev pub is_wrong_reference : Plan → Planned → Meant → Bool
 is_wrong_reference plan p (own type) = false
 is_wrong_reference plan p (of_target home steps required) =
     is_wrong_target p required (target_meant plan p (of_target home steps required)) || is_on_circle plan p
+is_wrong_reference plan p (of_union members) = list_any (is_wrong_member plan p) members || is_on_circle plan p
 
 abbrev pub reference_breaks : Plan → Planned → List Break
 reference_breaks plan p = when (is_leaf_or_leaf_list p && option_map_or (is_wrong_reference plan p) (meant_in plan p) false)

@@ -1,15 +1,19 @@
 -- Parts with the numbers of their schema nodes, and what one finds by name among them (RFC 7950, 6.5, 7.8 and 9.9).
-use Rattle.std.specs.Prelude.{ℕ, zero, suc, ◌+◌, ◌==◌, ◌&&◌, ◌||◌, Bool, true, false, not, List, [], ◌∷◌, map, codes, Option, Some, None, find, filter, option_map, option_and_then, if◌then◌else◌}
+use Rattle.std.specs.Prelude.{ℕ, zero, suc, ◌+◌, ◌==◌, ◌&&◌, ◌||◌, Bool, true, false, not, List, [], ◌∷◌, map, codes, Option, Some, None, find, filter, length, option_map, option_and_then, nat_lt, if◌then◌else◌}
+use Rattle.std.specs.List.{filter_map, flat_map, list_any, range_with_len}
 use Rattle.std.specs.Option.{option_map_or, option_eq}
 use Rattle.yspec.specs.Forest.{Forest, end, node, size, preorder}
 use Rattle.yspec.specs.text.Text.{Text, is_text}
-use Rattle.yspec.specs.types.Types.{YangType, type_in}
+use Rattle.yspec.specs.types.Types.{YangType, Shape, single, union, type_in}
+use Rattle.yspec.specs.types.Restriction.{members_of, member_count, union_type}
+use Rattle.yspec.specs.schema.Schema.{MemberTarget}
 use Rattle.yspec.specs.linking.Keyword.{Keyword}
 use Rattle.yspec.specs.linking.Keyword as word
 use Rattle.yspec.specs.linking.Source.{Source, is_source_of, argument_in, argument_with, first_with}
+use Rattle.yspec.specs.linking.Arguments.{Name}
 use Rattle.yspec.specs.linking.Parts.{Part}
 use Rattle.yspec.specs.linking.Prefixes.{NodeName, node_name}
-use Rattle.yspec.specs.linking.TypeStatements.{Meant, own, of_target}
+use Rattle.yspec.specs.linking.TypeStatements.{Member, own_member, leafref_member, Meant, own, of_target, of_union, member_limit}
 use Rattle.yspec.specs.linking.DerivedTypes.{type_meant}
 use Rattle.yspec.specs.linking.Identities.{module_name}
 
@@ -141,10 +145,14 @@ meant_in plan p = option_and_then (λ s. type_meant plan.modules s.number) (firs
 abbrev pub leaf_found : Option Planned → Option Planned
 leaf_found found = option_and_then (λ p. if is_leaf_or_leaf_list p then Some p else None) found
 
+-- the leaf or leaf-list to which a path leads that stands in a module and in the type of a node
+abbrev pub path_target : Plan → Planned → ℕ → List Name → Option Planned
+path_target plan p home steps = leaf_found (data_node_at plan None (map (node_name plan.modules home p.part.owner) steps))
+
 abbrev pub target_meant : Plan → Planned → Meant → Option Planned
 target_meant plan p (own type) = None
-target_meant plan p (of_target home steps required) =
-    leaf_found (data_node_at plan None (map (node_name plan.modules home p.part.owner) steps))
+target_meant plan p (of_target home steps required) = path_target plan p home steps
+target_meant plan p (of_union members) = None
 
 -- the leaf or leaf-list to which a leafref refers
 abbrev pub target_of : Plan → Planned → Option Planned
@@ -154,25 +162,78 @@ target_of plan p = option_and_then (target_meant plan p) (meant_in plan p)
 abbrev pub referring : Bool → YangType → YangType
 referring required type = record { shape = type.shape; requires_instance = Some required }
 
+-- the leafs and leaf-lists to which the members of a union refer
+abbrev pub member_target : Plan → Planned → Member → Option Planned
+member_target plan p (own_member type) = None
+member_target plan p (leafref_member home steps required) = path_target plan p home steps
+
+abbrev pub targets_meant : Plan → Planned → Meant → List Planned
+targets_meant plan p (of_union members) = filter_map (member_target plan p) members
+targets_meant plan p _ = []
+
+abbrev pub member_targets : Plan → Planned → List Planned
+member_targets plan p = option_map_or (targets_meant plan p) (meant_in plan p) []
+
+-- the types of the members of a union, where each has one
+abbrev pub member_type : Plan → (Planned → Option YangType) → Planned → Member → Option YangType
+member_type plan others p (own_member type) = Some type
+member_type plan others p (leafref_member home steps required) = option_and_then others (path_target plan p home steps)
+
+abbrev pub member_types : Plan → (Planned → Option YangType) → Planned → List Member → Option (List YangType)
+member_types plan others p [] = Some []
+member_types plan others p (m ∷ ms) =
+    option_and_then (λ type. option_map (λ types. type ∷ types) (member_types plan others p ms)) (member_type plan others p m)
+
+-- a union of no more members than are read, those of what its leafrefs lead to included
+abbrev pub is_too_wide : List YangType → Bool
+is_too_wide types = nat_lt member_limit (member_count (union_type types))
+
+abbrev pub union_within : List YangType → Option YangType
+union_within types = if is_too_wide types then None else Some (union_type types)
+
 abbrev pub type_by : Plan → (Planned → Option YangType) → Planned → Meant → Option YangType
 type_by plan others p (own type) = Some type
 type_by plan others p (of_target home steps required) =
     option_map (referring required) (option_and_then others (target_meant plan p (of_target home steps required)))
+type_by plan others p (of_union members) = option_and_then union_within (member_types plan others p members)
 
 -- the type that leads there by fewer leafrefs than a number
 unfoldable pub type_within : Plan → ℕ → Planned → Option YangType
 type_within plan zero p = None
 type_within plan (suc steps) p = option_and_then (type_by plan (type_within plan steps) p) (meant_in plan p)
 
--- the type of a leaf or leaf-list, in its own module; none where a leafref leads nowhere, or in a circle
+-- the type of a leaf or leaf-list, in its own module; none where a leafref leads nowhere, or in a circle, or to too many members
 abbrev pub type_of : Plan → Planned → Option YangType
 type_of plan p = option_map (type_in (module_name plan.modules p.part.owner)) (type_within plan (suc (size plan.nodes)) p)
 
--- whether a leafref leads to the node of a number, within so many steps
+-- whether a leafref leads to the node of a number, within so many steps, itself or as a member of a union
 unfoldable pub leads_to : Plan → ℕ → ℕ → Planned → Bool
 leads_to plan zero number p = false
-leads_to plan (suc steps) number p =
-    option_map_or (λ t. t.number == number || leads_to plan steps number t) (target_of plan p) false
+leads_to plan (suc steps) number p = option_map_or (λ t. t.number == number || leads_to plan steps number t) (target_of plan p) false
+    || list_any (λ t. t.number == number || leads_to plan steps number t) (member_targets plan p)
 
 abbrev pub is_on_circle : Plan → Planned → Bool
 is_on_circle plan p = leads_to plan (size plan.nodes) p.number p
+
+-- ---- what the members of a union refer to
+
+-- what those refer to that a target's type has
+abbrev pub targets_by : ℕ → Bool → Shape → List (Option MemberTarget)
+targets_by number required (single type) = Some (record { target = number; member = None; is_required = required }) ∷ []
+targets_by number required (union types) =
+    map (λ i. Some (record { target = number; member = Some i; is_required = required })) (range_with_len 0 (length types))
+
+-- those of a member, given the types of nodes
+abbrev pub targets_in : Plan → (Planned → Option YangType) → Planned → Member → List (Option MemberTarget)
+targets_in plan types p (own_member type) = map (λ s. None) (members_of type.shape)
+targets_in plan types p (leafref_member home steps required) =
+    option_map_or (λ t. option_map_or (λ type. targets_by t.number required type.shape) (types t) []) (path_target plan p home steps) []
+
+-- those of each member of a union that a node has for its type, of which some are leafrefs'
+abbrev pub union_targets : Plan → (Planned → Option YangType) → Planned → Meant → List (Option MemberTarget)
+union_targets plan types p (of_union members) = flat_map (targets_in plan types p) members
+union_targets plan types p _ = []
+
+-- none of a node that has no type
+abbrev pub targets_of : Plan → (Planned → Option YangType) → Planned → Option Meant → List (Option MemberTarget)
+targets_of plan types p meant = option_map_or (λ type. option_map_or (union_targets plan types p) meant []) (types p) []

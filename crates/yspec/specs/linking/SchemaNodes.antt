@@ -13,7 +13,7 @@ use Rattle.yspec.specs.linking.Source.{Source, Stated, stated_by, argument_in, a
 use Rattle.yspec.specs.linking.Identities.{names_of}
 use Rattle.yspec.specs.linking.DerivedTypes.{default_meant}
 use Rattle.yspec.specs.linking.Prefixes.{NodeName, node_name}
-use Rattle.yspec.specs.linking.Planned.{Planned, Plan, is_said, is_a, stated_in, node_of, child_called, way, target_of, type_of}
+use Rattle.yspec.specs.linking.Planned.{Planned, Plan, is_said, is_a, stated_in, node_of, child_called, way, meant_in, target_of, targets_of, type_of}
 use Rattle.yspec.specs.schema.Schema.{SchemaNode, Kind, container, leaf, leaf_list, list, choice, case, LeafType, Absence, allowed, default_used, mandatory, key, Amount, Tuples, LeafPath, Status, current}
 
 abbrev pub is_mandatory : Planned → Bool
@@ -114,12 +114,13 @@ default_case plan p = option_and_then
 abbrev pub type_name : Planned → Text
 type_name p = unwrap_or (argument_with word.type_word p.part.own) (codes "string")
 
--- the type of a leaf or of items; that of a leafref stands beside the number of its target
+-- the type of a leaf or of items, and what it refers to
 abbrev pub leaf_type : Plan → Planned → LeafType
 leaf_type plan p = record {
   name = type_name p;
   type = unwrap_or (type_of plan p) string_type;
   target = option_map number_in (target_of plan p);
+  targets = targets_of plan (type_of plan) p (meant_in plan p);
 }
 
 abbrev pub is_among : List ℕ → Planned → Bool

@@ -1,17 +1,18 @@
 -- The statements that linking stands on: those of the table, each with its keyword, its number and its module.
-use Rattle.std.specs.Prelude.{ℕ, suc, ◌+◌, Bool, List, [], filter, find, Option, Some, None, option_map, option_and_then, unwrap_or, if◌then◌else◌}
+use Rattle.std.specs.Prelude.{ℕ, suc, ◌+◌, Bool, false, List, [], filter, find, Option, Some, None, option_map, option_and_then, unwrap_or, if◌then◌else◌}
 use Rattle.yspec.specs.Forest.{Forest, end, node, row, join, size}
 use Rattle.yspec.specs.text.Text.{Text}
 use Rattle.yspec.specs.text.Statement.{Statement}
 use Rattle.yspec.specs.linking.Keyword.{Keyword, same_keyword, keyword_named, extension_word}
 
 -- A statement is named by its number in preorder over the whole set, modules as given; `home` is the number of its module
--- in the set.
+-- in the set, and `may_refer` says whether a member of a union may be a leafref there.
 pub record Source : Type 0 where
   pub keyword : Keyword
   pub statement : Statement
   pub number : ℕ
   pub home : ℕ
+  pub may_refer : Bool
 
 -- An `extension` says nothing to a compiler, nor does a statement with a keyword that isn't in the table, as a prefixed
 -- one.
@@ -32,17 +33,17 @@ kept end = end
 kept (node s below after) = kept_at (kept_keyword s) s (kept below) (kept after)
 
 -- numbered from a number on
-unfoldable pub numbered : ℕ → ℕ → Forest (Keyword × Statement) → Forest Source
-numbered home number end = end
-numbered home number (node (k, s) below after) =
-    node (record { keyword = k; statement = s; number = number; home = home }) (numbered home (number + 1) below)
-    (numbered home (number + suc (size below)) after)
+unfoldable pub numbered : Bool → ℕ → ℕ → Forest (Keyword × Statement) → Forest Source
+numbered may home number end = end
+numbered may home number (node (k, s) below after) =
+    node (record { keyword = k; statement = s; number = number; home = home; may_refer = may }) (numbered may home (number + 1) below)
+    (numbered may home (number + suc (size below)) after)
 
--- the top statements of a set, from a module and a number on
+-- The top statements of a set, from a module and a number on. No member of a union is a leafref.
 unfoldable pub sources_from : ℕ → ℕ → Forest Statement → Forest Source
 sources_from home number end = end
 sources_from home number (node s below after) = let module_row = kept (node s below end) in
-    join (numbered home number module_row) (sources_from (home + 1) (number + size module_row) after)
+    join (numbered false home number module_row) (sources_from (home + 1) (number + size module_row) after)
 
 abbrev pub sources_of : Forest Statement → Forest Source
 sources_of modules = sources_from 0 0 modules

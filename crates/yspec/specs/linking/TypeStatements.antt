@@ -1,5 +1,5 @@
 -- The types that `type` statements mean, and where one breaks a rule of its own (RFC 7950, 7.3, 7.4 and 9).
-use Rattle.std.specs.Prelude.{ℕ, ℤ, pos, ◌&&◌, ◌||◌, Bool, true, false, List, [], ◌∷◌, codes, Option, Some, None, option_map, option_and_then, unwrap_or, nat_lt, if◌then◌else◌}
+use Rattle.std.specs.Prelude.{ℕ, ℤ, pos, ◌&&◌, ◌||◌, ◌++◌, Bool, true, false, not, List, [], ◌∷◌, sum_by, codes, Option, Some, None, option_map, option_and_then, unwrap_or, nat_lt, if◌then◌else◌}
 use Rattle.std.specs.List.{list_any, list_all}
 use Rattle.std.specs.Option.{option_map_or}
 use Rattle.yspec.specs.Forest.{Forest, end, node, row}
@@ -25,17 +25,31 @@ built_in_meant modules s = built_in_named (argument_in s)
 
 -- ---- what a `type` statement means
 
+-- a member of a union: a type that refers to no other node, or a leafref
+pub data Member : Type 0 where
+  own_member : YangType → Member
+  leafref_member : ℕ → List Name → Bool → Member
+
 pub data Meant : Type 0 where
   -- a type that refers to no other node
   own : YangType → Meant
   -- the type of the leaf or leaf-list to which a path leads, which stands in a module of the set, and whether an instance
   -- is required (RFC 7950, 9.9)
   of_target : ℕ → List Name → Bool → Meant
+  -- a union with leafrefs among its members, those of the unions among them being its own (RFC 7950, 9.12)
+  of_union : List Member → Meant
 
 -- the type that refers to no other node, if it is one
 abbrev pub own_type : Meant → Option YangType
 own_type (own type) = Some type
 own_type (of_target home steps required) = None
+own_type (of_union members) = None
+
+-- the members that it is in a union
+abbrev pub members_meant : Meant → List Member
+members_meant (own type) = own_member type ∷ []
+members_meant (of_target home steps required) = leafref_member home steps required ∷ []
+members_meant (of_union members) = members
 
 pub data Verdict : Type 0 where
   means : Meant → Verdict
@@ -161,15 +175,33 @@ member_limit = 65535
 abbrev pub of_members : List YangType → Verdict
 of_members types = if nat_lt member_limit (member_count (union_type types)) then too_large else means (own (union_type types))
 
+-- the members of a union, where each has a meaning
+abbrev pub with_members : Verdict → Option (List Member) → Option (List Member)
+with_members (means m) others = option_map (λ members. members_meant m ++ members) others
+with_members _ others = None
+
+abbrev pub members_in : List Verdict → Option (List Member)
+members_in [] = Some []
+members_in (v ∷ vs) = with_members v (members_in vs)
+
+-- a leafref is one, before it is known what it leads to
+abbrev pub width_of : Member → ℕ
+width_of (own_member type) = member_count type
+width_of (leafref_member home steps required) = 1
+
+abbrev pub referring_union : List Member → Verdict
+referring_union members = if nat_lt member_limit (sum_by width_of members) then too_large else means (of_union members)
+
 abbrev pub union_verdict : List Verdict → Verdict
 union_verdict [] = wrong
-union_verdict (v ∷ vs) = option_map_or of_members (member_types (v ∷ vs)) unjudged
+union_verdict (v ∷ vs) =
+    option_map_or of_members (member_types (v ∷ vs)) (option_map_or referring_union (members_in (v ∷ vs)) unjudged)
 
 -- an instance is required unless it is said otherwise
 abbrev pub is_required : Forest Source → Bool
 is_required below = option_map_or (λ t. is_text t (codes "true")) (argument_with word.require_instance_word below) true
 
--- a member of a union is no leafref
+-- a member of a union is no leafref, where it may not be one
 abbrev pub leafref_verdict : Bool → Source → Forest Source → Verdict
 leafref_verdict true s below = wrong
 leafref_verdict false s below = option_map_or (λ steps. means (of_target s.home steps (is_required below)))
@@ -229,6 +261,7 @@ restricted_by s below (own type) = option_map own (if comes_behind s then Some t
     else narrowed_by s below type)
 restricted_by s below (of_target home steps required) = if is_source_of word.require_instance_word s
     then Some (of_target home steps (is_text (argument_in s) (codes "true"))) else None
+restricted_by s below (of_union members) = None
 
 unfoldable pub restricted_in : Forest Source → Meant → Option Meant
 restricted_in end m = Some m
@@ -237,17 +270,20 @@ restricted_in (node s below after) m = option_and_then (restricted_in after) (re
 abbrev pub matched_meant : Forest Source → Meant → Option Meant
 matched_meant below (own type) = option_map own (matched_in below type)
 matched_meant below (of_target home steps required) = Some (of_target home steps required)
+matched_meant below (of_union members) = Some (of_union members)
 
 abbrev pub named_meant : (YangType → Option YangType) → Meant → Option Meant
 named_meant names (own type) = option_map own (names type)
 named_meant names (of_target home steps required) = Some (of_target home steps required)
+named_meant names (of_union members) = Some (of_union members)
 
 abbrev pub is_reference : Meant → Bool
 is_reference (own type) = false
 is_reference (of_target home steps required) = true
+is_reference (of_union members) = false
 
 -- of a `type` statement that names a typedef, given what its names make of types and the verdict on the typedef's own; a member
--- of a union is no leafref
+-- of a union is no leafref, where it may not be one
 abbrev pub derived_by : (YangType → Option YangType) → Bool → Forest Source → Verdict → Verdict
 derived_by names is_member below (means m) = if is_member && is_reference m then wrong
     else option_map_or means (option_and_then (named_meant names) (option_and_then (matched_meant below) (restricted_in below m))) wrong
@@ -258,7 +294,8 @@ derived is_member below v = derived_by (named_in below) is_member below v
 
 -- ---- `named` is the verdict on the typedef that the statement of a number names
 
--- on a `type` statement of a set of modules, a member of a union or not; `members` are the verdicts on those below it
+-- on a `type` statement of a set of modules, a member of a union that may not be a leafref or not; `members` are the verdicts on
+-- those below it
 abbrev pub verdict : Forest Source → (ℕ → Verdict) → Bool → Source → Forest Source → List Verdict → Verdict
 verdict modules named is_member s below members = option_map_or (λ type. if are_in_place type below
     then verdict_in_place modules is_member s type below members else wrong) (built_in_meant modules s)
@@ -268,7 +305,7 @@ verdict modules named is_member s below members = option_map_or (λ type. if are
 unfoldable pub verdicts : Forest Source → (ℕ → Verdict) → Forest Source → List Verdict
 verdicts modules named end = []
 verdicts modules named (node s below after) = if is_source_of word.type_word s
-    then verdict modules named true s below (verdicts modules named below) ∷ verdicts modules named after
+    then verdict modules named (not s.may_refer) s below (verdicts modules named below) ∷ verdicts modules named after
     else verdicts modules named after
 
 -- with those on its members

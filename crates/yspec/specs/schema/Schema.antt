@@ -8,16 +8,25 @@ use Rattle.yspec.specs.types.Types.{YangType, Val}
 
 -- ---- what only one kind of node has
 
--- the type of a leaf or of items, and its name as the `type` statement has it; of a leafref the type is that of its
--- target, whose number stands beside it
+-- What a member of a union refers to that is one of a leafref's: the number of the leafref's target, as which member of the
+-- target's type the value stands there, where that is a union, and whether an instance is required (RFC 7950, 9.9 and 9.12).
+pub record MemberTarget : Type 0 where
+  pub target : ℕ
+  pub member : Option ℕ
+  pub is_required : Bool
+
+-- The type of a leaf or of items, and its name as the `type` statement has it. Of a leafref the type is that of its target, whose
+-- number stands beside it; of a union with leafrefs the members of these are those of their targets' types, and what each member
+-- of the union refers to stands beside it.
 pub record LeafType : Type 0 where
   pub name : Text
   pub type : YangType
   pub target : Option ℕ
+  pub targets : List (Option MemberTarget)
 
 -- the type of a leaf that refers to no other
 abbrev pub own_type : Text → YangType → LeafType
-own_type name type = record { name = name; type = type; target = None }
+own_type name type = record { name = name; type = type; target = None; targets = [] }
 
 -- what it means that a leaf isn't stored: nothing; its default is in use; it is mandatory; it is a key of its list
 pub data Absence : Type 0 where

@@ -116,6 +116,10 @@ abbrev pub members_of : Shape → List SimpleType
 members_of (single s) = s ∷ []
 members_of (union members) = members
 
+abbrev pub is_union : Shape → Bool
+is_union (single s) = false
+is_union (union members) = true
+
 -- how many types take values: one, but for a union
 abbrev pub member_count : YangType → ℕ
 member_count type = prelude.length (members_of type.shape)

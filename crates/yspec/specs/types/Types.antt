@@ -261,7 +261,7 @@ simple_error type raw = option_map error_of_limit (simple_excluding type raw)
 abbrev pub value : Option ℕ → Content → Val
 value member c = record { member = member; content = c }
 
-abbrev or_value : Option Val → Option Val → Option Val
+abbrev pub or_value : Option Val → Option Val → Option Val
 or_value None later = later
 or_value (Some v) later = Some v
 

@@ -1,4 +1,4 @@
-use Rattle.std.proofs.Common.{◌≡◌, ℕ, ◌∷◌, [], ◌++◌, true, false, cond, List, Option, Some, None, length, map, refl, ap, sym, ◌∙◌, rules, arith}
+use Rattle.std.proofs.Common.{◌≡◌, ℕ, ◌∷◌, [], ◌++◌, true, false, not, ◌&&◌, cond, List, Option, Some, None, length, map, refl, ap, ap₂, sym, ◌∙◌, rules, arith}
 use Rattle.std.proofs.lemmas.List.{map_push, length-map}
 use Rattle.yspec.specs.Forest.{Forest, node, size}
 use Rattle.yspec.specs.linking.DerivedTypes.{is_member}
@@ -71,7 +71,7 @@ loop-statement-preserved-then-not-is_type t c =
       members = no_member kept modules named s below after (row_by source_view before) first c.args.in_union (map verdict_view c.loop-statement.members.items) _ other c.loop-statement.invariant.members;
       table = λ ancestors in_union.
           next_meant (judged_of kept modules named) ancestors s below after (row_by source_view before) first so_far pushed full _ None (own_pushed t made)
-          (sym (ap (λ b. cond b (Some (verdict_on_of kept modules named (is_member ancestors) s below)) None) other)) (others_pushed t made ancestors)
+          (sym (ap (λ b. cond b (Some (verdict_on_of kept modules named (is_member ancestors && not s.may_refer) s below)) None) other)) (others_pushed t made ancestors)
           (c.loop-statement.invariant.table ancestors in_union);
     }
 
@@ -96,9 +96,11 @@ loop-statement-preserved t c =
     c.in_ok-inner.ensures.members
     ∙ (ap (λ b. members_below kept modules named b (row_by source_view c.children-below.result)) holds
     ∙ ap (λ n. verdicts_of kept modules named (row_by source_view n)) c.children-below.ensures) in
-    let v : Verdict = verdict_of kept modules named c.args.in_union s below (verdicts_of kept modules named below) in
+    let own_member : c.is_own_member-is_own.result ≡ (c.args.in_union && not s.may_refer) =
+    c.is_own_member-is_own.ensures ∙ ap (λ l. c.args.in_union && not l.may_refer) c.label-2.ensures in
+    let v : Verdict = verdict_of kept modules named (c.args.in_union && not s.may_refer) s below (verdicts_of kept modules named below) in
     let judged_so : verdict_view c.in_ok-verdict.verdict ≡ v =
-    c.in_ok-verdict.ensures ∙ ap (verdict_of kept modules named c.args.in_union s below) members in
+    c.in_ok-verdict.ensures ∙ ap₂ (λ u ms. verdict_of kept modules named u s below ms) own_member members in
     let new = table_view c.set_verdict.new.table.items in
     let count : c.len-number.result ≡ length so_far = c.len-number.ensures ∙ (c.loop-statement.table.ok.0 ∙ sym (length-map c.loop-statement.table.items held_view)) in
     record {
@@ -113,8 +115,8 @@ loop-statement-preserved t c =
           let under = map (judged_of kept modules named) (placed ((s, below) ∷ ancestors) below) in
           let own : Option Verdict = Some (verdict_view c.in_ok-verdict.verdict) in
           let is : own ≡ judged_of kept modules named (placed_at s below ancestors) =
-          ap Some (judged_so ∙ ap (λ u. verdict_on_of kept modules named u s below) in_union)
-          ∙ sym (ap (λ b. cond b (Some (verdict_on_of kept modules named (is_member ancestors) s below)) None) stands) in
+          ap Some (judged_so ∙ ap (λ u. verdict_on_of kept modules named (u && not s.may_refer) s below) in_union)
+          ∙ sym (ap (λ b. cond b (Some (verdict_on_of kept modules named (is_member ancestors && not s.may_refer) s below)) None) stands) in
           next_meant (judged_of kept modules named) ancestors s below after (row_by source_view before) first so_far (so_far ++ own ∷ []) new _ own refl is
           (seam so_far pushed full new under None own c.len-number.result (own_pushed t made) (others_pushed t made ancestors) count c.in_ok-set_verdict.ensures)
           (c.loop-statement.invariant.table ancestors in_union);

@@ -19,7 +19,7 @@ add_statement-returns-in_default-clause-listed t c =
     let s = view c.args.statement.now in
     let none : kept_keyword_in g c.args.restricting s.0 ≡ None = search rules in
     sym (ap (λ ps. seen_rows c.args.table.now ++ ps)
-    (listed-none c.args.parent c.args.home (length (slots_in c.args.table.now)) (kept_in g c.args.may c.args.restricting (node s.0 s.1 end))
+    (listed-none c.args.parent c.args.may c.args.home (length (slots_in c.args.table.now)) (kept_in g c.args.may c.args.restricting (node s.0 s.1 end))
     (kept-none g c.args.may c.args.restricting s.0 s.1 none))
     ∙ append-nil (seen_rows c.args.table.now))
 
@@ -42,12 +42,12 @@ add_statement-returns-clause-listed t c =
     let some : kept_keyword_in g c.args.restricting s.0 ≡ Some w = search rules in
     let below : c.restricts_below-below.result ≡ (is_derived_type w s.0 && c.args.may) = c.restricts_below-below.ensures
     ∙ ap₂ (λ k t. is_derived_type (keyword_view k) (view t).0 && c.args.may) c.new-source.ensures.keyword c.new-source.ensures.whole in
-    let full_is : seen_rows full ≡ seen_rows mid ++ listed (Some n) c.args.home (length (slots_in mid)) (kept_in g c.args.may (is_derived_type w s.0 && c.args.may) s.1) =
+    let full_is : seen_rows full ≡ seen_rows mid ++ listed (Some n) c.args.may c.args.home (length (slots_in mid)) (kept_in g c.args.may (is_derived_type w s.0 && c.args.may) s.1) =
     c.in_ok-add_statements.ensures.listed
-    ∙ ap₂ (λ b f. seen_rows mid ++ listed (Some n) c.args.home (length (slots_in mid)) (kept_in g c.args.may b f)) below c.substatements.ensures.below in
-    added old mid full c.close.new.self c.args.parent c.args.home _ n w s.0 (kept_in g c.args.may (is_derived_type w s.0 && c.args.may) s.1)
+    ∙ ap₂ (λ b f. seen_rows mid ++ listed (Some n) c.args.may c.args.home (length (slots_in mid)) (kept_in g c.args.may b f)) below c.substatements.ensures.below in
+    added old mid full c.close.new.self c.args.parent c.args.may c.args.home _ n w s.0 (kept_in g c.args.may (is_derived_type w s.0 && c.args.may) s.1)
     c.in_ok-number.ensures.laid c.in_ok-number.ensures.number full_is c.close.ensures (c.new-source.ensures.label (length (slots_in old)))
-    ∙ ap (λ f. seen_rows old ++ listed c.args.parent c.args.home (length (slots_in old)) f) (sym (kept-some g c.args.may c.args.restricting s.0 s.1 w some))
+    ∙ ap (λ f. seen_rows old ++ listed c.args.parent c.args.may c.args.home (length (slots_in old)) f) (sym (kept-some g c.args.may c.args.restricting s.0 s.1 w some))
 
 pub add_statement-returns-clause-whole : goal.add_statement-returns-clause-whole
 add_statement-returns-clause-whole t c =

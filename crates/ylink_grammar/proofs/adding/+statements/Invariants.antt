@@ -9,7 +9,7 @@ use Rattle.ylink_grammar.proofs.adding.+statements.Given as goal
 
 abbrev pub invariant-add_statements-loop-statement : goal.invariant-add_statements-loop-statement
 invariant-add_statements-loop-statement l =
-    (seen_rows l.table ++ listed l.parent l.home (length (slots_in l.table)) (kept_in (language_view l.language) l.may l.restricting (row_view (drop l.statement-index l.statements)))
-    ≡ seen_rows l.fn.table ++ listed l.parent l.home (length (slots_in l.fn.table)) (kept_in (language_view l.language) l.may l.restricting (row_view l.statements)))
+    (seen_rows l.table ++ listed l.parent l.may l.home (length (slots_in l.table)) (kept_in (language_view l.language) l.may l.restricting (row_view (drop l.statement-index l.statements)))
+    ≡ seen_rows l.fn.table ++ listed l.parent l.may l.home (length (slots_in l.fn.table)) (kept_in (language_view l.language) l.may l.restricting (row_view l.statements)))
     × (whole_rows l.table ++ wholes_in (language_view l.language) (row_view (drop l.statement-index l.statements))
     ≡ whole_rows l.fn.table ++ wholes_in (language_view l.language) (row_view l.statements))

@@ -7,7 +7,7 @@ use Rattle.yspec_wide.specs.Types.{standing_type}
 use Rattle.ylink_grammar.specs.LanguageView.{language_view}
 use Rattle.yschema_plan.specs.NodesView.{node_view}
 use Rattle.yschema_plan.specs.PlanView.{view}
-use Rattle.yschema_model.specs.Layout.{type_name_view}
+use Rattle.yschema_model.specs.Layout.{targets_view, type_name_view}
 use Rattle.yschema.proofs.MakingLemmas.{leaf_type_by}
 use Rattle.yschema.proofs.making.leaf_type_of.Goals as goal
 
@@ -17,5 +17,8 @@ returns c =
     let p = node_view c.args.node in
     let type = c.value_type.ensures (language_view c.args.language.now) plan p c.requires.of_plan c.requires.stands in
     let target = c.target.ensures (language_view c.args.language.now) plan p c.requires.of_plan c.requires.stands in
-    ap₂ (leaf_type_by (type_name_view c.in_ok-name.name)) (c.in_ok-value_type.ensures ∙ ap (λ t. unwrap_or t string_type) type) (c.id_of.ensures ∙ target)
-    ∙ ap (λ n. leaf_type_by n (unwrap_or (standing_type (language_view c.args.language.now) plan p) string_type) (option_map number_in (target_of plan p))) (c.in_ok-name.ensures ∙ c.type_name.ensures c.args.node.number)
+    let targets = c.member_targets.ensures (language_view c.args.language.now) plan p c.requires.of_plan c.requires.stands in
+    ap₂ (λ t to. leaf_type_by (type_name_view c.in_ok-name.name) t to (targets_view c.in_ok-targets.targets.items))
+    (c.in_ok-value_type.ensures ∙ ap (λ t. unwrap_or t string_type) type) (c.id_of.ensures ∙ target)
+    ∙ ap₂ (λ n ts. leaf_type_by n (unwrap_or (standing_type (language_view c.args.language.now) plan p) string_type) (option_map number_in (target_of plan p)) ts)
+    (c.in_ok-name.ensures ∙ c.type_name.ensures c.args.node.number) (ap targets_view c.in_ok-targets.ensures.items ∙ targets)

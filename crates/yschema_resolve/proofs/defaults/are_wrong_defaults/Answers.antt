@@ -6,7 +6,7 @@ use Rattle.yspec.specs.types.Order.{same_value}
 use Rattle.yspec.specs.linking.SchemaNodes.{value_stated}
 use Rattle.ylink_grammar.specs.SourceView.{stated_view}
 use Rattle.yschema_plan.specs.PlannedView.{planned_view}
-use Rattle.yschema_resolve.specs.TypesView.{unmarked_view}
+use Rattle.yschema_types.specs.TypesView.{unmarked_view}
 use Rattle.yschema_resolve.specs.Values.{comes_twice}
 use Rattle.yschema_resolve.proofs.DefaultLemmas.{refused_as, same_values, wrong_least, wrong_one, wrong_twice, right_state}
 use Rattle.yschema_resolve.proofs.defaults.are_wrong_defaults.Goals as goal

@@ -1,7 +1,7 @@
 use Rattle.std.proofs.Common.{◌≡◌, drop, map}
 use Rattle.std.specs.List.{list_any}
 use Rattle.ylink_grammar.specs.SourceView.{stated_view}
-use Rattle.yschema_resolve.specs.TypesView.{unmarked_view}
+use Rattle.yschema_types.specs.TypesView.{unmarked_view}
 use Rattle.yschema_resolve.specs.Values.{is_refused_by}
 use Rattle.yschema_resolve.proofs.defaults.is_any_refused.Given as goal
 

@@ -2,8 +2,8 @@ use Rattle.std.proofs.Common.{◌≡◌, Option, Some, sym, ap, ◌∙◌}
 use Rattle.yspec.specs.types.Types.{Val}
 use Rattle.yspec_wide.specs.Types.{same_if_any}
 use Rattle.ylink_grammar.specs.SourceView.{stated_view}
-use Rattle.yschema_resolve.specs.ModulesView.{value_by}
-use Rattle.yschema_resolve.specs.TypesView.{unmarked_view}
+use Rattle.yschema_types.specs.ModulesView.{value_by}
+use Rattle.yschema_types.specs.TypesView.{unmarked_view}
 use Rattle.yschema_resolve.specs.Values.{is_right_by}
 use Rattle.yschema_resolve.proofs.DefaultLemmas.{right_itself}
 use Rattle.yschema_resolve.proofs.defaults.is_right.Goals as goal

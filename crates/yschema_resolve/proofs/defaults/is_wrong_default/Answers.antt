@@ -3,7 +3,7 @@ use Rattle.std.specs.Prelude.{◌==◌, vec_len}
 use Rattle.std.proofs.lemmas.Result.{IfOk-weaker}
 use Rattle.ylink_grammar.specs.SourceView.{stated_view}
 use Rattle.yschema_plan.specs.PlannedView.{planned_view}
-use Rattle.yschema_resolve.specs.TypesView.{unmarked_view}
+use Rattle.yschema_types.specs.TypesView.{unmarked_view}
 use Rattle.yschema_resolve.proofs.DefaultLemmas.{refused_as, wrong_beside, wrong_refused}
 use Rattle.yschema_resolve.proofs.defaults.is_wrong_default.Goals as goal
 

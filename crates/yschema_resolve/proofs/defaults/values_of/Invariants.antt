@@ -1,7 +1,7 @@
 use Rattle.std.proofs.Common.{◌≡◌, ◌++◌, drop, map}
 use Rattle.std.specs.List.{filter_map}
 use Rattle.ylink_grammar.specs.SourceView.{stated_view}
-use Rattle.yschema_resolve.specs.ModulesView.{value_by}
+use Rattle.yschema_types.specs.ModulesView.{value_by}
 use Rattle.yschema_resolve.proofs.defaults.values_of.Given as goal
 
 -- the values so far with those of the texts that are left

@@ -3,7 +3,7 @@ use Rattle.yspec.specs.linking.Planned.{nodes_of}
 use Rattle.yschema_plan.specs.NodesView.{left, node_view}
 use Rattle.yschema_plan.specs.PlanView.{view}
 use Rattle.yschema_resolve.specs.Guarding.{hangs_by, is_guarded_by}
-use Rattle.yschema_resolve.proofs.CollectLemmas.{collected}
+use Rattle.yschema_types.proofs.CollectLemmas.{collected}
 use Rattle.yschema_resolve.proofs.guarding.guarded_of.Goals as goal
 
 pub loop-node-preserved : goal.loop-node-preserved

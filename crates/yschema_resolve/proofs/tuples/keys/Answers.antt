@@ -1,6 +1,7 @@
 use Rattle.std.proofs.Common.{refl, sym, ap, ◌∙◌}
 use Rattle.yschema_plan.specs.PlanView.{view}
-use Rattle.yschema_resolve.specs.TuplesView.{keys_of, marked_by}
+use Rattle.yschema_types.specs.Marks.{marked_by}
+use Rattle.yschema_resolve.specs.TuplesView.{keys_of}
 use Rattle.yschema_resolve.proofs.MarkLemmas.{all_marked}
 use Rattle.yschema_resolve.proofs.tuples.keys.Goals as goal
 

@@ -3,7 +3,8 @@ use Rattle.yspec.specs.Forest.{size}
 use Rattle.yspec.specs.linking.Planned.{nodes_of}
 use Rattle.yschema_plan.specs.NodesView.{left}
 use Rattle.yschema_plan.specs.PlanView.{view}
-use Rattle.yschema_resolve.specs.TuplesView.{keys_of, marked_by}
+use Rattle.yschema_types.specs.Marks.{marked_by}
+use Rattle.yschema_resolve.specs.TuplesView.{keys_of}
 use Rattle.yschema_resolve.proofs.tuples.keys.Given as goal
 
 abbrev pub invariant-loop-node : goal.invariant-loop-node

@@ -1,5 +1,5 @@
 use Rattle.std.proofs.Common.{◌≡◌, drop}
-use Rattle.yschema_resolve.specs.TuplesView.{marked}
+use Rattle.yschema_types.specs.Marks.{marked}
 use Rattle.yschema_resolve.proofs.tuples.mark_keys.Given as goal
 
 abbrev pub invariant-loop-number : goal.invariant-loop-number

@@ -5,7 +5,8 @@ use Rattle.std.specs.Option.{option_map_or}
 use Rattle.yspec.specs.linking.Planned.{meant_in}
 use Rattle.yspec_wide.specs.VersionBreaks.{is_empty_meant}
 use Rattle.ylink.specs.TypeView.{meant_view}
-use Rattle.yschema_resolve.specs.TypesView.{meant_at, meants_view}
+use Rattle.yschema_types.specs.MeantNodes.{meant_at}
+use Rattle.yschema_types.specs.TypesView.{meants_view}
 use Rattle.yschema_resolve.proofs.UnfitKeyLemmas.{bare_in, meant_there}
 use Rattle.yschema_resolve.proofs.unfit_keys.is_empty_at.Goals as goal
 

@@ -18,7 +18,7 @@ loop-home-preserved c =
     let m = c.index-modules-home.result in (
       next_module (language_view c.args.language.now) ms i m c.loop-home.table c.add_statement.new.table _
           (omega arith) c.index-modules-home.is (c.in_ok-add_statement.ensures.listed
-          ∙ ap (λ may. seen_rows c.loop-home.table ++ listed None i (length (slots_in c.loop-home.table))
+          ∙ ap (λ may. seen_rows c.loop-home.table ++ listed None may i (length (slots_in c.loop-home.table))
           (kept_in (language_view c.args.language.now) may false (node (view m.top).0 (view m.top).1 end))) c.may_restrict-may.ensures)
           c.loop-home.invariant.0,
       then_more (language_view c.args.language.now) (whole_rows c.loop-home.table) (whole_rows c.add_statement.new.table) _ (view m.top) (modules_view (drop i ms)) (modules_view (drop (i + 1) ms))

@@ -3,6 +3,7 @@ use Rattle.std.proofs.lemmas.List.{take_more, take_all}
 use Rattle.yschema_model.specs.Layout.{laid, place_of}
 use Rattle.yschema_model.specs.References.{FindsReferences}
 use Rattle.yschema_model.proofs.LayoutLemmas.{laid_push}
+use Rattle.yschema_model.proofs.ReferenceLemmas.{slots_before}
 use Rattle.yschema_model.proofs.references.References.of.Goals as goal
 
 pub loop-number-preserved : goal.loop-number-preserved
@@ -17,7 +18,7 @@ loop-number-preserved c =
     let step : laid 0 (take (i + 1) slots) ≡ laid 0 done ++ place_of id.0 slot ∷ [] =
     ap (laid 0) (take_more slots i slot (omega arith) ∙ ap (λ r. done ++ r ∷ []) (sym c.index-slots-number.is))
     ∙ (laid_push done slot ∙ ap (λ n. laid 0 done ++ place_of n slot ∷ []) here) in
-    subst (FindsReferences c.add_slot.new.self) (sym step) (c.in_ok-add_slot.ensures (laid 0 done) c.loop-number.invariant)
+    subst (FindsReferences c.add_slot.new.self) (sym step) (c.in_ok-add_slot.ensures (laid 0 done) (slots_before done id.0 here) c.loop-number.invariant)
 
 pub returns : goal.returns
 returns c =

@@ -3,7 +3,7 @@ use Rattle.yspec.specs.Forest.{Forest}
 use Rattle.yspec.specs.linking.Source.{Source}
 use Rattle.ylink_features.specs.VersionView.{AreVersionsOf}
 use Rattle.ylink_grammar.specs.LanguageView.{language_view}
-use Rattle.yschema_resolve.specs.ModulesView.{AreNamesOf}
+use Rattle.yschema_types.specs.ModulesView.{AreNamesOf}
 use Rattle.yschema_resolve.proofs.GuardLemmas.{all_guarded}
 use Rattle.yschema_resolve.proofs.resolved.Resolved.of.Goals as goal
 

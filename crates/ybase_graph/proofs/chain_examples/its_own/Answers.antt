@@ -1,7 +1,0 @@
-use Rattle.std.proofs.Common.{refl}
-use Rattle.ybase_graph.specs.Chains.{end_within, leads}
-use Rattle.ybase_graph.proofs.chain_examples.its_own.Goals as goal
-
-pub returns : goal.returns
-unfolding end_within leads
-returns c = record { ends = refl; circles = refl }

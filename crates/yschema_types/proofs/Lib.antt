@@ -1,0 +1,10 @@
+pub mod MarkLemmas
+pub mod EdgeLemmas
+pub mod MadeLemmas
+pub mod OrderLemmas
+pub mod MeaningLemmas
+pub mod CollectLemmas
+pub mod ModuleLemmas
+pub mod TypeLemmas
+pub mod KeptLemmas
+pub mod MakingLemmas

@@ -1,0 +1,7 @@
+use Rattle.std.proofs.Common.{ap, ◌∙◌}
+use Rattle.yschema_model.specs.Layout.{targets_view}
+use Rattle.yschema_model.proofs.TargetLemmas.{targets_pushed}
+use Rattle.yschema_types.proofs.making.add_each.Goals as goal
+
+pub returns : goal.returns
+returns c = ap targets_view c.in_ok-push.ensures.items ∙ targets_pushed c.args.targets.now.items _
