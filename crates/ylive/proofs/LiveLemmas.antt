@@ -147,10 +147,11 @@ opened_is s nodes t holds = ap (opened s) (document_told s nodes t holds)
 
 module _ (schema : rust.Schema) (before after : Nodes) (is_stale : Bool) (old : Parts) (t : Tree) (is : record { schema = schema; nodes = before; is_stale = is_stale } ≡ old)
     (holds : HoldsTold (schema_view.view schema) after t) where
+  pub reopened_is : view (record { schema = schema; nodes = after; is_stale = false }) ≡ opened (view old).schema t
+  reopened_is = opened_is (schema_view.view schema) after t holds ∙ ap (λ (p : Parts). opened (schema_view.view p.schema) t) is
+
   pub anew_is : t ≡ (view old).tree → view (record { schema = schema; nodes = after; is_stale = false }) ≡ made_anew (view old)
-  anew_is copy =
-      ap (opened (schema_view.view schema)) (document_told (schema_view.view schema) after t holds ∙ copy)
-      ∙ ap (λ (p : Parts). opened (schema_view.view p.schema) (view old).tree) is
+  anew_is copy = reopened_is ∙ ap (opened (view old).schema) copy
 
   pub live_anew : Fits (view old).schema t → IsLive (schema_view.view schema) after false
   live_anew fits = live_told (schema_view.view schema) after false t holds (subst (λ (p : Parts). Fits (view p).schema t) (sym is) fits)

@@ -202,6 +202,17 @@ impl Live {
         Ok(())
     }
 
+    /// Puts another document in place of what it stores, which is stale no more. Where memory runs out it stays as it was.
+    pub fn reopen(&mut self, tree: Tree) -> Result<(), AllocError>
+        requires { Fits (view self.old).schema (tree_view tree) }
+        ensures ok { OnOk result (view self.new ≡ opened (view self.old).schema (tree_view tree)) }
+        ensures err { OnErr result (view self.new ≡ view self.old) }
+    {
+        self.nodes = told_store(self.nodes.alloc(), &self.schema, tree)?;
+        self.is_stale = false;
+        Ok(())
+    }
+
     /// Where its nodes lie.
     pub(crate) fn alloc(&self) -> Global
         ensures { result ≡ store.alloc self.now.nodes }
