@@ -19,7 +19,7 @@ use Rattle.yschema_augment.specs.declared.search.Search.{Search}
 
 -- no statement
 abbrev pub nothing : Source
-nothing = record { keyword = leaf_word; statement = record { keyword = []; argument = None; line = 0 }; number = 0; home = 0 }
+nothing = record { keyword = leaf_word; statement = record { keyword = []; argument = None; line = 0 }; number = 0; home = 0; may_refer = false }
 
 -- that of the node of a number
 abbrev pub source_at : List (Slot ExpandedNode) → ℕ → Source
