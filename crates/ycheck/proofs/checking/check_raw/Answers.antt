@@ -7,8 +7,8 @@ use Rattle.ycheck.proofs.FoundLemmas.{adds_same, adds_none}
 use Rattle.ycheck.proofs.MarkLemmas.{value_read}
 use Rattle.ycheck.proofs.checking.check_raw.Goals as goal
 
-pub returns-in-Ok : goal.returns-in-Ok
-returns-in-Ok c = adds_same _ _ _ _
+pub returns-else-lacks_instance : goal.returns-else-lacks_instance
+returns-else-lacks_instance c = adds_same _ _ _ _
     (value_read (times_of c.args.targets.now) (leaf_type_view c.args.leaf_type.now) (raw_of c.args.raw.now) _ _ c.in-Ok.ensures (sym c.if-lacks_instance.false ∙ c.lacks_instance.ensures))
     (adds_none _)
 
