@@ -59,7 +59,7 @@ loop-statement-preserved t c =
       smaller = omega (arith, sized, c.loop-statement.invariant.smaller);
       verdicts = next_verdict (one_judged kept modules named) (verdicts_of kept modules named) (none_judged kept modules named) (judged_step kept modules named) s below after before first (map verdict_view c.loop-statement.found.items) _ (verdict_view c.in_ok-judged.judged) _ (sym keyword ∙ is_type)
           (ap (map verdict_view) c.in_ok-push.ensures.items ∙ map_push verdict_view c.loop-statement.found.items c.in_ok-judged.judged)
-          (c.in_ok-judged.ensures ∙ ap₂ (λ l ms. verdict_of kept modules named (not l.may_refer) s below ms) c.label-2.ensures members) c.loop-statement.invariant.verdicts;
+          (c.in_ok-judged.ensures ∙ ap₂ (λ l ms. verdict_of kept modules named (not l.may_refer) s below ms) c.label-in-loop-statement.ensures members) c.loop-statement.invariant.verdicts;
     }
 
 pub returns : goal.returns

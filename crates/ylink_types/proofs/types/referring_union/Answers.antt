@@ -11,8 +11,8 @@ returns-then-are_too_many c =
     c.are_too_many.ensures ∙ ap (λ l. nat_lt spec.member_limit (sum_by spec.width_of (map member_view l))) c.deref.ensures.value in
     sym (ap (λ b. cond b spec.too_large (spec.means (spec.of_union members))) (sym counted ∙ c.if-are_too_many.true))
 
-pub returns-else-are_too_many : goal.returns-else-are_too_many
-returns-else-are_too_many c =
+pub returns : goal.returns
+returns c =
     let members = map member_view c.args.members.items in
     let counted : c.are_too_many.result ≡ nat_lt spec.member_limit (sum_by spec.width_of members) =
     c.are_too_many.ensures ∙ ap (λ l. nat_lt spec.member_limit (sum_by spec.width_of (map member_view l))) c.deref.ensures.value in
