@@ -97,7 +97,7 @@ loop-statement-preserved t c =
     ∙ (ap (λ b. members_below kept modules named b (row_by source_view c.children-below.result)) holds
     ∙ ap (λ n. verdicts_of kept modules named (row_by source_view n)) c.children-below.ensures) in
     let own_member : c.is_own_member-is_own.result ≡ (c.args.in_union && not s.may_refer) =
-    c.is_own_member-is_own.ensures ∙ ap (λ l. c.args.in_union && not l.may_refer) c.label-2.ensures in
+    c.is_own_member-is_own.ensures ∙ ap (λ l. c.args.in_union && not l.may_refer) c.label-in-loop-statement.ensures in
     let v : Verdict = verdict_of kept modules named (c.args.in_union && not s.may_refer) s below (verdicts_of kept modules named below) in
     let judged_so : verdict_view c.in_ok-verdict.verdict ≡ v =
     c.in_ok-verdict.ensures ∙ ap₂ (λ u ms. verdict_of kept modules named u s below ms) own_member members in
