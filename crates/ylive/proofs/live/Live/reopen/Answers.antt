@@ -12,7 +12,7 @@ invariant_of-self c =
     live_anew c.self.inside.schema c.self.inside.nodes c.in_ok-self-inside.field-0 c.self.inside.is_stale c.args.self.now (tree_view c.args.tree) c.self.view_is
     c.in_ok-self-inside.ensures c.requires
 
-pub returns-in_ok-self-inside-clause-ok : goal.returns-in_ok-self-inside-clause-ok
-returns-in_ok-self-inside-clause-ok c =
+pub returns-clause-ok : goal.returns-clause-ok
+returns-clause-ok c =
     reopened_is c.self.inside.schema c.self.inside.nodes c.in_ok-self-inside.field-0 c.self.inside.is_stale c.args.self.now (tree_view c.args.tree) c.self.view_is
     c.in_ok-self-inside.ensures
