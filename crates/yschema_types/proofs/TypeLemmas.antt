@@ -228,7 +228,7 @@ module _ (edges : List Edge) (flags : List Bool)
       → marked_by (source_on all) marks (map edge_view (drop i edges)) ≡ whole → marked_by (source_on all) more (map edge_view (drop (i + 1) edges)) ≡ whole
   next_circled i marks more whole low pushed so_far =
       ap (λ ms. marked_by (source_on all) ms (map edge_view (drop (i + 1) edges))) (pushed ∙ ap (marked marks) said)
-      ∙ (sym (ap (marked_by (source_on all) marks) (at_drop_more (map edge_view) edges i e low)) ∙ so_far)
+      ∙ (sym (ap (marked_by (source_on all) marks) (at_drop_more (map edge_view) edges i (record { source = 0; target = 0 }) low)) ∙ so_far)
     where
       e : Edge
       e = get_or edges i (record { source = 0; target = 0 })

@@ -8,11 +8,11 @@ use Rattle.yschema_types.specs.MadeTypes.{targets_to, types_held}
 use Rattle.yschema_types.specs.MadeView.{rows_view}
 use Rattle.yschema_types.proofs.making.add_leafref.Goals as goal
 
-pub returns-in-Some : goal.returns-in-Some
-returns-in-Some c =
+pub returns-in_ok-add_targets_if-in-Some : goal.returns-in_ok-add_targets_if-in-Some
+returns-in_ok-add_targets_if-in-Some c =
     let old = targets_view c.args.targets.now.items in
     let to = targets_to (types_held (rows_view c.args.made.now)) c.args.required in
-    c.in_ok-add_targets_if.ensures
+    c.in_ok-add_targets_if-in-Some.ensures
     ∙ (ap (λ o. old ++ option_map_or (λ type. targets_by c.in-Some.node.number c.args.required type.shape) o []) c.type_held-value_type.ensures
     ∙ ap (λ o. old ++ option_map_or to o []) (ap (option_map node_view) (sym c.in-Some.is)))
 

@@ -20,7 +20,7 @@ returns-in-Some c =
     let rows = c.slots.result.now in
     let types = types_held (rows_view c.args.made.now) in
     let found = c.in-Some.ensures.lookup in
-    let p = planned_view (0 + n) c.in-Some.row.label in
+    let p = planned_view (0 + n) c.in-Some.row.now.label in
     let there : slice_get (nodes_of plan) n ≡ Some p =
     ap (λ ps. slice_get ps n) (sym c.slots.ensures.nodes) ∙ (label_at planned_view 0 rows n
     ∙ ap (option_map (λ r. planned_view (0 + n) r.label)) (slice_get_read rows (length rows) n c.in-Some.row.now refl found.3.0 found.1)) in

@@ -17,7 +17,7 @@ loop-member-init c = λ p owner.
 pub loop-member-preserved : goal.loop-member-preserved
 loop-member-preserved c = λ p owner.
     one_type_more (view c.args.plan.now) (types_held (rows_view c.args.made.now)) p c.args.members.now c.loop-member.member-index c.member-item.result
-    (omega arith) c.member-item.is c.loop-member.types.items c.push.new.self.items c.in-Some.value_type _ c.in_ok-push.ensures.items
+    (omega arith) c.member-item.is c.loop-member.types.items c.push.new.self.items c.in-Some.value_type _ c.in_ok-push-in-Some.ensures.items
     (sym c.in-Some.is ∙ c.in_ok-value_type.ensures p owner) (c.loop-member.invariant p owner)
 
 pub returns-in-None : goal.returns-in-None

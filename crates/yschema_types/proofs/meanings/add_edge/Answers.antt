@@ -6,10 +6,10 @@ use Rattle.yschema_plan.specs.NodesView.{node_view}
 use Rattle.yschema_types.specs.ReferenceEdges.{edge_from}
 use Rattle.yschema_types.proofs.meanings.add_edge.Goals as goal
 
-pub returns-in-Some : goal.returns-in-Some
-returns-in-Some c =
+pub returns-in_ok-push-in-Some : goal.returns-in_ok-push-in-Some
+returns-in_ok-push-in-Some c =
     let old = map edge_view c.args.edges.now.items in
-    ap (map edge_view) c.in_ok-push.ensures.items
+    ap (map edge_view) c.in_ok-push-in-Some.ensures.items
     ∙ (map-append edge_view c.args.edges.now.items _
     ∙ ap (λ o. old ++ map (edge_from c.args.source) (option_to_list (option_map node_view o))) (sym c.in-Some.is))
 

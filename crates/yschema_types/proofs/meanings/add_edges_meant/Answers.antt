@@ -15,19 +15,19 @@ returns-in-Own c = λ p owner.
     let old = map edge_view c.args.edges.now.items in
     sym (append-nil old) ∙ ap (λ m. old ++ map (edge_from c.args.source) (all_targets (view c.args.plan.now) p m)) (ap meant_view (sym c.in-Own.is))
 
-pub returns-in-OfTarget : goal.returns-in-OfTarget
-returns-in-OfTarget c = λ p owner.
+pub returns-in_ok-add_edge-in-OfTarget : goal.returns-in_ok-add_edge-in-OfTarget
+returns-in_ok-add_edge-in-OfTarget c = λ p owner.
     let plan = view c.args.plan.now in
     let old = map edge_view c.args.edges.now.items in
-    c.in_ok-add_edge.ensures
+    c.in_ok-add_edge-in-OfTarget.ensures
     ∙ (ap (λ o. old ++ map (edge_from c.args.source) (option_to_list o)) (c.path_target-target.ensures p owner
     ∙ ap (λ steps. spec.path_target plan p c.in-OfTarget.home (names_view steps)) c.as_slice.ensures.value)
     ∙ ap (λ m. old ++ map (edge_from c.args.source) (all_targets plan p m)) (ap meant_view (sym c.in-OfTarget.is)))
 
-pub returns-in-OfUnion : goal.returns-in-OfUnion
-returns-in-OfUnion c = λ p owner.
+pub returns-in_ok-add_member_edges-in-OfUnion : goal.returns-in_ok-add_member_edges-in-OfUnion
+returns-in_ok-add_member_edges-in-OfUnion c = λ p owner.
     let plan = view c.args.plan.now in
     let old = map edge_view c.args.edges.now.items in
-    c.in_ok-add_member_edges.ensures p owner
+    c.in_ok-add_member_edges-in-OfUnion.ensures p owner
     ∙ (ap (λ members. old ++ map (edge_from c.args.source) (filter_map (spec.member_target plan p) (map member_view members))) c.as_slice-in-OfUnion.ensures.value
     ∙ ap (λ m. old ++ map (edge_from c.args.source) (all_targets plan p m)) (ap meant_view (sym c.in-OfUnion.is)))
