@@ -1,4 +1,4 @@
-use Rattle.std.proofs.Common.{cond, None, map, sym, ap, ap₂, ◌∙◌, arith}
+use Rattle.std.proofs.Common.{Bool, false, cond, List, None, map, sym, ap, ap₂, ◌∙◌, arith}
 use Rattle.std.specs.Prelude.{option_map, option_to_list, slice_get, unwrap_or}
 use Rattle.std.proofs.lemmas.List.{at_drop_all}
 use Rattle.ybase_graph.specs.Edges.{edge_view}
@@ -15,7 +15,7 @@ loop-number-preserved c =
     next_circled c.args.edges.now c.in_ok-flags.flags.items c.in_ok-flags.ensures n marks c.mark_any.new.marks.items _ c.loop-number-test.true
     (c.mark_any.ensures ∙ ap (λ o. marked marks (option_to_list o)) (c.source_told-source.ensures
     ∙ ap₂ (λ b o. cond b (option_map (λ (e : Edge). e.source) o) None)
-    (c.is_told-is_on_circle.ensures ∙ ap (λ fs. unwrap_or (slice_get fs n) _) c.as_slice.ensures.value) c.edge_at.ensures))
+    (c.is_told-is_on_circle.ensures ∙ ap (λ (fs : List Bool). unwrap_or (slice_get fs n) false) c.as_slice.ensures.value) c.edge_at.ensures))
     c.loop-number.invariant
 
 pub returns : goal.returns
