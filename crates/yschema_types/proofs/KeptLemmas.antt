@@ -15,7 +15,7 @@ use Rattle.yspec.specs.linking.Keyword as word
 use Rattle.yspec.specs.linking.Source.{Source, is_source_of, argument_in, first_with, found_with, stated_with}
 use Rattle.yspec.specs.linking.Scopes.{Placed, placed, statements_of, statement_at}
 use Rattle.yspec.specs.linking.Identities.{module_name, assigned_identity, identities_of, is_identity, derives, bases_in}
-use Rattle.yspec.specs.linking.TypeStatements.{BuiltIn, integer, decimal64, string, boolean, empty, enumeration, bits, union, leafref, identityref, binary, Meant, own, Verdict, means, wrong, built_in_meant, are_in_place, of_names, namings, value_stated, position_stated, meaning_of, namings_where, is_restricting, enum_text, bit_text, restricted_to, derived_by}
+use Rattle.yspec.specs.linking.TypeStatements.{BuiltIn, integer, decimal64, string, boolean, empty, enumeration, bits, union, leafref, identityref, binary, own, Verdict, means, wrong, built_in_meant, are_in_place, of_names, namings, value_stated, position_stated, meaning_of, namings_where, is_restricting, enum_text, bit_text, restricted_to, derived_by}
 use Rattle.yspec.specs.linking.DerivedTypes.{Known, unknown, named, verdict_by, typedef_row, is_own_member}
 use Rattle.yspec.specs.linking.Planned.{Planned, Plan}
 use Rattle.yspec_wide.specs.Features.{stands}
