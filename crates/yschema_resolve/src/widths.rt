@@ -15,7 +15,7 @@ use yschema_types::Types;
 /// Whether a leaf or leaf-list has such a union for its type.
 fn is_wide_leaf(types: &Types<'_, '_>, node: PlanNode<'_, '_>) -> bool
     ensures { (language : languages.Language) (plan : spec.Plan) → AreTyped types.now language plan
-        → slice_get (spec.nodes_of plan) node.number ≡ Some (node_view node.entry)
+        → slice_get (spec.nodes_of plan) node.entry.number ≡ Some (node_view node.entry)
         → let p = node_view node.entry in result ≡ (spec.is_leaf_or_leaf_list p
         && wide.is_wide_over (wide.standing_names language plan.modules) plan p) }
 {
@@ -33,7 +33,7 @@ pub(crate) fn is_too_wide(
     node: PlanNode<'_, '_>,
 ) -> bool
     ensures { (plan : spec.Plan) → AreTyped types.now (language_view language.now) plan
-        → slice_get (spec.nodes_of plan) node.number ≡ Some (node_view node.entry)
+        → slice_get (spec.nodes_of plan) node.entry.number ≡ Some (node_view node.entry)
         → result ≡ is_wide_in (language_view language.now) plan (node_view node.entry) }
 {
     match language {
