@@ -71,6 +71,10 @@ not_begun_text = codes "{\"refused\":\"end\",\"message\":\"No edits together hav
 abbrev pub not_understood_text : Text
 not_understood_text = codes "{\"refused\":\"E1\",\"message\":\"The line is no request.\"}"
 
+-- of a request that isn't served
+abbrev pub unserved_text : Text
+unserved_text = codes "{\"refused\":\"E1\",\"message\":\"The request isn't served.\"}"
+
 -- memory ran out, and all is as it was
 abbrev pub short_text : Text
 short_text = codes "{\"refused\":\"E12\",\"message\":\"Memory ran out.\"}"

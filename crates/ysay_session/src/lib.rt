@@ -7,5 +7,5 @@ mod refusals;
 pub use answers::{changed_text, document_text, listed_text};
 pub use refusals::{
     begun_text, done_text, edit_refused_text, not_begun_text, not_understood_text, nothing_text,
-    short_text,
+    short_text, unserved_text,
 };

@@ -161,6 +161,16 @@ pub fn not_understood_text(alloc: Global) -> Result<String, AllocError>
     )
 }
 
+/// That a request isn't served.
+pub fn unserved_text(alloc: Global) -> Result<String, AllocError>
+    ensures { IfOk result (λ text. string_bytes text ≡ spec.unserved_text) }
+{
+    String::from_str(
+        alloc,
+        "{\"refused\":\"E1\",\"message\":\"The request isn't served.\"}",
+    )
+}
+
 /// That memory ran out, and all is as it was.
 pub fn short_text(alloc: Global) -> Result<String, AllocError>
     ensures { IfOk result (λ text. string_bytes text ≡ spec.short_text) }

@@ -1,0 +1,7 @@
+mod LineLemmas
+mod ListLemmas
+mod PastLemmas
+mod ReplyLemmas
+mod RequestLemmas
+mod RewindLemmas
+mod TextLemmas

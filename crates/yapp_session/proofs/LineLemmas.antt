@@ -1,0 +1,48 @@
+-- What lines are answered, by what their requests are.
+use Rattle.std.proofs.Common.{◌≡◌, ℕ, Bool, true, false, Option, Some, None, refl, sym, subst, inl}
+use Rattle.std.specs.Prelude.{if◌then◌else◌}
+use Rattle.yspec.specs.text.Text.{Text}
+use Rattle.yspec.specs.edit.Live.{Live}
+use Rattle.yspec_session.specs.Session as spec
+use Rattle.yspec_session.specs.Session.{Session}
+use Rattle.yspec_session.specs.Remembering.{Kept}
+use Rattle.yspec_session.specs.Requests.{request_of}
+use Rattle.ysay_session.specs.AnswerText.{unserved_text}
+use Rattle.ylive.specs.View.{view}
+use Rattle.yapp_session.specs.Kept.{Parts}
+use Rattle.yapp_session.specs.View.{past_view}
+use Rattle.yapp_session.specs.Asked.{AsksAs, is_unserved, request_view}
+use Rattle.yapp_session.specs.Answered.{AnswersLine, Holds, Says, Told, asked_answered, line_answered}
+use Rattle.yapp_session.specs.declared.request.Request.{Request}
+use Rattle.yapp_session.specs.declared.request.Request.TheVariants as rust
+
+module _ (limit : ℕ) (before : Live) (k : Kept) (t : Text) (after : Live) (l : Kept) where
+  abbrev IsSaid : Session → Text × Session → Type 0
+  IsSaid s a = (t ≡ a.0) × Holds after l a.1
+
+  served : (asked : Option spec.Request) (r : spec.Request) → is_unserved (Some r) ≡ false → asked ≡ Some r → Told limit before k (Some r) t after l
+      → Says limit before k asked t after l
+  served asked r is_served is told s h = subst (λ (o : Option spec.Request). IsSaid s (line_answered before.schema limit s o)) (sym is)
+      (subst (λ (b : Bool). IsSaid s (if b then (unserved_text, s) else asked_answered before.schema limit s (Some r))) (sym is_served) (told s h))
+
+  unserved : (asked : Option spec.Request) → is_unserved asked ≡ true → Told limit before k None t after l → Says limit before k asked t after l
+  unserved asked is (text, live, past) s h =
+      subst (λ (b : Bool). IsSaid s (if b then (unserved_text, s) else asked_answered before.schema limit s asked)) (sym is)
+      (text, subst (λ (after : Live). Holds after l s) (sym live) (subst (λ (l : Kept). Holds before l s) (sym past) h))
+
+  -- of a request that a line asks for
+  pub said : (request : Request) (asked : Option spec.Request) → AsksAs (request_view request) asked → Told limit before k (request_view request) t after l
+      → Says limit before k asked t after l
+  said (rust.Change edit) asked is told = served asked _ refl is told
+  said (rust.Faults behind count) asked is told = served asked _ refl is told
+  said rust.Undo asked is told = served asked _ refl is told
+  said rust.Document asked is told = served asked _ refl is told
+  said rust.Begin asked is told = served asked _ refl is told
+  said rust.Commit asked is told = served asked _ refl is told
+  said rust.Back asked is told = served asked _ refl is told
+  said rust.Unserved asked is told = unserved asked is told
+
+pub line_said : (inside self after : Parts) (line t : Text) → inside ≡ self → after.limit ≡ inside.limit → (view after.live).schema ≡ (view inside.live).schema
+    → Says inside.limit (view inside.live) (past_view inside.past) (request_of line) t (view after.live) (past_view after.past) → AnswersLine self line t after
+line_said inside self after line t is limit schema says = subst (λ (self : Parts). AnswersLine self line t after) is
+    (record { limit = limit; schema = schema; says = λ s h. inl (says s h) })

@@ -1,0 +1,97 @@
+-- A session that is kept by a live document and the edits since another, and what a line is answered.
+use Rattle.std.specs.Prelude.{◌≡◌, ◌⊎◌, ℕ, false, Option, Some, None, length, take, if◌then◌else◌}
+use Rattle.yspec.specs.text.Text.{Text}
+use Rattle.yspec.specs.schema.Schema.{Schema}
+use Rattle.yspec.specs.document.Document.{Tree}
+use Rattle.yspec.specs.edit.Live.{Live, faults_in, opened}
+use Rattle.yspec_session.specs.Session.{Session, Request, Answer, Why, answered, changed, listed, stored, whole, saved, done, refused, not_understood, edit_refused, nothing_remembered, has_begun, not_begun, page}
+use Rattle.yspec_session.specs.Remembering.{Kept, Remembers, behind_groups}
+use Rattle.yspec_session.specs.Requests.{request_of}
+use Rattle.ysay_session.specs.AnswerText as text
+use Rattle.ylive.specs.View.{view}
+use Rattle.yapp_session.specs.Asked.{is_unserved}
+use Rattle.yapp_session.specs.View.{past_view}
+use Rattle.yapp_session.specs.Kept.{Parts}
+
+-- the document is there and the past leads to it
+pub record Holds (live : Live) (k : Kept) (s : Session) : Type 0 where
+  pub fresh : live.is_stale ≡ false
+  pub tree : live.tree ≡ s.tree
+  pub remembers : Remembers live.schema k s
+
+-- ---- texts
+
+abbrev pub why_text : Why → Text
+why_text (edit_refused e) = text.edit_refused_text e
+why_text nothing_remembered = text.nothing_text
+why_text has_begun = text.begun_text
+why_text not_begun = text.not_begun_text
+
+-- of an answer, by the document behind it
+abbrev pub answer_text : Schema → Tree → Answer → Text
+answer_text schema tree (changed before after difference) = text.changed_text before after
+answer_text schema tree (listed faults count) = text.listed_text schema tree faults count
+answer_text schema tree (stored branch) = text.unserved_text
+answer_text schema tree (whole t) = text.document_text schema t
+answer_text schema tree (saved file t) = text.unserved_text
+answer_text schema tree done = text.done_text
+answer_text schema tree (refused why) = why_text why
+answer_text schema tree not_understood = text.not_understood_text
+
+-- a page of the faults of a live document
+abbrev pub page_text : Live → ℕ → Option ℕ → Text
+page_text live behind count =
+    text.listed_text live.schema live.tree (page behind count (faults_in live)) (length (faults_in live))
+
+-- ---- places of the past
+
+-- the document behind the first groups of edits
+abbrev pub place_at : Schema → Kept → ℕ → Live
+place_at schema k n = opened schema (behind_groups schema k.base (take n k.groups))
+
+-- ---- answers
+
+-- a request is answered, and the session behind it is there
+abbrev pub Answers : Schema → ℕ → Session → Request → Text → Live → Kept → Type 0
+Answers schema limit s r t live k = let a = answered schema limit s r in (t ≡ answer_text schema a.1.tree a.0) × Holds live k a.1
+
+-- in any session that is there
+abbrev pub Replies : ℕ → Live → Kept → Request → Text → Live → Kept → Type 0
+Replies limit before k r t after l = (s : Session) → Holds before k s → Answers before.schema limit s r t after l
+
+-- the schema stays, and the document from which the past is counted
+pub record Stays (before : Live) (k : Kept) (after : Live) (l : Kept) : Type 0 where
+  pub schema : after.schema ≡ before.schema
+  pub base : l.base ≡ k.base
+
+-- a request is answered so; one that isn't served leaves all as it was
+abbrev pub Told : ℕ → Live → Kept → Option Request → Text → Live → Kept → Type 0
+Told limit before k None t after l = (t ≡ text.unserved_text) × (after ≡ before) × (l ≡ k)
+Told limit before k (Some r) t after l = Replies limit before k r t after l
+
+-- ---- lines
+
+abbrev pub asked_answered : Schema → ℕ → Session → Option Request → Text × Session
+asked_answered schema limit s None = (text.not_understood_text, s)
+asked_answered schema limit s (Some r) = let a = answered schema limit s r in (answer_text schema a.1.tree a.0, a.1)
+
+-- what a line is answered that asks so, and the session behind it
+abbrev pub line_answered : Schema → ℕ → Session → Option Request → Text × Session
+line_answered schema limit s asked = if is_unserved asked then (text.unserved_text, s) else asked_answered schema limit s asked
+
+-- where a session is there, a line is answered so, and the session behind it is there
+abbrev pub Says : ℕ → Live → Kept → Option Request → Text → Live → Kept → Type 0
+Says limit before k asked t after l = (s : Session) → Holds before k s
+    → (t ≡ (line_answered before.schema limit s asked).0) × Holds after l (line_answered before.schema limit s asked).1
+
+-- a line is answered, or it is said that memory ran out, and the session is as it was
+abbrev pub SaysOrShort : ℕ → Live → Kept → Option Request → Text → Live → Kept → Type 0
+SaysOrShort limit before k asked t after l = (s : Session) → Holds before k s
+    → ((t ≡ (line_answered before.schema limit s asked).0) × Holds after l (line_answered before.schema limit s asked).1)
+    ⊎ ((t ≡ text.short_text) × Holds after l s)
+
+-- a line of a session is answered so
+pub record AnswersLine (before : Parts) (line : Text) (t : Text) (after : Parts) : Type 0 where
+  pub limit : after.limit ≡ before.limit
+  pub schema : (view after.live).schema ≡ (view before.live).schema
+  pub says : SaysOrShort before.limit (view before.live) (past_view before.past) (request_of line) t (view after.live) (past_view after.past)

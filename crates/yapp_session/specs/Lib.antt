@@ -1,0 +1,4 @@
+pub mod View
+pub mod Kept
+pub mod Asked
+pub mod Answered

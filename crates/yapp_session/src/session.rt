@@ -1,0 +1,150 @@
+//! A session over a live document.
+
+ghost use Rattle.std.specs.Prelude.{◌≡◌, IfOk, OnErr, length, string_bytes};
+ghost use Rattle.yspec.specs.document.Fitting.{Fits};
+ghost use Rattle.ylive.specs.View.{view};
+ghost use Rattle.yapp_session.specs.View.{past_view};
+ghost use Rattle.yspec_session.specs.Requests.{request_of};
+ghost use Rattle.ysay_session.specs.AnswerText.{short_text};
+ghost use Rattle.yapp_session.specs.Asked.{request_view};
+ghost use Rattle.yapp_session.specs.Answered.{Says, Stays, Told, place_at};
+
+use crate::past::Past;
+use crate::replying::{back, begin, change, commit, document, page, undo};
+use crate::request::{Request, request_of};
+use crate::rewinding::rewind;
+use std::alloc::{AllocError, Global};
+use std::marker::Model;
+use ybase_talk::Answerer;
+use ylive::Live;
+use ysay_session::{not_understood_text, short_text, unserved_text};
+
+/// A live document, and the edits since another that lead to it.
+#[derive(Drop)]
+pub struct Session {
+    alloc: Global,
+    live: Live,
+    past: Past,
+    limit: usize,
+}
+
+impl Model for Session {
+    ghost use Rattle.std.specs.Coded.{codes};
+    ghost use Rattle.ylive.specs.contracts.live.Live as lives;
+    ghost use Rattle.yapp_session.specs.contracts.past.Past as pasts;
+    ghost use Rattle.yapp_session.specs.Kept.{IsKept, Parts};
+
+    ghost Value = { Parts };
+
+    ghost coded = { Prim.hlevel (codes, lives.the_row.coded, pasts.the_row.coded) };
+
+    ghost view = { λ a. record { live = a.live; past = a.past; limit = a.limit } };
+
+    ghost invariant = { λ a. IsKept a.live a.past };
+}
+
+impl Session {
+    ghost use Rattle.std.specs.Prelude.{◌≡◌, IfErr, IfOk, false};
+    ghost use Rattle.yspec_session.specs.Session.{opened};
+    ghost use Rattle.ylive.specs.View.{view};
+    ghost use Rattle.yapp_session.specs.View.{past_view};
+    ghost use Rattle.yapp_session.specs.Answered.{Holds};
+
+    /// A session over a live document, in which so many edits can be taken back. Where memory runs out it is given back.
+    pub fn open(alloc: Global, live: Live, limit: usize) -> Result<Session, Live>
+        ensures opened { IfOk result (λ session. (view live).is_stale ≡ false
+            → Holds (view session.live) (past_view session.past) (opened (view live).tree)) }
+        ensures schema { IfOk result (λ session. (view session.live).schema ≡ (view live).schema) }
+        ensures limit { IfOk result (λ session. session.limit ≡ limit) }
+        ensures err { IfErr result (λ given. given ≡ live) }
+    {
+        match live.tree() {
+            Ok(base) => Ok(Session {
+                alloc,
+                live,
+                past: Past::of(alloc, base),
+                limit,
+            }),
+            Err(_) => Err(live),
+        }
+    }
+
+    /// The live document.
+    pub fn live(&self) -> &Live
+        ensures { result.now ≡ self.now.live }
+    {
+        &self.live
+    }
+}
+
+impl Answerer for Session {
+    ghost use Rattle.yapp_session.specs.Answered.{AnswersLine};
+
+    ghost answers = { AnswersLine };
+
+    fn answer(&mut self, line: &[u8]) -> Result<String, AllocError> {
+        let alloc = self.alloc;
+        match answer_line(alloc, &mut self.live, &mut self.past, self.limit, line) {
+            Ok(text) => Ok(text),
+            Err(_) => mend(alloc, &mut self.live, &self.past),
+        }
+    }
+}
+
+/// What a line is answered.
+fn answer_line(
+    alloc: Global,
+    live: &mut Live,
+    past: &mut Past,
+    limit: usize,
+    line: &[u8],
+) -> Result<String, AllocError>
+    requires { Fits (view live.old).schema (past_view past.old).base }
+    ensures answer { IfOk result (λ text. Says limit (view live.old) (past_view past.old)
+        (request_of line.now) (string_bytes text) (view live.new) (past_view past.new)) }
+    ensures stays { Stays (view live.old) (past_view past.old) (view live.new) (past_view past.new) }
+    ensures memory { OnErr result (past_view past.new ≡ past_view past.old) }
+{
+    match request_of(alloc, line)? {
+        Some(request) => reply(alloc, live, past, limit, request),
+        None => not_understood_text(alloc),
+    }
+}
+
+/// Puts a live document to where its past leads, and says that memory ran out.
+fn mend(alloc: Global, live: &mut Live, past: &Past) -> Result<String, AllocError>
+    requires { Fits (view live.old).schema (past_view past.now).base }
+    ensures text { IfOk result (λ text. string_bytes text ≡ short_text) }
+    ensures live { IfOk result (λ text. view live.new
+        ≡ place_at (view live.old).schema (past_view past.now) (length (past_view past.now).groups)) }
+    ensures schema { (view live.new).schema ≡ (view live.old).schema }
+{
+    rewind(live, past, past.groups().len())?;
+    short_text(alloc)
+}
+
+/// What a request is answered.
+fn reply(
+    alloc: Global,
+    live: &mut Live,
+    past: &mut Past,
+    limit: usize,
+    request: Request,
+) -> Result<String, AllocError>
+    requires { Fits (view live.old).schema (past_view past.old).base }
+    ensures answer { IfOk result (λ text. Told limit (view live.old) (past_view past.old)
+        (request_view request) (string_bytes text) (view live.new) (past_view past.new)) }
+    ensures stays { Stays (view live.old) (past_view past.old) (view live.new) (past_view past.new) }
+    ensures memory { OnErr result (past_view past.new ≡ past_view past.old) }
+{
+    match request {
+        Request::Change(edit) => change(alloc, live, past, limit, edit),
+        Request::Faults { behind, count } => page(alloc, live, behind, count),
+        Request::Undo => undo(alloc, live, past, limit),
+        Request::Document => document(alloc, live),
+        Request::Begin => begin(alloc, live, past, limit),
+        Request::Commit => commit(alloc, live, past, limit),
+        Request::Back => back(alloc, live, past, limit),
+        Request::Unserved => unserved_text(alloc),
+    }
+}
