@@ -8,7 +8,8 @@ mod rows;
 
 pub use applying::apply;
 pub use branch::part;
-pub use rows::left_of;
+pub use locating::{Located, Spot, instance_index, instance_meant, locate, row_at};
+pub use rows::{instance_at, left_of};
 pub use yinst_path::{
     Bound, BoundStep, Edit, EditCode, EditFault, Key, NamedStep, Path, Predicate,
 };

@@ -28,21 +28,21 @@ use ytype::{BadValue, Raw};
 
 /// A step down, to the one instance of a schema node or to that at a position, from 1.
 #[derive(Clone, Copy, Debug)]
-pub(crate) struct Spot {
+pub struct Spot {
     pub id: SchemaId,
     pub position: Option<usize>,
 }
 
 /// The stored nodes above the last step's, the row in which that stands or would stand, and the last step.
 #[derive(Debug, Drop)]
-pub(crate) struct Located<'t, 'e> {
+pub struct Located<'t, 'e> {
     pub above: Vec<Spot>,
     pub row: &'t [Stored],
     pub last: BoundStep<'e>,
 }
 
 /// The index of a spot among the instances of its schema node, from 0.
-pub(crate) fn instance_index(spot: Spot) -> usize
+pub fn instance_index(spot: Spot) -> usize
     ensures { result ≡ instance_index (spot_view spot) }
 {
     match spot.position {
@@ -52,7 +52,7 @@ pub(crate) fn instance_index(spot: Spot) -> usize
 }
 
 /// Where bound steps lead in a document: E4 to E6 of what stands above.
-pub(crate) fn locate<'t, 'e>(
+pub fn locate<'t, 'e>(
     alloc: Global,
     schema: &Schema,
     row: &'t [Stored],
@@ -102,7 +102,7 @@ fn locate_on<'t, 'e>(
 }
 
 /// The row below the instance of a schema node that has an index among those of that node, from 0.
-fn row_at(row: &[Stored], id: SchemaId, place: usize) -> &[Stored]
+pub fn row_at(row: &[Stored], id: SchemaId, place: usize) -> &[Stored]
     ensures { row_view result.now ≡ spec.row_at id.0 place (row_view row.entry.now) }
 {
     let mut left = place;
@@ -118,7 +118,7 @@ fn row_at(row: &[Stored], id: SchemaId, place: usize) -> &[Stored]
 }
 
 /// The instance that a step means: E5, E6, or the given refusal where it isn't stored.
-pub(crate) fn instance_meant(
+pub fn instance_meant(
     alloc: Global,
     schema: &Schema,
     missing: EditCode,

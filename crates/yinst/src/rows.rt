@@ -194,7 +194,7 @@ fn with_moved(
 }
 
 /// The node of a row that a spot means.
-fn instance_at(row: &[Stored], spot: Spot) -> Option<&Stored>
+pub fn instance_at(row: &[Stored], spot: Spot) -> Option<&Stored>
     ensures { option_map (λ stored. branch_view stored.now) result
         ≡ spec.instance_branch spot.id.0 (edits.instance_index (spot_view spot))
         (row_view row.entry.now) }
