@@ -43,9 +43,9 @@ returns-in-None-clause-ok c =
     let n = c.args.groups in
     let t = tree_view c.base.result.now in
     let gs = groups_view c.first_items-led.result.now in
-    let now = view c.run_from-2.new.live in
+    let now = view c.run_from-in-None.new.live in
     if_done (now ≡ opened s (behind_groups s t gs)) (IsPlaced s k n now)
     (placed s k n (t, gs) now
     (from_base k n t gs (sym (ap (option_map (λ later. later_view later.now)) c.in-None.is) ∙ c.later_until.ensures) c.base.ensures
     (first_groups n c.groups.result.now c.first_items-led.result.now c.first_items-led.ensures ∙ ap (take n) c.groups.ensures)))
-    c.run_from-2.result c.run_from-2.ensures.ok
+    c.run_from-in-None.result c.run_from-in-None.ensures.ok
