@@ -18,6 +18,10 @@ pub ends : {X E : Type 0} → (a b : Side) (bytes : List ℕ) (status result : �
 ends a b bytes status result (Ok x) w e = inl (w, e)
 ends a b bytes status result (Err x) w e = inr (w, e)
 
+pub ends_same : (a b : Side) (xs ys : List ℕ) (status other result : ℕ) → xs ≡ ys → status ≡ other → Ends a b xs status result → Ends a b ys other result
+ends_same a b xs ys status other result text statuses is =
+    subst (λ (n : ℕ). Ends a b ys n result) statuses (subst (λ (zs : List ℕ). Ends a b zs status result) text is)
+
 -- one that is written behind another
 pub ends_behind : (a b c : Side) (said bytes : List ℕ) (status result : ℕ) → Wrote a b said → Ends b c bytes status result
     → Ends a c (said ++ bytes) status result

@@ -83,7 +83,7 @@ pub fn hold<C: Caller, E: Sink>(
     caller: &mut C,
     errors: &mut E,
 ) -> u8
-    ensures { HoldsOn watched.entry [] with_reasons (C.events caller.old) (C.events caller.new)
+    ensures { HoldsOn watched [] with_reasons (C.events caller.old) (C.events caller.new)
         (side E.taken E.failures errors.old) (side E.taken E.failures errors.new) result }
 {
     let ended = converse(caller, &mut watched);

@@ -1,5 +1,5 @@
 -- How a session ends: what is said of it on the error side, and the exit status.
-use Rattle.std.specs.Prelude.{ℕ, zero, suc, ◌&&◌, Bool, true, false, not, List, [], codes, Option, Some, None, if◌then◌else◌}
+use Rattle.std.specs.Prelude.{ℕ, zero, suc, ◌==◌, ◌&&◌, Bool, true, false, not, List, [], codes, Option, Some, None, if◌then◌else◌}
 use Rattle.std.specs.List.{starts_with}
 use Rattle.yspec.specs.text.Text.{Text}
 
@@ -29,7 +29,7 @@ closing_text with_reasons endless = codes "too many lines\n"
 
 -- whether an answer is a refusal
 abbrev pub is_refusal : Text → Bool
-is_refusal answer = starts_with answer (codes "{\"refused\":")
+is_refusal answer = starts_with ◌==◌ answer (codes "{\"refused\":")
 
 -- whether it is known of a document that it has no fault
 abbrev pub is_faultless : Option ℕ → Bool
