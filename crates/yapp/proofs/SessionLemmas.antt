@@ -11,13 +11,13 @@ use Rattle.yspec_run.specs.Unjudged.{is_any, note_of}
 use Rattle.yspec_opening.specs.Opening.{Asked, Opening, files_opened, opened_from, opened_with, report, session, with_conditions}
 use Rattle.ybase_output.specs.Writing.{Side}
 use Rattle.ylive.specs.View.{view}
-use Rattle.yapp_words.specs.Running.{Brings, End, memory_told, without_memory}
+use Rattle.yapp_words.specs.Running.{Brings, End, memory_told, with_status, without_memory}
 use Rattle.yapp_report.specs.Failing.{FailsWith, LeadsTo, besides_in, outcome_of, unsaid}
 use Rattle.yapp_report.specs.declared.failure.Failure.{Failure}
 use Rattle.yapp_report.specs.declared.failure.Failure.TheVariants as failures
-use Rattle.yapp_talk.specs.Talked.{Events}
+use Rattle.yapp_talk.specs.Talked.{Events, IsTalk}
 use Rattle.yapp.specs.Files.{FileAnswers, Store, WasCut, WereRead}
-use Rattle.yapp.specs.Sessions.{ComesToOpen, Does, IsSession}
+use Rattle.yapp.specs.Sessions.{AreOpened, ComesToOpen, Does, IsSession}
 use Rattle.yapp.specs.Telling.{Tells}
 use Rattle.yapp.specs.declared.opening.Opened.{Opened}
 use Rattle.yapp.proofs.ContentsLemmas.{answers_few, none_unread, with_all_read}
@@ -35,7 +35,7 @@ wide_said language wide names contents next go r is leads = subst (λ (l : Langu
 
 -- ---- what a document is opened to
 
-abbrev goes_on : (Schema → Tree → Text → Outcome) → Opened → Outcome
+abbrev pub goes_on : (Schema → Tree → Text → Outcome) → Opened → Outcome
 goes_on next o = next (view o.live).schema (view o.live).tree (string_bytes o.note)
 
 pub opened_leads : (s : Schema) (t : Tree) (whole middle : Outcome) (next : Schema → Tree → Text → Outcome) (r : Result Opened Failure) → whole ≡ middle
@@ -108,6 +108,21 @@ session_refused before after o with_reasons events output output_after errors er
     ap (λ (g : Failure). printed_with (besides_in f) with_reasons (outcome_of g)) cut.1 ∙ without_either (besides_in f) with_reasons in
     inr (inl (cut.0, refl, subst (λ p. Brings output output_after errors errors_after p end) same brings))
 session_refused before after o with_reasons events output output_after errors errors_after f end comes (inr none) = absurd cc
+
+-- one is opened, and they talk
+pub session_held : (before after : Store) (o : Opening) (with_reasons : Bool) (events events_after : Events) (output errors errors_after : Side) (s : Schema) (t : Tree)
+    (note told : Text) (status : ℕ) → AreOpened before after o s t note → told ≡ note → IsTalk s t told with_reasons events events_after errors errors_after status
+    → IsSession before after o with_reasons events events_after output output errors errors_after (with_status status)
+session_held before after o with_reasons events events_after output errors errors_after s t note told status are said talk = inr (inr (
+  s,
+  t,
+  note,
+  status,
+  are,
+  subst (λ (n : Text). IsTalk s t n with_reasons events events_after errors errors_after status) said talk,
+  refl,
+  refl,
+))
 
 -- what comes of other words, which are the same
 pub does_same : (before after : Store) (asked other : Asked) (given wanted : Bool) (events events_after : Events) (output output_after errors errors_after : Side) (end : End)

@@ -92,11 +92,12 @@ pub validate_same : (k l : Language) (d e : spec.Options) (a b : Text) (ms ns : 
 validate_same k l d e a b ms ns languages options documents modules =
     ap₂ (λ j f. validate j f a ms) languages options ∙ ap₂ (validate l e) documents modules
 
-pub opening_same : (k l : Language) (d e : Bool) (a b : Text) (ms ns : List Text) → k ≡ l → d ≡ e → a ≡ b → ms ≡ ns
-    → record { language = k; is_strict = d; document = a; modules = ms } ≡ record { language = l; is_strict = e; document = b; modules = ns }
-opening_same k l d e a b ms ns languages strict documents modules =
-    let made : Language → Bool → Text → List Text → Opening = λ k d a ms. record { language = k; is_strict = d; document = a; modules = ms } in
-    ap₂ (λ j f. made j f a ms) languages strict ∙ ap₂ (made l e) documents modules
+abbrev pub over : Language → Bool → Text → List Text → Opening
+over language is_strict document modules =
+    record { language = language; is_strict = is_strict; document = document; modules = modules }
+
+pub opening_same : (k l : Language) (d e : Bool) (a b : Text) (ms ns : List Text) → k ≡ l → d ≡ e → a ≡ b → ms ≡ ns → over k d a ms ≡ over l e b ns
+opening_same k l d e a b ms ns languages strict documents modules = ap₂ (λ j f. over j f a ms) languages strict ∙ ap₂ (over l e) documents modules
 
 pub drawing_same : (a b : Bool) (k l : Language) (n m : Text) (xs ys : List Text) → a ≡ b → k ≡ l → n ≡ m → xs ≡ ys → drawing_by a k n xs ≡ drawing_by b l m ys
 drawing_same a b k l n m xs ys all languages names modules = ap₂ (λ c j. drawing_by c j n xs) all languages ∙ ap₂ (drawing_by b l) names modules

@@ -14,4 +14,4 @@ returns-then-is_any c = λ next.
 pub returns-else-is_any : goal.returns-else-is_any
 returns-else-is_any c = λ next.
     let said = with_modules (language_view c.args.language.now) (map (λ n. n.now) c.args.names.now) (map (λ t. t.items) c.args.contents.now) (λ modules files. next (note_of (unjudged_view c.args.unjudged) modules)) in
-    ap (λ (b : Bool). if b then said else next []) (sym c.is_any.ensures ∙ c.if-is_any.false) ∙ ap next (sym c.new.ensures.value)
+    ap (λ (b : Bool). if b then said else next []) (sym c.is_any.ensures ∙ c.if-is_any.false) ∙ ap next (sym c.new.ensures.bytes)
