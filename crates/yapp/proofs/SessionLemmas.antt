@@ -35,6 +35,10 @@ wide_said language wide names contents next go r is leads = subst (λ (l : Langu
 
 -- ---- what a document is opened to
 
+-- behind the document comes what is said of conditions
+abbrev pub then_said : Language → List Text → List (List ℕ) → (Schema → Tree → Text → Outcome) → Schema → Tree → List (List ℕ) → Outcome
+then_said language names contents next schema tree files = with_conditions language names contents (next schema tree)
+
 abbrev pub goes_on : (Schema → Tree → Text → Outcome) → Opened → Outcome
 goes_on next o = next (view o.live).schema (view o.live).tree (string_bytes o.note)
 
