@@ -1,15 +1,17 @@
 -- A talk from its beginning to its end.
-use Rattle.std.proofs.Common.{◌≡◌, inl, inr, ℕ, Bool, List, [], ◌++◌, Option, ap, sym, subst}
-use Rattle.std.specs.Prelude.{Result, Ok, Err, is_ok, if◌then◌else◌}
-use Rattle.yspec_opening.specs.Closing.{Close, closing_text}
+use Rattle.std.proofs.Common.{◌≡◌, ◌⊎◌, inl, inr, ℕ, Bool, List, [], ◌∷◌, ◌++◌, Option, Some, None, ap, refl, sym, subst, ◌∙◌}
+use Rattle.std.specs.Prelude.{Result, Ok, Err, is_ok, if◌then◌else◌, unwrap_or}
+use Rattle.yspec_opening.specs.Closing.{Close, at_end, closing_status, closing_text, endless, short, unread, untold}
 use Rattle.ybase_output.specs.Writing.{Broke, Side, Writes, Wrote}
 use Rattle.ybase_output.proofs.WritingLemmas.{broke_second, wrote_both}
-use Rattle.ybase_talk.specs.Talk.{Talks}
+use Rattle.ybase_talk.specs.Talk.{Exchange, Goes, Talks}
 use Rattle.ybase_talk.specs.declared.talk.TalkFault.{TalkFault}
 use Rattle.ybase_talk.specs.declared.talk.TalkFault.TheVariants.{Unread, Unwritten, Memory, Endless}
+use Rattle.ylive.specs.Answers.{known_count}
+use Rattle.ylive.specs.View.{view}
 use Rattle.yapp_words.specs.Running.{Ends}
-use Rattle.yapp_talk.specs.Watching.{as_result, close_of}
-use Rattle.yapp_talk.specs.Talked.{Events, HoldsOn}
+use Rattle.yapp_talk.specs.Watching.{AnswersWatched, as_result, close_of}
+use Rattle.yapp_talk.specs.Talked.{Events, HoldsOn, IsThere, faults_left}
 use Rattle.yapp_talk.specs.declared.watching.Watched.{Watched}
 
 -- a text that is written alone ends a run
@@ -42,3 +44,32 @@ pub held_behind : (w : Watched) (note : List ℕ) (with_reasons : Bool) (events 
     → HoldsOn w [] with_reasons events events_after b c status → HoldsOn w note with_reasons events events_after a c status
 held_behind w note with_reasons events events_after a b c status wrote held =
     (held.0, held.1, held.2, ends_behind a b c note (closing_text with_reasons held.0) _ status wrote held.3)
+
+-- ---- a session stays there
+
+there_behind : (before after : Watched) (line answer : List ℕ) → AnswersWatched before line answer after → IsThere before → IsThere after
+there_behind before after line answer answered there =
+    either _ _ (IsThere after) (λ told. (_, told.1)) (λ short. (there.0, short.1)) (answered.answers.says there.0 there.1)
+  where
+    either : (A B C : Type 0) → (A → C) → (B → C) → A ⊎ B → C
+    either A B C f g (inl a) = f a
+    either A B C f g (inr b) = g b
+
+there_last : (xs : List Exchange) (start last : Watched) → Goes AnswersWatched start xs last → IsThere start → IsThere last
+there_last [] start last goes there = subst IsThere (sym goes) there
+there_last (x ∷ xs) start last goes there = there_last xs goes.0 last goes.2 (there_behind start goes.0 x.line x.answer goes.1 there)
+
+known_there : (w : Watched) → IsThere w → unwrap_or (known_count (view w.session.live)) 1 ≡ faults_left w
+known_there w there = ap (λ (b : Bool). unwrap_or (if b then None else Some (faults_left w)) 1) there.1.fresh
+
+-- where a talk comes to its end, the faults are known
+pub closed_so : (events events_after : Events) (start last : Watched) (close : Close) (has_refused : Bool) (faults : ℕ)
+    → Talks {X = Bool} AnswersWatched events start events_after last (as_result close) → IsThere start → faults ≡ unwrap_or (known_count (view last.session.live)) 1
+    → closing_status close has_refused faults ≡ closing_status close has_refused (faults_left last)
+closed_so events events_after start last at_end has_refused faults talks there is =
+    let there : IsThere last = subst IsThere (sym talks.3.3) (there_last talks.0 start talks.1 talks.2 there) in
+    ap (closing_status at_end has_refused) (is ∙ known_there last there)
+closed_so events events_after start last unread has_refused faults talks there is = refl
+closed_so events events_after start last untold has_refused faults talks there is = refl
+closed_so events events_after start last short has_refused faults talks there is = refl
+closed_so events events_after start last endless has_refused faults talks there is = refl

@@ -3,12 +3,12 @@ use Rattle.std.specs.Prelude.{◌≡◌, ◌⊎◌, ℕ, ◌++◌, Bool, false, 
 use Rattle.yspec.specs.text.Text.{Text}
 use Rattle.yspec.specs.schema.Schema.{Schema}
 use Rattle.yspec.specs.document.Document.{Tree}
-use Rattle.yspec_session.specs.Session.{opened}
+use Rattle.yspec.specs.edit.Live.{fault_count}
+use Rattle.yspec_session.specs.Session.{Session, opened}
 use Rattle.yspec_opening.specs.Closing.{Close, closing_status, closing_text, most_remembered}
 use Rattle.ybase_output.specs.Writing.{Broke, Side}
 use Rattle.ybase_talk.specs.Talk.{Event, Talks}
 use Rattle.ylive.specs.View.{view}
-use Rattle.ylive.specs.Answers.{known_count}
 use Rattle.yapp_words.specs.Running.{Ends}
 use Rattle.yapp_session.specs.Answered.{Holds}
 use Rattle.yapp_session.specs.Kept as session
@@ -19,9 +19,13 @@ use Rattle.yapp_talk.specs.declared.watching.Watched.{Watched}
 abbrev pub Events : Type 0
 Events = Option (List Event)
 
--- how many faults the document of a session has, where they are known
-abbrev pub faults_left : Watched → Option ℕ
-faults_left w = known_count (view w.session.live)
+-- a session is there
+abbrev pub IsThere : Watched → Type 0
+IsThere w = (s : Session) × Holds (view w.session.live) (past_view w.session.past) s
+
+-- how many faults its document has
+abbrev pub faults_left : Watched → ℕ
+faults_left w = fault_count (view w.session.live)
 
 -- from this session on they talked, and behind these bytes on the error side it is told why it ended
 abbrev pub HoldsOn : Watched → List ℕ → Bool → Events → Events → Side → Side → ℕ → Type 0

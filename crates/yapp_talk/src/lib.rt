@@ -4,5 +4,5 @@
 mod talking;
 mod watching;
 
-pub use talking::{hold, talk};
+pub use talking::talk;
 pub use watching::Watched;

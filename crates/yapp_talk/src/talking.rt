@@ -6,7 +6,7 @@ ghost use Rattle.ybase_output.specs.Writing.{side};
 ghost use Rattle.yapp_words.specs.Running.{Ends};
 ghost use Rattle.ylive.specs.View.{view};
 ghost use Rattle.yapp_talk.specs.Watching.{close_of};
-ghost use Rattle.yapp_talk.specs.Talked.{Begins, HoldsOn, IsTalk};
+ghost use Rattle.yapp_talk.specs.Talked.{Begins, HoldsOn, IsTalk, IsThere, fresh};
 
 use crate::watching::Watched;
 use std::alloc::Global;
@@ -32,28 +32,12 @@ fn closing_text(ended: Result<(), TalkFault>, with_reasons: bool) -> &'static st
 }
 
 /// The exit status where a talk ends, by whether a request was refused, and by how many faults the document has.
-fn closing_status(ended: Result<(), TalkFault>, has_refused: bool, faults: Option<usize>) -> u8
+fn closing_status(ended: Result<(), TalkFault>, has_refused: bool, faults: usize) -> u8
     ensures { result ≡ spec.closing_status (close_of ended) has_refused faults }
 {
     match ended {
-        Ok(()) => {
-            if !has_refused && is_faultless(faults) {
-                0
-            } else {
-                1
-            }
-        }
+        Ok(()) => { if !has_refused && faults == 0 { 0 } else { 1 } }
         Err(TalkFault::Unread | TalkFault::Unwritten | TalkFault::Memory | TalkFault::Endless) => 4,
-    }
-}
-
-/// Whether it is known of a document that it has no fault.
-fn is_faultless(faults: Option<usize>) -> bool
-    ensures { result ≡ spec.is_faultless faults }
-{
-    match faults {
-        Some(count) => count == 0,
-        None => false,
     }
 }
 
@@ -77,21 +61,20 @@ fn end_with<E: Sink>(text: &str, status: u8, errors: &mut E) -> u8
 
 /// Answers requests until there are no more, and says then on the error side why that was too early, where it was. Answers the
 /// exit status.
-pub fn hold<C: Caller, E: Sink>(
+fn hold<C: Caller, E: Sink>(
     mut watched: Watched,
     with_reasons: bool,
     caller: &mut C,
     errors: &mut E,
 ) -> u8
+    requires { IsThere watched }
     ensures { HoldsOn watched [] with_reasons (C.events caller.old) (C.events caller.new)
         (side E.taken E.failures errors.old) (side E.taken E.failures errors.new) result }
 {
     let ended = converse(caller, &mut watched);
-    let status = closing_status(
-        ended,
-        watched.has_refused,
-        watched.session.live().fault_count(),
-    );
+    // Where a talk comes to its end, they are known.
+    let faults = watched.session.live().fault_count().unwrap_or(1);
+    let status = closing_status(ended, watched.has_refused, faults);
     end_with(closing_text(ended, with_reasons), status, errors)
 }
 
@@ -103,6 +86,7 @@ fn begin<C: Caller, E: Sink>(
     caller: &mut C,
     errors: &mut E,
 ) -> u8
+    requires { IsThere (fresh session) }
     ensures { Begins session note.now with_reasons (C.events caller.old) (C.events caller.new)
         (side E.taken E.failures errors.old) (side E.taken E.failures errors.new) result }
 {

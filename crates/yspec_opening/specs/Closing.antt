@@ -1,5 +1,5 @@
 -- How a session ends: what is said of it on the error side, and the exit status.
-use Rattle.std.specs.Prelude.{ℕ, zero, suc, ◌==◌, ◌&&◌, Bool, true, false, not, List, [], codes, Option, Some, None, if◌then◌else◌}
+use Rattle.std.specs.Prelude.{ℕ, ◌==◌, ◌&&◌, Bool, not, [], codes, if◌then◌else◌}
 use Rattle.std.specs.List.{starts_with}
 use Rattle.yspec.specs.text.Text.{Text}
 
@@ -31,13 +31,7 @@ closing_text with_reasons endless = codes "too many lines\n"
 abbrev pub is_refusal : Text → Bool
 is_refusal answer = starts_with ◌==◌ answer (codes "{\"refused\":")
 
--- whether it is known of a document that it has no fault
-abbrev pub is_faultless : Option ℕ → Bool
-is_faultless None = false
-is_faultless (Some zero) = true
-is_faultless (Some (suc n)) = false
-
 -- by whether a request was refused, and by how many faults the document has at the end
-abbrev pub closing_status : Close → Bool → Option ℕ → ℕ
-closing_status at_end has_refused faults = if not has_refused && is_faultless faults then 0 else 1
+abbrev pub closing_status : Close → Bool → ℕ → ℕ
+closing_status at_end has_refused faults = if not has_refused && faults == 0 then 0 else 1
 closing_status _ has_refused faults = 4

@@ -5,6 +5,9 @@ use Rattle.yapp_talk.specs.Talked.{fresh}
 use Rattle.yapp_talk.proofs.TalkingLemmas.{held_behind}
 use Rattle.yapp_talk.proofs.talking.begin.Goals as goal
 
+pub hold-requires : goal.hold-requires
+hold-requires g c = c.requires
+
 pub returns-in-Ok : goal.returns-in-Ok
 returns-in-Ok g c = inr (held_behind (fresh c.args.session) c.args.note.now c.args.with_reasons _ _ _ _ _ _
     (wrote_same _ _ _ _ (append-nil c.args.note.now) c.in-Ok.ensures) c.hold.ensures)

@@ -1,6 +1,9 @@
 use Rattle.std.proofs.Common.{inl, inr, refl}
 use Rattle.yapp_talk.proofs.talking.talk.Goals as goal
 
+pub begin-requires : goal.begin-requires
+begin-requires g c = (_, c.in-Ok.ensures.opened c.requires)
+
 pub returns-in-Ok : goal.returns-in-Ok
 returns-in-Ok g c = inr (
   c.in-Ok.session,
