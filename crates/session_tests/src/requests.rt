@@ -74,7 +74,9 @@ begin
 ==
 1
 remove /p:c/note
-> {"refused":"E7","error":{"error-message":"What is to be replaced, removed or moved isn't stored.","error-tag":"data-missing","error-type":"application","yanglive:code":"E7"}}
+> {"refused":"E7","message":"What is to be replaced, removed or moved isn't stored."}
+replace /p:c []
+> {"refused":"E10","document":"J5","message":"A value is of another kind than its node: no object for a container or an entry, no array for a list or leaf-list."}
 document
 > {"document":{"p:c":{"id":1}}}
 ==
