@@ -15,7 +15,7 @@ _yanglive_names() {
 _yanglive() {
     local word=${COMP_WORDS[COMP_CWORD]} before=${COMP_WORDS[COMP_CWORD - 1]} options="" kind="" place=0 k
     if [ "$COMP_CWORD" -eq 1 ]; then
-        mapfile -t COMPREPLY < <(compgen -W "compile tree validate edit explain --help --version" -- "$word")
+        mapfile -t COMPREPLY < <(compgen -W "compile tree validate edit session explain --help --version" -- "$word")
         return
     fi
     for ((k = 2; k < COMP_CWORD; k++)); do
@@ -38,6 +38,9 @@ _yanglive() {
         edit)
             options="--config --dump --explain --features --format --help --output --profile --strict --unjudged"
             case $place in 0) kind=json ;; 1) kind=any ;; *) kind=yang ;; esac ;;
+        session)
+            options="--explain --features --help --profile --strict --unjudged"
+            case $place in 0) kind=json ;; *) kind=yang ;; esac ;;
         explain)
             options="--help"
             case $place in *) kind=code ;; esac ;;

@@ -2,6 +2,7 @@
 
 use crate::compiling::{is_told, is_told_of_yang_1};
 use crate::documents::is_validated;
+use crate::rows::all_hold;
 
 // What a binary may bear, in derived types and unions, and its defaults.
 #[test]
@@ -28,18 +29,14 @@ C11:4/C1:4/leaf a { type binary { length 4; } default Zm8=; }
 C11:5/C1:4/typedef t { type binary; default Zm8=; }|leaf a { type t { length 3; } }
 C11:4/C1:4/leaf-list a { type binary; default Zm8=; default Zm8=; }
 1 nodes/C1:4/leaf-list a { type binary; default Zm8=; default Zm9v; }";
-    for row in rows.lines() {
-        assert!(rt; is_told(rt.alloc(), row) == Some(true), "{row:?}");
-    }
+    all_hold(&rt, rt.alloc(), rows, is_told);
 }
 
 #[test]
 fn of_yang_1(rt: HostRuntime) {
     let rows = "1 nodes/leaf a { type binary { length 3; } default Zm9v; }
 C11:4/leaf a { type binary { length 4; } default Zm9v; }";
-    for row in rows.lines() {
-        assert!(rt; is_told_of_yang_1(rt.alloc(), row) == Some(true), "{row:?}");
-    }
+    all_hold(&rt, rt.alloc(), rows, is_told_of_yang_1);
 }
 
 // Values, keys, items and references; octets are measured, and no characters.
@@ -62,7 +59,5 @@ all => none => {"m:a":"Zm8=","m:b":"Zm8="} => m:1.1 leaf a { type leafref { path
 all => V11 data-missing instance-required /m:a -| => {"m:a":"Zm8=","m:b":"Zm9v"} => m:1.1 leaf a { type leafref { path /m:b; } } leaf b { type binary; }
 all => none => {"m:a":["Zm8","Zm8="]} => m:1.1 leaf-list a { type union { type binary; type string; } }
 all => none => {} => m:1.1 leaf a { type leafref { path /m:b; } default Zm8=; } leaf b { type binary; default Zm8=; }"#;
-    for row in rows.lines() {
-        assert!(rt; is_validated(rt.alloc(), row) == Some(true), "{row:?}");
-    }
+    all_hold(&rt, rt.alloc(), rows, is_validated);
 }

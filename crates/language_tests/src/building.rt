@@ -24,17 +24,32 @@ fn has_word(words: &str, word: &str) -> bool {
     false
 }
 
+// Puts a word `m:f,g` behind others; any other word is passed over.
+fn push_choosing(
+    alloc: Global,
+    choosings: &mut Vec<Choosing>,
+    word: &str,
+) -> Result<(), AllocError> {
+    match word.split_once(':') {
+        Some((name, names)) => {
+            let module_name = String::from_str(alloc, name)?;
+            let features = features_of(alloc, names)?;
+            choosings.push(Choosing {
+                module_name,
+                features,
+            })?;
+            Ok(())
+        }
+        None => Ok(()),
+    }
+}
+
 /// The language in which features are chosen of some modules, as `m:f,g n:` says; in `all` of none. In `must` and `when` these
 /// aren't judged.
 pub(crate) fn language_of(alloc: Global, words: &str) -> Result<Language, AllocError> {
     let mut choosings = Vec::new(alloc);
     for word in words.split(' ') {
-        if let Some((module_name, names)) = word.split_once(':') {
-            choosings.push(Choosing {
-                module_name: String::from_str(alloc, module_name)?,
-                features: features_of(alloc, names)?,
-            })?;
-        }
+        push_choosing(alloc, &mut choosings, word)?;
     }
     Ok(Language::Rfc(Wide {
         choosings,
@@ -101,14 +116,19 @@ pub(crate) fn module_of(alloc: Global, version: &str, statements: &str) -> Optio
     Some(modules)
 }
 
+// Puts a module behind others, which a row has as `NAME:VERSION STATEMENTS`.
+fn push_named(alloc: Global, modules: &mut Vec<Module>, part: &str) -> Option<()> {
+    let (head, statements) = part.split_once(' ')?;
+    let (name, version) = head.split_once(':')?;
+    let text = module_text(alloc, name, version, statements).ok()?;
+    push_module(alloc, modules, text.as_str())
+}
+
 /// The modules of a row, with ` ~ ` between them, each as `NAME:VERSION STATEMENTS`.
 pub(crate) fn modules_of(alloc: Global, row: &str) -> Option<Vec<Module>> {
     let mut modules = Vec::new(alloc);
     for part in row.split(" ~ ") {
-        let (head, statements) = part.split_once(' ')?;
-        let (name, version) = head.split_once(':')?;
-        let text = module_text(alloc, name, version, statements).ok()?;
-        push_module(alloc, &mut modules, text.as_str())?;
+        push_named(alloc, &mut modules, part)?;
     }
     Some(modules)
 }

@@ -1,6 +1,7 @@
 //! Features that are chosen of some modules, and sets of modules of both versions.
 
 use crate::compiling::{is_told_of_set, is_told_where_chosen};
+use crate::rows::all_hold;
 
 // A feature is on where it is chosen and its own conditions hold.
 #[test]
@@ -30,12 +31,7 @@ m:g/2 nodes/feature g; leaf a { type leafref { path /m:b; } }|leaf b { if-featur
 m:/C12:4/feature g; list l { key k; leaf k { type string; } unique u; leaf u { if-feature g; type string; } }
 m:/0 nodes/feature g; container c { if-feature g; leaf a { type string; } }|augment /m:c { leaf b { type string; } }
 m:/C11:4/feature g; leaf a { if-feature 'not g'; type uint8; default 256; }";
-    for row in rows.lines() {
-        assert!(rt;
-            is_told_where_chosen(rt.alloc(), row) == Some(true),
-            "{row:?}"
-        );
-    }
+    all_hold(&rt, rt.alloc(), rows, is_told_where_chosen);
 }
 
 // Features of modules that are imported.
@@ -57,9 +53,7 @@ all/1 nodes/m:1.1 import n { prefix n; } identity j { base n:i; }|leaf a { type 
 n:/C11:5/m:1.1 import n { prefix n; }|leaf a { type n:t; default x; } ~ n:1.1 feature f; typedef t { type enumeration { enum x { if-feature f; } enum y; } }
 n:/2 nodes/m:1.1 import n { prefix n; } container c { uses n:g; } ~ n:1.1 feature f; grouping g { leaf a { if-feature f; type string; } leaf b { if-feature 'not f'; type string; } }
 m:f/2 nodes/m:1.1 import n { prefix n; } feature f; container c { uses n:g; } ~ n:1.1 feature f; grouping g { leaf a { if-feature 'not f'; type string; } leaf b { type string; } }";
-    for row in rows.lines() {
-        assert!(rt; is_told_of_set(rt.alloc(), row) == Some(true), "{row:?}");
-    }
+    all_hold(&rt, rt.alloc(), rows, is_told_of_set);
 }
 
 // A module is read in its own version, and what it takes of another one in that of the other.
@@ -80,9 +74,7 @@ all/C10:5/m: import n { prefix n; }|leaf a { type union { type n:t; type uint8; 
 all/6 nodes/m: import n { prefix n; }|uses n:g; ~ n:1.1 grouping g { choice a { choice b { leaf c { type string; } } } leaf xmla { type string; } }
 all/C3:4 of 1/m:1.1 leaf a { type string; } ~ n: leaf xmla { type string; }
 all/3 nodes/m:1.1 leaf a { type string; } ~ n: leaf a { type string; } leaf-list b { type uint8; }";
-    for row in rows.lines() {
-        assert!(rt; is_told_of_set(rt.alloc(), row) == Some(true), "{row:?}");
-    }
+    all_hold(&rt, rt.alloc(), rows, is_told_of_set);
 }
 
 // What is added to another module: whether its target stands or not, and without what is taken away.
@@ -98,7 +90,5 @@ n:/C15:5/m:1.1 import n { prefix n; }|augment /n:c {| leaf a { type string; mand
 m:/1 nodes/m:1.1 import n { prefix n; } feature f; grouping g { leaf a { type string; mandatory true; } }|augment /n:c {| uses g { if-feature f; } } ~ n:1.1 container c;
 m:/3 nodes/m:1.1 import n { prefix n; } feature f;|augment /n:c {| container d { leaf a { if-feature f; type string; mandatory true; } leaf b { type string; } } } ~ n:1.1 container c;
 all/C15:5/m: import n { prefix n; }|augment /n:c {| leaf a { type string; mandatory true; } } ~ n:1.1 container c;";
-    for row in rows.lines() {
-        assert!(rt; is_told_of_set(rt.alloc(), row) == Some(true), "{row:?}");
-    }
+    all_hold(&rt, rt.alloc(), rows, is_told_of_set);
 }

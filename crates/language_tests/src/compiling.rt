@@ -8,13 +8,18 @@ use yschema::{CompileFault, compile, compile_in};
 use yschema_model::Schema;
 use ytext::Module;
 
-// Whether modules are compiled to so many nodes, as in `3 nodes`, or refused so. Nothing for want of memory.
+// Whether that is how many nodes there are, as in `3 nodes`.
+fn is_count(nodes: usize, told: &str) -> Option<bool> {
+    match told.split_once(' ') {
+        Some((count, "nodes")) => Some(number_of(count)? as usize == nodes),
+        _ => Some(false),
+    }
+}
+
+// Whether modules are compiled to so many nodes, or refused so. Nothing for want of memory.
 fn is_outcome(alloc: Global, made: Result<Schema, CompileFault>, told: &str) -> Option<bool> {
     match made {
-        Ok(schema) => match told.split_once(' ') {
-            Some((nodes, "nodes")) => Some(number_of(nodes)? as usize == schema.nodes()),
-            _ => Some(false),
-        },
+        Ok(schema) => is_count(schema.nodes(), told),
         Err(fault) => is_refusal_of_modules(alloc, fault, told),
     }
 }
@@ -28,6 +33,11 @@ fn is_outcome_in(
     is_outcome(alloc, compile_in(alloc, modules, language), told)
 }
 
+/// With all features chosen.
+pub(crate) fn is_wide_outcome(alloc: Global, modules: &[Module], told: &str) -> Option<bool> {
+    is_outcome_in(alloc, modules, &with_all_features(alloc), told)
+}
+
 // Under the core, by either call.
 fn is_outcome_in_core(alloc: Global, modules: &[Module], told: &str) -> Option<bool> {
     let is_core = is_outcome_in(alloc, modules, &Language::Core, told)?;
@@ -39,7 +49,7 @@ pub(crate) fn is_told(alloc: Global, row: &str) -> Option<bool> {
     let (told, row) = row.split_once('/')?;
     let (in_core, statements) = row.split_once('/')?;
     let modules = module_of(alloc, "1.1", statements)?;
-    let is_wide = is_outcome_in(alloc, &modules, &with_all_features(alloc), told)?;
+    let is_wide = is_wide_outcome(alloc, &modules, told)?;
     Some(is_wide && is_outcome_in_core(alloc, &modules, in_core)?)
 }
 
@@ -47,7 +57,7 @@ pub(crate) fn is_told(alloc: Global, row: &str) -> Option<bool> {
 pub(crate) fn is_told_of_yang_1(alloc: Global, row: &str) -> Option<bool> {
     let (told, statements) = row.split_once('/')?;
     let modules = module_of(alloc, "", statements)?;
-    let is_wide = is_outcome_in(alloc, &modules, &with_all_features(alloc), told)?;
+    let is_wide = is_wide_outcome(alloc, &modules, told)?;
     Some(is_wide && is_outcome_in_core(alloc, &modules, "C4:1")?)
 }
 

@@ -1,6 +1,7 @@
 //! Documents under modules that are read in a language.
 
 use crate::building::{language_of, modules_of};
+use crate::rows::all_hold;
 use crate::telling::{have_lines, is_text};
 use std::alloc::Global;
 use ycheck::Fault;
@@ -22,6 +23,22 @@ fn are_lines_of(
     }
 }
 
+// Whether these are the lines of a document's faults, or the code of its refusal.
+fn is_found(
+    alloc: Global,
+    modules: &[Module],
+    language: &Language,
+    document: &str,
+    told: &str,
+) -> Option<bool> {
+    match check_edits_in(alloc, modules, language, document.as_bytes(), &[]) {
+        Ok(checked) => are_lines_of(alloc, modules, language, &checked.faults, told),
+        Err(CheckFault::Document(fault)) => is_text(format!(in alloc; "{fault}"), told),
+        Err(CheckFault::Modules(_)) => Some(false),
+        Err(CheckFault::Memory) => None,
+    }
+}
+
 /// `FEATURES => LINES OF FAULTS => DOCUMENT => MODULES`, or the code of the document's refusal in place of the lines.
 pub(crate) fn is_validated(alloc: Global, row: &str) -> Option<bool> {
     let (chosen, row) = row.split_once(" => ")?;
@@ -29,12 +46,7 @@ pub(crate) fn is_validated(alloc: Global, row: &str) -> Option<bool> {
     let (document, modules) = row.split_once(" => ")?;
     let language = language_of(alloc, chosen).ok()?;
     let modules = modules_of(alloc, modules)?;
-    match check_edits_in(alloc, &modules, &language, document.as_bytes(), &[]) {
-        Ok(checked) => are_lines_of(alloc, &modules, &language, &checked.faults, told),
-        Err(CheckFault::Document(fault)) => is_text(format!(in alloc; "{fault}"), told),
-        Err(CheckFault::Modules(_)) => Some(false),
-        Err(CheckFault::Memory) => None,
-    }
+    is_found(alloc, &modules, &language, document, told)
 }
 
 // Lines of faults, or the code of the refusal.
@@ -67,7 +79,5 @@ all => V1 invalid-value - /m:a[2] -|V1 invalid-value - /m:a[3] -|V10 operation-f
 all => V11 data-missing instance-required /m:a -| => {"m:a":"zz"} => m: leaf a { type leafref { path /m:b; } } leaf b { type string; }
 m: => V1 invalid-value - /m:a -| => {"m:a":300} => m:1.1 feature f; leaf a { if-feature 'not f'; type uint8; }
 m:g => J3 => {"m:c":{"a":1}} => m:1.1 feature f; feature g; grouping h { leaf a { type uint8; } leaf b { type uint8; mandatory true; } } container c { uses h { refine a { if-feature f; } refine b { if-feature g; } } }"#;
-    for row in rows.lines() {
-        assert!(rt; is_validated(rt.alloc(), row) == Some(true), "{row:?}");
-    }
+    all_hold(&rt, rt.alloc(), rows, is_validated);
 }

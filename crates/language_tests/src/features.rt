@@ -1,6 +1,7 @@
 //! Features that are all chosen, and conditions of statements; under the core each such module is refused as ever.
 
 use crate::compiling::is_told;
+use crate::rows::all_hold;
 
 // Each statement that may bear a condition.
 #[test]
@@ -22,9 +23,7 @@ fn conditions_that_hold(rt: HostRuntime) {
 1 nodes/C1:4/feature f; leaf a { if-feature 'not not (not (f))'; type string; } leaf b { if-feature 'not not((f))or f'; type string; }
 1 nodes/C1:4/feature f; typedef f { type string; } grouping f { leaf f { if-feature f; type f; } } identity f; uses f;
 1 nodes/1 nodes/leaf a { type string; }";
-    for row in rows.lines() {
-        assert!(rt; is_told(rt.alloc(), row) == Some(true), "{row:?}");
-    }
+    all_hold(&rt, rt.alloc(), rows, is_told);
 }
 
 // What they take away, with what stands below it.
@@ -56,9 +55,7 @@ fn conditions_that_do_not(rt: HostRuntime) {
 0 nodes/C1:4/feature f; container c { if-feature 'not f'; } augment /m:c { leaf a { type string; } }
 3 nodes/C1:4/feature f; choice c { leaf a { type string; } } augment /m:c { if-feature 'not f'; case d { leaf e { type string; } } leaf h { type string; } }
 2 nodes/C1:4/feature f; grouping g { leaf a { type string; } leaf b { type string; } } list l { key a; uses g { refine b { if-feature 'not f'; mandatory true; } } }";
-    for row in rows.lines() {
-        assert!(rt; is_told(rt.alloc(), row) == Some(true), "{row:?}");
-    }
+    all_hold(&rt, rt.alloc(), rows, is_told);
 }
 
 // Names of features: C6, C7, C22, and which phase comes first.
@@ -85,9 +82,7 @@ C6:5/C1:4/feature f; leaf a {| if-feature q:f; type string; }
 C6:5/C1:4/feature f; leaf a {| if-feature 'f or not (q:f)'; type string; }
 C7:6/C1:4/feature f;|feature g;|feature f;
 C7:5/C1:4/feature f { if-feature g; }|feature f;";
-    for row in rows.lines() {
-        assert!(rt; is_told(rt.alloc(), row) == Some(true), "{row:?}");
-    }
+    all_hold(&rt, rt.alloc(), rows, is_told);
 }
 
 // Arguments that are no expressions.
@@ -103,9 +98,7 @@ C3:5/C1:4/feature f; leaf a {| if-feature 'f and and f'; type string; }
 C3:5/C1:4/feature f; leaf a {| if-feature '()'; type string; }
 C3:5/C1:4/feature f; leaf a {| if-feature 'f, f'; type string; }
 C3:5/C1:4/feature f; leaf a {| if-feature; type string; }";
-    for row in rows.lines() {
-        assert!(rt; is_told(rt.alloc(), row) == Some(true), "{row:?}");
-    }
+    all_hold(&rt, rt.alloc(), rows, is_told);
 }
 
 // Features and conditions that may not stand where they do.
@@ -126,9 +119,7 @@ C1:5/C1:4/feature f; leaf a { type string {| if-feature f; } }
 C1:5/C1:4/feature f;|if-feature f;
 C1:4/C1:4/feature f; list l { key k; leaf k { type string { length 1 { if-feature f; } } } }
 C1:4/C1:4/import n { prefix n; if-feature f; }";
-    for row in rows.lines() {
-        assert!(rt; is_told(rt.alloc(), row) == Some(true), "{row:?}");
-    }
+    all_hold(&rt, rt.alloc(), rows, is_told);
 }
 
 // A default of a name that bears a condition, whether it holds or not; a default case that is taken away.
@@ -158,9 +149,7 @@ C11:4/C1:4/feature f; choice c { default d; leaf e { if-feature f; type string; 
 1 nodes/C1:4/feature f; choice c { default d; case d { if-feature 'not f'; leaf a { type string; mandatory true; } } }
 C11:4/C1:4/feature f; choice c { default d; case d { if-feature f; leaf a { type string; mandatory true; } } }
 2 nodes/C1:4/feature f; choice c { default d; case d { leaf a { if-feature 'not f'; type string; mandatory true; } } }";
-    for row in rows.lines() {
-        assert!(rt; is_told(rt.alloc(), row) == Some(true), "{row:?}");
-    }
+    all_hold(&rt, rt.alloc(), rows, is_told);
 }
 
 // Keys and names are judged whether the conditions hold or not.
@@ -180,9 +169,7 @@ C13:5/C1:4/feature f; leaf a { if-feature f; type string; }|leaf a { if-feature 
 C13:5/C1:4/feature f; choice c { case d { if-feature f; leaf a { type string; } } case e { if-feature 'not f';| leaf a { type string; } } }
 C13:4/C1:4/feature f; grouping g { leaf a { type string; } }|uses g { if-feature f; }|uses g { if-feature 'not f'; }
 C13:5/C1:4/feature f; container c { leaf a { type string; } }|augment /m:c { if-feature 'not f'; leaf a { type string; } }";
-    for row in rows.lines() {
-        assert!(rt; is_told(rt.alloc(), row) == Some(true), "{row:?}");
-    }
+    all_hold(&rt, rt.alloc(), rows, is_told);
 }
 
 // What is taken away is no state, refers to nothing, and nothing refers to it; but it is refined and added to.
@@ -201,7 +188,5 @@ C14:5/C1:4/feature f; grouping g { container c; } uses g {| refine d { if-featur
 C14:5/C1:4/feature f; grouping g { container c; } uses g { if-feature 'not f';| refine c { mandatory true; } }
 C14:4/C1:4/feature f; container c { if-feature 'not f'; } augment /m:d { leaf a { type string; } }
 C14:4/C1:4/feature f; augment /m:d {| if-feature 'not f'; leaf a { type string; } }";
-    for row in rows.lines() {
-        assert!(rt; is_told(rt.alloc(), row) == Some(true), "{row:?}");
-    }
+    all_hold(&rt, rt.alloc(), rows, is_told);
 }

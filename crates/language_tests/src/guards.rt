@@ -2,6 +2,7 @@
 
 use crate::compiling::is_told_of_set;
 use crate::documents::is_validated;
+use crate::rows::all_hold;
 
 // Where each may stand, how often, and what it may bear.
 #[test]
@@ -26,9 +27,7 @@ must when/C2:4/m:1.1 container c { when a; when b; }
 must when/C2:5/m:1.1 container c {| must a { description b; description c; } }
 must when/C3:5/m:1.1 container c {| must; }
 must when/C3:5/m:1.1 container c {| when; }";
-    for row in rows.lines() {
-        assert!(rt; is_told_of_set(rt.alloc(), row) == Some(true), "{row:?}");
-    }
+    all_hold(&rt, rt.alloc(), rows, is_told_of_set);
 }
 
 // Keys, and what augments add.
@@ -41,9 +40,7 @@ must when/2 nodes/m:1.1 import n { prefix n; } augment /n:c { when a; leaf x { m
 must when/C15:5/m:1.1 import n { prefix n; }|augment /n:c { leaf x { when a; mandatory true; type string; } } ~ n:1.1 container c;
 must when/C15:5/m: import n { prefix n; }|augment /n:c { when a; leaf x { mandatory true; type string; } } ~ n: container c;
 must when/C11:4/m:1.1 leaf x { when a; type int8; default 200; }";
-    for row in rows.lines() {
-        assert!(rt; is_told_of_set(rt.alloc(), row) == Some(true), "{row:?}");
-    }
+    all_hold(&rt, rt.alloc(), rows, is_told_of_set);
 }
 
 // What isn't there isn't asked, and what is there is judged as ever.
@@ -61,7 +58,5 @@ must when => V3 data-missing - /m:c/d/z -| => {} => m:1.1 container c { containe
 must when => V1 invalid-value - /m:c/x -| => {"m:c":{"x":200}} => m:1.1 container c { when a; leaf x { type int8; } }
 must when => V7 operation-failed too-many-elements /m:c/y -| => {"m:c":{"y":["a","b"]}} => m:1.1 container c { when a; leaf-list y { min-elements 1; max-elements 1; type string; } }
 must when => V2 missing-element - /m:c/l[1]/k -| => {"m:c":{"l":[{"u":"a"}]}} => m:1.1 container c { when a; list l { key k; leaf k { type string; } leaf u { type string; } leaf v { mandatory true; type string; } } }"#;
-    for row in rows.lines() {
-        assert!(rt; is_validated(rt.alloc(), row) == Some(true), "{row:?}");
-    }
+    all_hold(&rt, rt.alloc(), rows, is_validated);
 }

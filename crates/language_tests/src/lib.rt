@@ -24,6 +24,8 @@ mod referring;
 #[cfg(test)]
 mod restricting;
 #[cfg(test)]
+mod rows;
+#[cfg(test)]
 mod telling;
 #[cfg(test)]
 mod versions;

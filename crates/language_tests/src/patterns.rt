@@ -2,6 +2,7 @@
 
 use crate::compiling::{is_told, is_told_of_yang_1};
 use crate::documents::is_validated;
+use crate::rows::all_hold;
 
 // Where a pattern and a modifier may stand, and what they may bear.
 #[test]
@@ -24,9 +25,7 @@ C3:6/C1:5/leaf a { type string {| pattern a {| modifier; } } }
 C3:5/C1:5/leaf a { type string {| pattern; } }
 C2:5/C1:5/leaf a { type string {| pattern a {| modifier invert-match;| modifier invert-match; } } }
 C2:5/C1:5/leaf a { type string {| pattern a {| error-message x;| error-message y; } } }";
-    for row in rows.lines() {
-        assert!(rt; is_told(rt.alloc(), row) == Some(true), "{row:?}");
-    }
+    all_hold(&rt, rt.alloc(), rows, is_told);
 }
 
 // Texts that spell no pattern, where they stand, and a default that isn't one of the values.
@@ -48,9 +47,7 @@ C20:4/C1:4/leaf a { type string { pattern '('; } default b; }
 C11:4/C1:4/leaf a { type string { pattern '[a-z]+'; } default a1; }
 C11:5/C1:4/typedef t { type string { pattern '[a-z]+'; } }|leaf a { type t { pattern b.* { modifier invert-match; } } default b; }
 1 nodes/C1:4/typedef t { type string { pattern '[a-z]+'; } default a; } leaf a { type t; }";
-    for row in rows.lines() {
-        assert!(rt; is_told(rt.alloc(), row) == Some(true), "{row:?}");
-    }
+    all_hold(&rt, rt.alloc(), rows, is_told);
 }
 
 // YANG 1 has patterns without modifiers.
@@ -59,9 +56,7 @@ fn of_yang_1(rt: HostRuntime) {
     let rows = "1 nodes/leaf a { type string { pattern a { error-app-tag x; } } }
 C1:5/leaf a { type string { pattern a {| modifier invert-match; } } }
 C20:4/leaf a { type string { pattern '['; } }";
-    for row in rows.lines() {
-        assert!(rt; is_told_of_yang_1(rt.alloc(), row) == Some(true), "{row:?}");
-    }
+    all_hold(&rt, rt.alloc(), rows, is_told_of_yang_1);
 }
 
 // The first restriction that excludes a value is told, a length ahead of the patterns of its type.
@@ -76,7 +71,5 @@ all => none => {"m:a":"ab"} => m:1.1 typedef t { type string { pattern '[a-z]+' 
 all => V1 invalid-value - /m:a -| => {"m:a":"ab"} => m:1.1 leaf a { type string { pattern .*b { modifier invert-match; } } }
 all => none => {"m:a":1,"m:b":"x"} => m: leaf a { type union { type int8; type string { pattern x; } } } leaf b { type union { type int8; type string { pattern x; } } }
 all => V1 invalid-value - /m:a -| => {"m:a":"y"} => m: leaf a { type union { type int8; type string { pattern x; } } }"#;
-    for row in rows.lines() {
-        assert!(rt; is_validated(rt.alloc(), row) == Some(true), "{row:?}");
-    }
+    all_hold(&rt, rt.alloc(), rows, is_validated);
 }

@@ -2,6 +2,7 @@
 
 use crate::compiling::{is_told, is_told_of_yang_1};
 use crate::documents::is_validated;
+use crate::rows::all_hold;
 
 // Names below a derived type are some of its own, each once and with no other number.
 #[test]
@@ -30,9 +31,7 @@ C10:4/C10:4/leaf b { type c { enum x; enum z; } } typedef c { type enumeration {
 C3:6/C3:6/typedef c { type enumeration { enum x; } }|leaf a { type c {| enum x { value y; } } }
 C1:6/C1:6/typedef c { type enumeration { enum x; } }|leaf a { type c {| enum x { range 1; } } }
 C3:6/C3:6/typedef b { type bits { bit x; } }|leaf a { type b {| bit '1x'; } }";
-    for row in rows.lines() {
-        assert!(rt; is_told(rt.alloc(), row) == Some(true), "{row:?}");
-    }
+    all_hold(&rt, rt.alloc(), rows, is_told);
 }
 
 // YANG 1 has none of it.
@@ -41,9 +40,7 @@ fn of_yang_1(rt: HostRuntime) {
     let rows = "1 nodes/typedef c { type enumeration { enum x; enum y; } } leaf a { type c; }
 C10:5/typedef c { type enumeration { enum x; enum y; } }|leaf a { type c {| enum x; } }
 C10:5/typedef b { type bits { bit x; bit y; } }|leaf a { type b {| bit x; } }";
-    for row in rows.lines() {
-        assert!(rt; is_told_of_yang_1(rt.alloc(), row) == Some(true), "{row:?}");
-    }
+    all_hold(&rt, rt.alloc(), rows, is_told_of_yang_1);
 }
 
 // A default is one of the names that are left, and bears no condition in any type on the way.
@@ -57,9 +54,7 @@ C11:5/C10:5/typedef b { type bits { bit x; bit y; } }|leaf a { type b { bit x; }
 C11:6/C1:4/feature f; typedef c { type enumeration { enum x { if-feature f; } enum y; } }|typedef d { type c { enum x; } }|leaf a { type d; default x; }
 C11:6/C1:4/feature f; typedef c { type enumeration { enum x; enum y; } }|typedef d { type c { enum x { if-feature f; } enum y; } }|leaf a { type d { enum x; } default x; }
 1 nodes/C1:4/feature f; typedef c { type enumeration { enum x { if-feature f; } enum y; } }|leaf a { type c { enum x; enum y; } default y; }";
-    for row in rows.lines() {
-        assert!(rt; is_told(rt.alloc(), row) == Some(true), "{row:?}");
-    }
+    all_hold(&rt, rt.alloc(), rows, is_told);
 }
 
 // What isn't left is no value, nor what a condition takes away, below the restriction or below the type that it restricts.
@@ -77,7 +72,5 @@ m: => V1 invalid-value - /m:a -| => {"m:a":"x","m:b":"y"} => m:1.1 feature f; ty
 m: => V1 invalid-value - /m:a -| => {"m:a":"x"} => m:1.1 feature f; typedef b { type bits { bit x { if-feature f; } bit y; } } leaf a { type b { bit x; } }
 m: => none => {"m:a":""} => m:1.1 feature f; typedef b { type bits { bit x { if-feature f; } bit y; } } leaf a { type b { bit x; } }
 all => none => {"m:a":"x","m:b":"z"} => m:1.1 typedef c { type enumeration { enum x; enum y; } } leaf a { type union { type c { enum x; } type string; } } leaf b { type union { type c { enum x; } type string; } }"#;
-    for row in rows.lines() {
-        assert!(rt; is_validated(rt.alloc(), row) == Some(true), "{row:?}");
-    }
+    all_hold(&rt, rt.alloc(), rows, is_validated);
 }

@@ -1,6 +1,7 @@
 //! Modules of YANG 1, which the core refuses.
 
 use crate::compiling::is_told_of_yang_1;
+use crate::rows::all_hold;
 
 // What YANG 1 has.
 #[test]
@@ -20,9 +21,7 @@ fn accepted(rt: HostRuntime) {
 1 nodes/leaf a { type string; } revision 2020-01-01; organization o; contact c;
 C3:4/import xml { prefix xmli; }
 8 nodes/choice c { default a; leaf a { type string; } container b; list l { key k; leaf k { type string; } } }";
-    for row in rows.lines() {
-        assert!(rt; is_told_of_yang_1(rt.alloc(), row) == Some(true), "{row:?}");
-    }
+    all_hold(&rt, rt.alloc(), rows, is_told_of_yang_1);
 }
 
 // What YANG 1 lacks of YANG 1.1: statements, amounts and arguments.
@@ -48,9 +47,7 @@ C3:5/feature f; leaf a {| if-feature 'f or f'; type string; }
 C3:4/feature f; leaf a { if-feature 'not f'; type string; }
 C3:4/feature f; leaf a { if-feature '(f)'; type string; }
 C3:4/feature f; leaf a { if-feature ' f'; type string; }";
-    for row in rows.lines() {
-        assert!(rt; is_told_of_yang_1(rt.alloc(), row) == Some(true), "{row:?}");
-    }
+    all_hold(&rt, rt.alloc(), rows, is_told_of_yang_1);
 }
 
 // The same of types, keys and augments, and what is refused in both.
@@ -76,7 +73,5 @@ C13:5/feature f; leaf a { type string; }|leaf a { if-feature f; type string; }
 C11:4/leaf a { type uint8; default 256; }
 C17:4/leaf a { type leafref { path /m:z; } }
 C16:4/list l { leaf a { type string; } }";
-    for row in rows.lines() {
-        assert!(rt; is_told_of_yang_1(rt.alloc(), row) == Some(true), "{row:?}");
-    }
+    all_hold(&rt, rt.alloc(), rows, is_told_of_yang_1);
 }

@@ -1,12 +1,15 @@
 -- From the run of any files to that of known ones.
 use Rattle.std.proofs.Common.{◌≡◌, inl, inr, Bool, false, ℕ, List, [], ◌∷◌, codes, Some, None, refl, sym, subst, ap, ◌∙◌, arith}
 use Rattle.yspec_wide.specs.Language.{core}
-use Rattle.yspec_run.specs.Output.{Besides, Outcome, Request, files_of, outcome, plainly, printed_with, validate}
+use Rattle.yspec_run.specs.Output.{Outcome, Request, files_of, outcome, plainly, validate}
 use Rattle.yspec_run.specs.Unjudged.{outcome_said}
 use Rattle.ybase_output.specs.Writing.{Side}
 use Rattle.clap.proofs.OnLiterals.{clap_on_literals}
-use Rattle.yapp_words.specs.Command.{asks_reasons, refusals, request_of}
-use Rattle.yapp_words.specs.Running.{Brings, End}
+use Rattle.yapp_words.specs.Command.{asked_in, asks_reasons, refusals}
+use Rattle.yapp_words.specs.Running.{End}
+use Rattle.yapp_talk.specs.Talked.{Events}
+use Rattle.yapp.specs.Sessions.{Does}
+use Rattle.yspec_opening.specs.Opening.{Asked, report}
 use Rattle.yapp.specs.Files.{Answered, Contents, FileAnswers, IsOutcome, Store, WereRead, unread_in}
 use Rattle.program_tests.specs.Known.{IsKnown, contents_in, told_in, validate_words}
 use Rattle.yspec.specs.text.Text.{Text}
@@ -15,7 +18,7 @@ pub are_taken : refusals validate_words ≡ []
 unfolding clap_on_literals
 are_taken = refl
 
-pub ask_for : request_of validate_words ≡ validate core plainly (codes "d.json") (codes "p.yang" ∷ [])
+pub ask_for : asked_in validate_words ≡ report (validate core plainly (codes "d.json") (codes "p.yang" ∷ []))
 unfolding clap_on_literals
 ask_for = refl
 
@@ -51,8 +54,9 @@ is_known before after request names texts o tells same asked (inl came) =
     ∙ ap (outcome (validate core plainly (codes "d.json") (codes "p.yang" ∷ []))) (known_answers names texts came.0 answered none))
 is_known before after request names texts o tells same asked (inr none) = inr none.1
 
-pub reasons_same : (besides : Besides) (output output_after errors errors_after : Side) (given asked : Bool) (o : Outcome) (end : End) → given ≡ asked
-    → Brings output output_after errors errors_after (printed_with besides given o) end
-    → Brings output output_after errors errors_after (printed_with besides asked o) end
-reasons_same besides output output_after errors errors_after given asked o end is brings =
-    subst (λ (b : Bool). Brings output output_after errors errors_after (printed_with besides b o) end) is brings
+pub told_once : (before after : Store) (asked : Asked) (request : Request) (given wanted : Bool) (events events_after : Events) (output output_after errors errors_after : Side) (end : End)
+    → asked ≡ report request → given ≡ wanted → Does before after asked given events events_after output output_after errors errors_after end
+    → Does before after (report request) wanted events events_after output output_after errors errors_after end
+told_once before after asked request given wanted events events_after output output_after errors errors_after end is reasons does =
+    subst (λ (b : Bool). Does before after (report request) b events events_after output output_after errors errors_after end) reasons
+    (subst (λ (a : Asked). Does before after a given events events_after output output_after errors errors_after end) is does)

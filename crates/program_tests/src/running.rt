@@ -1,6 +1,6 @@
 //! One run of the program, and what it left.
 
-ghost use Rattle.std.specs.Prelude.{◌≡◌, IfOk, false, map, string_bytes};
+ghost use Rattle.std.specs.Prelude.{◌≡◌, IfOk, None, false, map, string_bytes};
 ghost use Rattle.yspec_run.specs.Output.{Besides, Outcome, printed_with};
 ghost use Rattle.ybase_output.specs.Writing.{side};
 ghost use Rattle.yapp_words.specs.Running.{Brings};
@@ -9,7 +9,8 @@ ghost use Rattle.program_tests.specs.Known.{IsKnown, contents_in, told_in, valid
 
 use std::alloc::{AllocError, Global};
 use yapp::{Ended, FileFault, Files, SavedFile, Unreadable, run};
-use ytext::{CallCount, Cut, Sink};
+use ybase_talk::{Caller, LineFault};
+use ytext::{CallCount, Cut, Sink, SinkFault};
 
 pub const MODULE: &str = "module p {
   yang-version 1.1;
@@ -135,6 +136,22 @@ impl Files for InMemory<'_> {
     }
 }
 
+/// Who asks nothing.
+#[derive(Drop)]
+pub struct Nobody;
+
+impl Caller for Nobody {
+    ghost events = { λ _. None };
+
+    fn next_line(&mut self) -> Result<Option<Vec<u8>>, LineFault> {
+        Ok(None)
+    }
+
+    fn tell(&mut self, _answer: &[u8]) -> Result<(), SinkFault> {
+        Err(SinkFault)
+    }
+}
+
 /// The words that check `d.json` under `p.yang`.
 fn validate_words(alloc: Global) -> Result<Vec<String>, AllocError>
     ensures { IfOk result (λ words. map string_bytes words.items ≡ validate_words) }
@@ -159,7 +176,7 @@ fn validate_known<O: Sink, E: Sink>(
         (side E.taken E.failures errors.old) (side E.taken E.failures errors.new) (printed_with besides false o) (end_of ended)) }
 {
     let words = validate_words(alloc)?;
-    Ok(run(alloc, &words, files, output, errors))
+    Ok(run(alloc, &words, files, &mut Nobody, output, errors))
 }
 
 /// How a side takes what is written: so many bytes a call, and perhaps a call that fails. Calls count from 1.
@@ -207,7 +224,14 @@ pub fn shown_by(
     let words = words_of(alloc, line)?;
     let mut output = side(alloc, output_way)?;
     let mut errors = side(alloc, errors_way)?;
-    let Ended { status, saved, .. } = run(alloc, &words, &mut files, &mut output, &mut errors);
+    let Ended { status, saved, .. } = run(
+        alloc,
+        &words,
+        &mut files,
+        &mut Nobody,
+        &mut output,
+        &mut errors,
+    );
     Ok(Shown {
         output,
         errors,

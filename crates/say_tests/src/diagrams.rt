@@ -1,11 +1,9 @@
 //! Diagrams of modules.
 
+use crate::modules::schema_of;
 use std::alloc::Global;
 use ybase_output::Cut;
 use ydiagram::{DiagramFault, write};
-use yschema::compile;
-use yschema_model::Schema;
-use ytext::parse;
 
 const NETWORK: &str = "module ex-net {
   yang-version 1.1;
@@ -88,17 +86,8 @@ const WITH_ADDED: &str = "module: m
         +--rw a:y?   string
 ";
 
-/// The schema of modules; nothing where memory runs out or one is refused.
-pub(crate) fn schema_of(alloc: Global, texts: &[&str]) -> Option<Schema> {
-    let mut modules = Vec::new(alloc);
-    for text in texts {
-        modules.push(parse(alloc, text.as_bytes()).ok()?).ok()?;
-    }
-    compile(alloc, &modules).ok()
-}
-
-// Whether that is the diagram of the module of a number, through a sink that takes so many bytes a call.
-fn shows(
+/// Whether that is the diagram of the module of a number, through a sink that takes so many bytes a call.
+pub(crate) fn shows(
     alloc: Global,
     texts: &[&str],
     place: usize,

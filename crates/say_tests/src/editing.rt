@@ -1,6 +1,7 @@
 //! What is said of each refused edit, and of each line that spells none.
 
 use crate::modules::{LINES, schema_of};
+use crate::rows::all_hold;
 use std::alloc::Global;
 use yinst_path::{Edit, EditCode, EditFault};
 use ysay_edit::{said_of_edit, said_of_line};
@@ -15,7 +16,7 @@ fn is_said(alloc: Global, schema: &Schema, code: EditCode, row: &str) -> Option<
 }
 
 fn are_said(alloc: Global, code: EditCode, rows: &str) -> Option<bool> {
-    let schema = schema_of(alloc, LINES)?;
+    let schema = schema_of(alloc, &[LINES])?;
     for row in rows.lines() {
         if !is_said(alloc, &schema, code, row)? {
             return Some(false);
@@ -155,9 +156,7 @@ move /net:link[1] /net:link[2] => move has one position behind its path, as in m
 
 #[test]
 fn spellings_explained(rt: HostRuntime) {
-    for row in SPELLINGS.lines() {
-        assert!(rt; is_said_of_line(rt.alloc(), row) == Some(true), "{row}");
-    }
+    all_hold(&rt, rt.alloc(), SPELLINGS, is_said_of_line);
 }
 
 fn is_said_of_bytes(alloc: Global) -> Option<bool> {

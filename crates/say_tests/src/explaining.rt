@@ -1,26 +1,15 @@
 //! What is said of each fault of a document, in order.
 
 use crate::module::{ADDED, NET};
+use crate::modules::schema_of;
+use crate::rows::all_hold;
 use std::alloc::{AllocError, Global};
 use ycheck::{Fault, faults};
 use yinst_tree::{Tree, read};
 use ysay_fault::explanation_of;
-use yschema::compile;
 use yschema_model::Schema;
-use ytext::{Module, parse};
 
-fn modules_of(alloc: Global) -> Option<Vec<Module>> {
-    let mut modules = Vec::new(alloc);
-    modules.push(parse(alloc, NET.as_bytes()).ok()?).ok()?;
-    modules.push(parse(alloc, ADDED.as_bytes()).ok()?).ok()?;
-    Some(modules)
-}
-
-pub(crate) fn schema_of(alloc: Global) -> Option<Schema> {
-    compile(alloc, &modules_of(alloc)?).ok()
-}
-
-pub(crate) fn all_explained(
+fn all_explained(
     alloc: Global,
     schema: &Schema,
     tree: &Tree,
@@ -33,18 +22,31 @@ pub(crate) fn all_explained(
     Ok(text)
 }
 
-// `document => LINE|LINE|`, each line without its indentation.
-fn is_explained(alloc: Global, row: &str) -> Option<bool> {
-    let (document, lines) = row.split_once(" => ")?;
-    let schema = schema_of(alloc)?;
-    match read(alloc, &schema, document.as_bytes()) {
+/// What is said of the faults of a document.
+pub(crate) fn explained(alloc: Global, schema: &Schema, document: &str) -> Option<String> {
+    match read(alloc, schema, document.as_bytes()) {
         Ok(tree) => {
-            let found = faults(alloc, &schema, &tree).ok()?;
-            let text = all_explained(alloc, &schema, &tree, &found).ok()?;
-            are_lines(alloc, text.as_str(), lines)
+            let found = faults(alloc, schema, &tree).ok()?;
+            all_explained(alloc, schema, &tree, &found).ok()
         }
         Err(_) => None,
     }
+}
+
+// `document => LINE|LINE|`, each line without its indentation.
+fn is_explained(alloc: Global, row: &str) -> Option<bool> {
+    let (document, lines) = row.split_once(" => ")?;
+    let schema = schema_of(alloc, &[NET, ADDED])?;
+    let text = explained(alloc, &schema, document)?;
+    are_lines(alloc, text.as_str(), lines)
+}
+
+// A line, with its indentation.
+fn push_line(text: &mut String, line: &str) -> Result<(), AllocError> {
+    for part in ["  ", line, "\n"] {
+        text.push_str(part)?;
+    }
+    Ok(())
 }
 
 // Whether a text has these lines.
@@ -52,9 +54,7 @@ fn are_lines(alloc: Global, text: &str, lines: &str) -> Option<bool> {
     let mut wanted = String::new(alloc);
     for line in lines.split('|') {
         if !line.is_empty() {
-            wanted.push_str("  ").ok()?;
-            wanted.push_str(line).ok()?;
-            wanted.push_str("\n").ok()?;
+            push_line(&mut wanted, line).ok()?;
         }
     }
     Some(text == wanted.as_str())
@@ -91,7 +91,5 @@ const ROWS: &str =
 
 #[test]
 fn faults_explained(rt: HostRuntime) {
-    for row in ROWS.lines() {
-        assert!(rt; is_explained(rt.alloc(), row) == Some(true), "{row}");
-    }
+    all_hold(&rt, rt.alloc(), ROWS, is_explained);
 }

@@ -1,6 +1,8 @@
 //! The faults of a document as lines of JSON.
 
-use crate::explaining::schema_of;
+use crate::module::{ADDED, NET};
+use crate::modules::schema_of;
+use crate::rows::all_parts_hold;
 use std::alloc::{AllocError, Global};
 use ycheck::{Fault, faults};
 use yinst_tree::{Tree, read};
@@ -23,18 +25,22 @@ fn all_lines(
     Ok(text)
 }
 
-// A line with a document, and the lines of its faults.
-fn is_formatted(alloc: Global, row: &str) -> Option<bool> {
-    let (document, lines) = row.split_once("\n")?;
-    let schema = schema_of(alloc)?;
-    match read(alloc, &schema, document.as_bytes()) {
+// The lines of the faults of a document.
+fn formatted(alloc: Global, schema: &Schema, document: &str) -> Option<String> {
+    match read(alloc, schema, document.as_bytes()) {
         Ok(tree) => {
-            let found = faults(alloc, &schema, &tree).ok()?;
-            let text = all_lines(alloc, &schema, &tree, &found).ok()?;
-            Some(text.as_str() == lines)
+            let found = faults(alloc, schema, &tree).ok()?;
+            all_lines(alloc, schema, &tree, &found).ok()
         }
         Err(_) => None,
     }
+}
+
+// A line with a document, and the lines of its faults.
+fn is_formatted(alloc: Global, row: &str) -> Option<bool> {
+    let (document, lines) = row.split_once("\n")?;
+    let schema = schema_of(alloc, &[NET, ADDED])?;
+    Some(formatted(alloc, &schema, document)?.as_str() == lines)
 }
 
 const ROWS: &str = r#"{"net:host":[{"name":"a","speed":1}]}
@@ -91,7 +97,5 @@ const ROWS: &str = r#"{"net:host":[{"name":"a","speed":1}]}
 
 #[test]
 fn lines_of_json(rt: HostRuntime) {
-    for row in ROWS.split("==\n") {
-        assert!(rt; is_formatted(rt.alloc(), row) == Some(true), "{row}");
-    }
+    all_parts_hold(&rt, rt.alloc(), ROWS, is_formatted);
 }

@@ -16,6 +16,8 @@ mod modules;
 #[cfg(test)]
 mod repeating;
 #[cfg(test)]
+mod rows;
+#[cfg(test)]
 mod saying;
 #[cfg(test)]
 mod state;

@@ -3,7 +3,7 @@
 use std::alloc::Global;
 use yschema::compile;
 use yschema_model::Schema;
-use ytext::parse;
+use ytext::{Module, parse};
 
 /// A host with items, entries and a choice, and links.
 const NET: &str = "module net {
@@ -39,17 +39,27 @@ pub(crate) const LINES: &str = "module net {
 }
 ";
 
-/// The schema of the host with what is added to its ports.
-pub(crate) fn host_schema(alloc: Global) -> Option<Schema> {
+// Puts the module of a text behind others.
+fn push_module(alloc: Global, modules: &mut Vec<Module>, text: &str) -> Option<()> {
+    modules.push(parse(alloc, text.as_bytes()).ok()?).ok()
+}
+
+/// The modules of texts; nothing where memory runs out or one is refused.
+pub(crate) fn modules_of(alloc: Global, texts: &[&str]) -> Option<Vec<Module>> {
     let mut modules = Vec::new(alloc);
-    modules.push(parse(alloc, NET.as_bytes()).ok()?).ok()?;
-    modules.push(parse(alloc, ADDED.as_bytes()).ok()?).ok()?;
+    for text in texts {
+        push_module(alloc, &mut modules, text)?;
+    }
+    Some(modules)
+}
+
+/// The schema of modules.
+pub(crate) fn schema_of(alloc: Global, texts: &[&str]) -> Option<Schema> {
+    let modules = modules_of(alloc, texts)?;
     compile(alloc, &modules).ok()
 }
 
-/// The schema of one module.
-pub(crate) fn schema_of(alloc: Global, text: &str) -> Option<Schema> {
-    let mut modules = Vec::new(alloc);
-    modules.push(parse(alloc, text.as_bytes()).ok()?).ok()?;
-    compile(alloc, &modules).ok()
+/// The schema of the host with what is added to its ports.
+pub(crate) fn host_schema(alloc: Global) -> Option<Schema> {
+    schema_of(alloc, &[NET, ADDED])
 }

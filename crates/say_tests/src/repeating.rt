@@ -1,6 +1,7 @@
 //! Members that a document, or the value of an edit, gives twice.
 
 use crate::modules::host_schema;
+use crate::rows::all_hold;
 use std::alloc::Global;
 use ybase_output::Cut;
 use ycheck::write_path;
@@ -45,9 +46,7 @@ const DOCUMENTS: &str = r#"{} => -
 
 #[test]
 fn places_of_repeated_members(rt: HostRuntime) {
-    for row in DOCUMENTS.lines() {
-        assert!(rt; is_told(rt.alloc(), row) == Some(true), "{row}");
-    }
+    all_hold(&rt, rt.alloc(), DOCUMENTS, is_told);
 }
 
 // `VALUE => yes` or `VALUE => no`
@@ -71,7 +70,5 @@ const VALUES: &str = r#"1 => no
 
 #[test]
 fn values_with_repeated_members(rt: HostRuntime) {
-    for row in VALUES.lines() {
-        assert!(rt; is_judged(rt.alloc(), row) == Some(true), "{row}");
-    }
+    all_hold(&rt, rt.alloc(), VALUES, is_judged);
 }

@@ -1,6 +1,7 @@
 //! What is said of each refused document.
 
 use crate::modules::host_schema;
+use crate::rows::all_hold;
 use std::alloc::Global;
 use yinst_tree::{DocFault, read};
 use ysay_refusal::said_of_refusal;
@@ -61,7 +62,5 @@ const ROWS: &str =
 
 #[test]
 fn refusals_explained(rt: HostRuntime) {
-    for row in ROWS.lines() {
-        assert!(rt; is_said(rt.alloc(), row) == Some(true), "{row}");
-    }
+    all_hold(&rt, rt.alloc(), ROWS, is_said);
 }

@@ -1,10 +1,12 @@
 //! What is told of state data in a configuration.
 
-use crate::explaining::schema_of;
+use crate::module::{ADDED, NET};
+use crate::modules::schema_of;
+use crate::rows::all_parts_hold;
 use std::alloc::Global;
 use ybase_output::Cut;
 use ycheck::{Fault, FaultCode, Info, write_line};
-use yinst_tree::{Step, read};
+use yinst_tree::{Step, Tree, read};
 use ysay_fault::explanation_of;
 use ysay_json::json_line;
 use yschema_model::{Schema, SchemaId};
@@ -49,24 +51,36 @@ fn fault_at(alloc: Global, schema: &Schema, place: &str) -> Option<Fault> {
     })
 }
 
+// The line of a fault.
+fn line_of(alloc: Global, schema: &Schema, fault: &Fault) -> Option<String> {
+    let mut sink = Cut::new(alloc, 4096, 4096, None).ok()?;
+    write_line(schema, fault, &mut sink).ok()?;
+    String::from_str(alloc, str::from_utf8(sink.bytes()).ok()?).ok()
+}
+
+// The line of a fault, what is said of it, and JSON.
+fn text_of(alloc: Global, schema: &Schema, tree: &Tree, fault: &Fault) -> Option<String> {
+    let mut text = line_of(alloc, schema, fault)?;
+    text.push_str(explanation_of(alloc, schema, tree, fault).ok()?.as_str())
+        .ok()?;
+    text.push_str(json_line(alloc, schema, tree, fault).ok()?.as_str())
+        .ok()?;
+    text.push_str("\n").ok()?;
+    Some(text)
+}
+
+fn text_at(alloc: Global, schema: &Schema, tree: &Tree, place: &str) -> Option<String> {
+    let fault = fault_at(alloc, schema, place)?;
+    text_of(alloc, schema, tree, &fault)
+}
+
 // A line with a document, one with a place, and what is told there: a line, what is said of it, and JSON.
 fn is_told(alloc: Global, row: &str) -> Option<bool> {
     let (document, rest) = row.split_once("\n")?;
     let (place, told) = rest.split_once("\n")?;
-    let schema = schema_of(alloc)?;
-    let fault = fault_at(alloc, &schema, place)?;
-    let mut sink = Cut::new(alloc, 4096, 4096, None).ok()?;
+    let schema = schema_of(alloc, &[NET, ADDED])?;
     match read(alloc, &schema, document.as_bytes()) {
-        Ok(tree) => {
-            write_line(&schema, &fault, &mut sink).ok()?;
-            let said = explanation_of(alloc, &schema, &tree, &fault).ok()?;
-            let json = json_line(alloc, &schema, &tree, &fault).ok()?;
-            let line = str::from_utf8(sink.bytes()).ok()?;
-            let text = [line, said.as_str(), json.as_str(), "\n"]
-                .concat(alloc)
-                .ok()?;
-            Some(text.as_str() == told)
-        }
+        Ok(tree) => Some(text_at(alloc, &schema, &tree, place)?.as_str() == told),
         Err(_) => None,
     }
 }
@@ -87,7 +101,5 @@ V12 unknown-element - /net:more/added:of -
 
 #[test]
 fn state_data(rt: HostRuntime) {
-    for row in ROWS.split("==\n") {
-        assert!(rt; is_told(rt.alloc(), row) == Some(true), "{row}");
-    }
+    all_parts_hold(&rt, rt.alloc(), ROWS, is_told);
 }

@@ -1,13 +1,12 @@
 //! What is said of a value that a type doesn't take.
 
-use crate::explaining::all_explained;
+use crate::explaining::explained;
+use crate::modules::modules_of;
+use crate::rows::all_hold;
 use std::alloc::Global;
-use ycheck::faults;
-use yinst_tree::read;
 use ylink_grammar::Language;
 use yschema::compile_in;
 use yschema_model::Schema;
-use ytext::parse;
 
 const FRONT: &str = "module t {
   yang-version 1.1; namespace \"urn:t\"; prefix t;
@@ -40,27 +39,39 @@ const OTHER: &str = "module u {
 // The schema with a leaf of this type, in a language.
 fn schema_of(alloc: Global, language: &Language, type_text: &str) -> Option<Schema> {
     let text = [FRONT, type_text, BACK].concat(alloc).ok()?;
-    let mut modules = Vec::new(alloc);
-    modules.push(parse(alloc, text.as_bytes()).ok()?).ok()?;
-    modules.push(parse(alloc, OTHER.as_bytes()).ok()?).ok()?;
+    let modules = modules_of(alloc, &[text.as_str(), OTHER])?;
     compile_in(alloc, &modules, language).ok()
 }
 
+// What is said of a document with this value.
+fn said_of(alloc: Global, language: &Language, type_text: &str, value: &str) -> Option<String> {
+    let document = ["{\"t:v\":", value, "}"].concat(alloc).ok()?;
+    let schema = schema_of(alloc, language, type_text)?;
+    explained(alloc, &schema, document.as_str())
+}
+
+// Whether that is what is said of the leaf.
+fn is_sentence(alloc: Global, text: &str, sentence: &str) -> Option<bool> {
+    let wanted = ["  /t:v: ", sentence, "\n"].concat(alloc).ok()?;
+    Some(text == wanted.as_str())
+}
+
 // `type => value => what is said`, the value as JSON.
-fn is_told(alloc: Global, language: &Language, row: &str) -> Option<bool> {
+fn is_told_in(alloc: Global, language: &Language, row: &str) -> Option<bool> {
     let (type_text, told) = row.split_once(" => ")?;
     let (value, sentence) = told.split_once(" => ")?;
-    let schema = schema_of(alloc, language, type_text)?;
-    let document = ["{\"t:v\":", value, "}"].concat(alloc).ok()?;
-    match read(alloc, &schema, document.as_bytes()) {
-        Ok(tree) => {
-            let found = faults(alloc, &schema, &tree).ok()?;
-            let text = all_explained(alloc, &schema, &tree, &found).ok()?;
-            let wanted = ["  /t:v: ", sentence, "\n"].concat(alloc).ok()?;
-            Some(text.as_str() == wanted.as_str())
-        }
-        Err(_) => None,
-    }
+    let text = said_of(alloc, language, type_text, value)?;
+    is_sentence(alloc, text.as_str(), sentence)
+}
+
+// The same under the core.
+fn is_told(alloc: Global, row: &str) -> Option<bool> {
+    is_told_in(alloc, &Language::Core, row)
+}
+
+// The same in the wide language.
+fn is_told_widely(alloc: Global, row: &str) -> Option<bool> {
+    is_told_in(alloc, &Language::rfc_with(Vec::new(alloc)), row)
 }
 
 const ROWS: &str =
@@ -114,12 +125,7 @@ union { type uint8; type identityref { base shape; } type identityref { base odd
 
 #[test]
 fn values_of_types(rt: HostRuntime) {
-    for row in ROWS.lines() {
-        assert!(rt;
-            is_told(rt.alloc(), &Language::Core, row) == Some(true),
-            "{row}"
-        );
-    }
+    all_hold(&rt, rt.alloc(), ROWS, is_told);
 }
 
 const EXPRESSIONS: &str =
@@ -131,10 +137,7 @@ union { type string { pattern "[a-z]+"; pattern "..?"; } type empty; } => "abc" 
 
 #[test]
 fn texts_with_expressions(rt: HostRuntime) {
-    let language = Language::rfc_with(Vec::new(rt.alloc()));
-    for row in EXPRESSIONS.lines() {
-        assert!(rt; is_told(rt.alloc(), &language, row) == Some(true), "{row}");
-    }
+    all_hold(&rt, rt.alloc(), EXPRESSIONS, is_told_widely);
 }
 
 const OCTETS: &str =
@@ -148,10 +151,7 @@ binary { length "3" { error-message "Three."; } } => "Zm8=" => "Zm8=" isn't a va
 
 #[test]
 fn octets(rt: HostRuntime) {
-    let language = Language::rfc_with(Vec::new(rt.alloc()));
-    for row in OCTETS.lines() {
-        assert!(rt; is_told(rt.alloc(), &language, row) == Some(true), "{row}");
-    }
+    all_hold(&rt, rt.alloc(), OCTETS, is_told_widely);
 }
 
 const NAMES: &str =
@@ -161,8 +161,5 @@ speed { bit slow; bit fast; } => "fast half" => "fast half" isn't a value of spe
 
 #[test]
 fn names_that_are_left(rt: HostRuntime) {
-    let language = Language::rfc_with(Vec::new(rt.alloc()));
-    for row in NAMES.lines() {
-        assert!(rt; is_told(rt.alloc(), &language, row) == Some(true), "{row}");
-    }
+    all_hold(&rt, rt.alloc(), NAMES, is_told_widely);
 }

@@ -1,9 +1,8 @@
 //! The column of types: names as `type` statements have them, and the paths of leafrefs (RFC 8340, 2.6).
 
-use crate::diagrams::schema_of;
+use crate::diagrams::shows;
+use crate::rows::all_hold;
 use std::alloc::Global;
-use ybase_output::Cut;
-use ydiagram::write;
 
 const BEGINNING: &str = "module m {
   yang-version 1.1;
@@ -28,12 +27,13 @@ fn is_shown(alloc: Global, row: &str) -> Option<bool> {
     let (shown, type_text) = row.split_once(" = ")?;
     let module = format!(in alloc; "{}{type_text} }}\n}}\n", BEGINNING).ok()?;
     let wanted = format!(in alloc; "module: m\n  +--rw b?   string\n  +--rw a?   {shown}\n").ok()?;
-    let schema = schema_of(alloc, &[module.as_str(), IMPORTED])?;
-    let mut sink = Cut::new(alloc, 4096, 4096, None).ok()?;
-    match write(&schema, 0, &mut sink) {
-        Ok(()) => Some(sink.bytes() == wanted.as_bytes()),
-        Err(_) => Some(false),
-    }
+    shows(
+        alloc,
+        &[module.as_str(), IMPORTED],
+        0,
+        4096,
+        wanted.as_str(),
+    )
 }
 
 #[test]
@@ -49,7 +49,5 @@ union = union { type t; type o:t; }
 -> /b = leafref { path /b; }
 leafref-of-b = leafref-of-b;
 m:leafref-of-b = m:leafref-of-b;";
-    for row in rows.lines() {
-        assert!(rt; is_shown(rt.alloc(), row) == Some(true), "{row:?}");
-    }
+    all_hold(&rt, rt.alloc(), rows, is_shown);
 }

@@ -1,5 +1,6 @@
 //! Documents that are read, put into a store, changed there, and copied back.
 
+use crate::rows::all_hold;
 use crate::stores::hang;
 use std::alloc::Global;
 use test_modules::{ENTRIES, MODULE, NETWORK, STATE};
@@ -51,24 +52,18 @@ fn plain_documents(rt: HostRuntime) {
 {"p:c":{"id":7}} => 2
 {"p:c":{"note":"x\n"}} => 2
 {"p:c":{"id":[null],"note":true}} => 3"#;
-    for row in rows.lines() {
-        assert!(rt;
-            comes_back(rt.alloc(), MODULE, row) == Some(true),
-            "{row:?}"
-        );
-    }
+    all_hold(&rt, rt.alloc(), rows, |alloc, row| {
+        comes_back(alloc, MODULE, row)
+    });
 }
 
 #[test]
 fn documents_with_entries(rt: HostRuntime) {
     let rows = r#"{"v:e":[{"id":2,"in":{"x":"a"},"m":[1,1,2]},{"id":1},{"id":1}]} => 11
 {"v:e":[{"in":{}},{"m":[3,2]}]} => 5"#;
-    for row in rows.lines() {
-        assert!(rt;
-            comes_back(rt.alloc(), ENTRIES, row) == Some(true),
-            "{row:?}"
-        );
-    }
+    all_hold(&rt, rt.alloc(), rows, |alloc, row| {
+        comes_back(alloc, ENTRIES, row)
+    });
     let state = r#"{"w:c":{"tag":["b","a","b"],"up":true},"w:log":[{"at":"1"},{"at":"1"}]} => 9"#;
     assert!(rt; comes_back(rt.alloc(), STATE, state) == Some(true));
 }

@@ -8,4 +8,6 @@ mod held;
 #[cfg(test)]
 mod memory;
 #[cfg(test)]
+mod rows;
+#[cfg(test)]
 mod stores;

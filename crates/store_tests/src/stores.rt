@@ -128,345 +128,380 @@ pub(crate) fn container(counted: &mut Counted<'_>) -> Option<NodeId> {
     Some(above)
 }
 
-// Two leafs of one schema node, and one of a later one, which is hung first.
-fn leafs(counted: &mut Counted<'_>, row: Row) -> Option<(NodeId, NodeId, NodeId)> {
-    let second = leaf(counted, SECOND, "b", row)?;
-    let first = leaf(counted, FIRST, "a", row)?;
-    let other = insert(counted, FIRST, None, row, 0)?;
-    hang(counted, row, SECOND, second)?;
-    hang(counted, row, FIRST, first)?;
-    hang(counted, row, FIRST, other)?;
-    Some((first, other, second))
+fn number_of(word: &str) -> Option<usize> {
+    word.parse::<usize>().ok()
 }
 
-fn are_hung(counted: &mut Counted<'_>, above: NodeId, first: NodeId, second: NodeId) -> bool {
-    let row = Row::Below(above);
-    counted.node_count() == 4
-        && counted.child(Row::Top, 0) == Some(above)
-        && counted.child(row, 0) == Some(first)
-        && counted.child(row, 2) == Some(second)
-        && counted.child(row, 3) == None
-}
-
-fn are_placed(counted: &mut Counted<'_>, row: Row, other: NodeId, second: NodeId) -> bool {
-    counted.child_of(row, FIRST, 1) == Some(other)
-        && counted.child_of(row, FIRST, 2) == None
-        && counted.count_of(row, FIRST) == 2
-        && counted.place_near(row, FIRST, other, 0) == 1
-        && counted.place_near(row, FIRST, second, 1) == 2
-        && counted.place_near(row, SECOND, second, 7) == 0
-}
-
-fn is_labelled(counted: &mut Counted<'_>, row: Row, first: NodeId) -> bool {
-    counted.schema(first) == Some(FIRST)
-        && counted.parent(first) == Some(row)
-        && matches!(counted.value(first), Some(Raw::Text(value)) if value.as_str() == "a")
-}
-
-// Moves the first, and puts another in the place of the one that is then in front.
-fn are_moved(
-    counted: &mut Counted<'_>,
-    row: Row,
-    first: NodeId,
-    other: NodeId,
-    second: NodeId,
-) -> bool {
-    counted.move_child_at(row, FIRST, 0, 1);
-    let moved = counted.child(row, 1) == Some(first);
-    counted.put_child(row, FIRST, other, second);
-    moved && counted.child(row, 0) == Some(second)
-}
-
-fn is_gone(counted: &mut Counted<'_>, row: Row, first: NodeId) -> bool {
-    counted.take_child_at(row, FIRST, 1);
-    counted.remove(first);
-    counted.count_of(row, FIRST) == 1 && counted.schema(first) == None && counted.node_count() == 3
-}
-
-fn rows_in(counted: &mut Counted<'_>) -> Option<bool> {
-    counted.reserve_nodes(4).ok()?;
-    let above = container(counted)?;
-    let row = Row::Below(above);
-    let (first, other, second) = leafs(counted, row)?;
-    Some(
-        are_hung(counted, above, first, second)
-            && are_placed(counted, row, other, second)
-            && is_labelled(counted, row, first)
-            && are_moved(counted, row, first, other, second)
-            && is_gone(counted, row, first),
-    )
-}
-
-// A row is read as it was made, also once its nodes moved, came and went.
-pub(crate) fn rows(alloc: Global) -> Option<bool> {
-    let mut nodes = Nodes::new(alloc);
-    let mut counted = nodes.counted();
-    rows_in(&mut counted)
-}
-
-// Whether these stand at the top, in this order, and none behind them.
-fn are_at_top(counted: &mut Counted<'_>, nodes: &[NodeId]) -> bool {
-    for place in 0..nodes.len() {
-        if counted.child(Row::Top, place) != Some(nodes[place]) {
-            return false;
-        }
+// The node of a number, in the order in which they were made.
+fn node_of(made: &[NodeId], word: &str) -> Option<NodeId> {
+    match made.get(number_of(word)?) {
+        Some(node) => Some(*node),
+        None => None,
     }
-    counted.child_count(Row::Top) == nodes.len()
 }
 
-// Whether these stand at the top once one is moved.
-fn moves(counted: &mut Counted<'_>, from: usize, to: usize, nodes: &[NodeId]) -> bool {
-    counted.move_child_at(Row::Top, FIRST, from, to);
-    are_at_top(counted, nodes)
+// `top`, or the row below a node.
+fn row_of(made: &[NodeId], word: &str) -> Option<Row> {
+    if word == "top" {
+        return Some(Row::Top);
+    }
+    Some(Row::Below(node_of(made, word)?))
 }
 
-// Whether these stand at the top once one is taken out.
-fn takes(counted: &mut Counted<'_>, place: usize, nodes: &[NodeId]) -> bool {
-    counted.take_child_at(Row::Top, FIRST, place);
-    are_at_top(counted, nodes)
+// What stands behind the word of a step: a row, a schema node, and two words more.
+#[derive(Clone, Copy)]
+struct Given<'a> {
+    row: Row,
+    schema: SchemaId,
+    first: &'a str,
+    second: &'a str,
 }
 
-// Whether these stand at the top once one is hung at a place.
-fn hangs(counted: &mut Counted<'_>, node: NodeId, place: usize, nodes: &[NodeId]) -> Option<bool> {
-    hang_at(counted, Row::Top, FIRST, node, place)?;
-    Some(are_at_top(counted, nodes))
+fn given_of<'a>(made: &[NodeId], words: &'a str) -> Option<Given<'a>> {
+    let (row, rest) = words.split_once(' ')?;
+    let (schema, rest) = rest.split_once(' ')?;
+    let (first, second) = rest.split_once(' ')?;
+    Some(Given {
+        row: row_of(made, row)?,
+        schema: SchemaId(schema.parse::<u32>().ok()?),
+        first,
+        second,
+    })
 }
 
-// Three nodes of one schema node, and one of a later one, which is hung first.
-fn four(counted: &mut Counted<'_>) -> Option<(NodeId, NodeId, NodeId, NodeId)> {
-    let second = insert(counted, SECOND, None, Row::Top, 0)?;
-    let (a, b) = two(counted)?;
-    let c = insert(counted, FIRST, None, Row::Top, 0)?;
-    hang(counted, Row::Top, SECOND, second)?;
-    hang(counted, Row::Top, FIRST, a)?;
-    hang(counted, Row::Top, FIRST, b)?;
-    hang(counted, Row::Top, FIRST, c)?;
-    Some((a, b, c, second))
+// Inserts a node with a text, or with none for `-`.
+fn makes(counted: &mut Counted<'_>, made: &mut Vec<NodeId>, given: Given<'_>) -> Option<()> {
+    let node = match given.first {
+        "-" => insert(counted, given.schema, None, given.row, 0)?,
+        of => leaf(counted, given.schema, of, given.row)?,
+    };
+    made.push(node).ok()
 }
 
-// Nothing stands at these places.
-fn none_taken(counted: &mut Counted<'_>, nodes: &[NodeId]) -> bool {
-    counted.take_child_at(Row::Top, FIRST, 3);
-    counted.take_child_at(Row::Top, CONTAINER, 0);
-    counted.move_child_at(Row::Top, CONTAINER, 0, 0);
-    are_at_top(counted, nodes)
+// A node is hung, or stands in the place of another.
+fn hangs(counted: &mut Counted<'_>, made: &[NodeId], word: &str, given: Given<'_>) -> Option<()> {
+    let (row, schema) = (given.row, given.schema);
+    let node = node_of(made, given.first)?;
+    match word {
+        "hang" => hang(counted, row, schema, node),
+        "hang-at" => hang_at(counted, row, schema, node, number_of(given.second)?),
+        "put" => {
+            counted.put_child(row, schema, node, node_of(made, given.second)?);
+            Some(())
+        }
+        "remove" => {
+            counted.remove(node);
+            Some(())
+        }
+        _ => None,
+    }
 }
 
-fn places_in(counted: &mut Counted<'_>) -> Option<bool> {
-    let (a, b, c, second) = four(counted)?;
-    Some(
-        none_taken(counted, &[a, b, c, second])
-            && moves(counted, 9, 0, &[c, a, b, second])
-            && moves(counted, 0, 9, &[a, b, c, second])
-            && takes(counted, 1, &[a, c, second]),
-    )
+// What stands at a place is moved or taken out.
+fn changes(counted: &mut Counted<'_>, made: &[NodeId], word: &str, given: Given<'_>) -> Option<()> {
+    let (row, schema) = (given.row, given.schema);
+    match word {
+        "reserve" => counted.reserve_nodes(number_of(given.first)?).ok(),
+        "move" => {
+            let to = number_of(given.second)?;
+            counted.move_child_at(row, schema, number_of(given.first)?, to);
+            Some(())
+        }
+        "take" => {
+            counted.take_child_at(row, schema, number_of(given.first)?);
+            Some(())
+        }
+        "take-last" => {
+            counted.take_last_child(row, schema);
+            Some(())
+        }
+        _ => hangs(counted, made, word, given),
+    }
 }
 
-// What stands at a place is taken out or moved; where none stands there nothing is taken, and the last is moved.
-pub(crate) fn places(alloc: Global) -> Option<bool> {
-    let mut nodes = Nodes::new(alloc);
-    let mut counted = nodes.counted();
-    places_in(&mut counted)
+// Whether that is the node of a word, or none for `-`.
+fn is_node(made: &[NodeId], found: Option<NodeId>, word: &str) -> Option<bool> {
+    match found {
+        Some(node) => Some(word != "-" && node_of(made, word)? == node),
+        None => Some(word == "-"),
+    }
+}
+
+// Whether these stand in a row, in this order, and none behind them.
+fn are_children(counted: &mut Counted<'_>, made: &[NodeId], row: Row, words: &str) -> Option<bool> {
+    let mut place = 0usize;
+    for word in words.split(' ') {
+        let found = counted.child(row, place);
+        if !is_node(made, found, word)? {
+            return Some(false);
+        }
+        place = place.saturating_add(1);
+    }
+    Some(counted.child_count(row) == place)
 }
 
 // The place of a node among those of its schema node in a row, looked for from where it was put.
-fn place_in(counted: &mut Counted<'_>, row: Row, node: NodeId) -> usize {
+fn place_in(counted: &mut Counted<'_>, row: Row, schema: SchemaId, node: NodeId) -> usize {
     let near = counted.place_put(node);
-    counted.place_near(row, FIRST, node, near)
+    counted.place_near(row, schema, node, near)
 }
 
-// Two nodes come in front of two.
-fn are_pushed(
+// What is told by a number.
+fn number_told(
     counted: &mut Counted<'_>,
-    a: NodeId,
-    b: NodeId,
-    c: NodeId,
-    d: NodeId,
+    made: &[NodeId],
+    word: &str,
+    given: Given<'_>,
+) -> Option<usize> {
+    let (row, schema) = (given.row, given.schema);
+    match word {
+        "nodes" => Some(counted.node_count()),
+        "count-of" => Some(counted.count_of(row, schema)),
+        "near" => {
+            let near = number_of(given.second)?;
+            Some(counted.place_near(row, schema, node_of(made, given.first)?, near))
+        }
+        "placed" => Some(place_in(counted, row, schema, node_of(made, given.first)?)),
+        _ => None,
+    }
+}
+
+// Whether the schema node of a node is that of a number, or none for `-`.
+fn is_schema(found: Option<SchemaId>, word: &str) -> Option<bool> {
+    match found {
+        Some(id) => Some(word != "-" && word.parse::<u32>().ok()? == id.0),
+        None => Some(word == "-"),
+    }
+}
+
+// Whether this is told of a node.
+fn is_labelled(
+    counted: &mut Counted<'_>,
+    made: &[NodeId],
+    word: &str,
+    node: NodeId,
+    told: &str,
 ) -> Option<bool> {
-    hang_at(counted, Row::Top, FIRST, c, 0)?;
-    hang_at(counted, Row::Top, FIRST, d, 0)?;
-    Some(
-        place_in(counted, Row::Top, a) == 2
-            && place_in(counted, Row::Top, b) == 3
-            && place_in(counted, Row::Top, c) == 1,
-    )
+    match word {
+        "schema" => is_schema(counted.schema(node), told),
+        "parent" => Some(counted.parent(node)? == row_of(made, told)?),
+        "value" => {
+            Some(matches!(counted.value(node), Some(Raw::Text(value)) if value.as_str() == told))
+        }
+        _ => None,
+    }
 }
 
-// The last of four comes in front of all.
-fn are_shifted(counted: &mut Counted<'_>, a: NodeId, b: NodeId) -> bool {
-    counted.move_child_at(Row::Top, FIRST, 3, 0);
-    place_in(counted, Row::Top, b) == 0 && place_in(counted, Row::Top, a) == 3
+// Whether this is told of a row or of a node.
+fn is_answered(
+    counted: &mut Counted<'_>,
+    made: &[NodeId],
+    word: &str,
+    given: Given<'_>,
+    told: &str,
+) -> Option<bool> {
+    let (row, schema) = (given.row, given.schema);
+    match word {
+        "row" => are_children(counted, made, row, told),
+        "child" => {
+            let found = counted.child(row, number_of(given.first)?);
+            is_node(made, found, told)
+        }
+        "child-of" => {
+            let found = counted.child_of(row, schema, number_of(given.first)?);
+            is_node(made, found, told)
+        }
+        "schema" | "parent" | "value" => {
+            is_labelled(counted, made, word, node_of(made, given.first)?, told)
+        }
+        _ => Some(number_told(counted, made, word, given)? == number_of(told)?),
+    }
 }
 
-// The two in front go.
-fn are_pulled(counted: &mut Counted<'_>, a: NodeId, b: NodeId, c: NodeId) -> bool {
-    counted.take_child_at(Row::Top, FIRST, 0);
-    counted.take_child_at(Row::Top, FIRST, 0);
-    place_in(counted, Row::Top, a) == 1
-        && place_in(counted, Row::Top, c) == 0
-        && place_in(counted, Row::Top, b) == 2
-        && place_in(counted, Row::Below(a), b) == 0
+// `WORD ROW SCHEMA FIRST SECOND`, of a question with ` => ANSWER` behind it.
+fn goes(counted: &mut Counted<'_>, made: &mut Vec<NodeId>, line: &str) -> Option<bool> {
+    let (word, rest) = line.split_once(' ')?;
+    match rest.split_once(" => ") {
+        Some((words, told)) => {
+            let given = given_of(made, words)?;
+            is_answered(counted, made, word, given, told)
+        }
+        None => {
+            let given = given_of(made, rest)?;
+            match word {
+                "insert" => makes(counted, made, given)?,
+                _ => changes(counted, made, word, given)?,
+            }
+            Some(true)
+        }
+    }
 }
 
-fn found_places_in(counted: &mut Counted<'_>) -> Option<bool> {
-    let (a, b) = two(counted)?;
-    let (c, d) = two(counted)?;
-    hang(counted, Row::Top, FIRST, a)?;
-    hang(counted, Row::Top, FIRST, b)?;
-    let put = place_in(counted, Row::Top, b) == 1;
-    let pushed = are_pushed(counted, a, b, c, d)?;
-    Some(put && pushed && are_shifted(counted, a, b) && are_pulled(counted, a, b, c))
+fn goes_on(counted: &mut Counted<'_>, made: &mut Vec<NodeId>, lines: &str) -> Option<bool> {
+    for line in lines.lines() {
+        if !goes(counted, made, line)? {
+            return Some(false);
+        }
+    }
+    Some(true)
 }
+
+fn runs_in(counted: &mut Counted<'_>, lines: &str) -> Option<bool> {
+    let mut made = Vec::new(counted.alloc());
+    goes_on(counted, &mut made, lines)
+}
+
+// Whether each line of steps goes as it says, each after the ones before it. Nothing for want of memory.
+fn runs(alloc: Global, lines: &str) -> Option<bool> {
+    let mut nodes = Nodes::new(alloc);
+    let mut counted = nodes.counted();
+    runs_in(&mut counted, lines)
+}
+
+// A container; below it two leafs of one schema node, and one of a later one, which is hung first. A row is read as it was made,
+// also once its nodes moved, came and went.
+const ROWS: &str = "reserve top 0 4 -
+insert top 1 - -
+hang top 1 0 -
+insert 0 3 b -
+insert 0 2 a -
+insert 0 2 - -
+hang 0 3 1 -
+hang 0 2 2 -
+hang 0 2 3 -
+nodes top 0 - - => 4
+child top 0 0 - => 0
+child 0 0 0 - => 2
+child 0 0 2 - => 1
+child 0 0 3 - => -
+child-of 0 2 1 - => 3
+child-of 0 2 2 - => -
+count-of 0 2 - - => 2
+near 0 2 3 0 => 1
+near 0 2 1 1 => 2
+near 0 3 1 7 => 0
+schema top 0 2 - => 2
+parent top 0 2 - => 0
+value top 0 2 - => a
+move 0 2 0 1
+child 0 0 1 - => 2
+put 0 2 3 1
+child 0 0 0 - => 1
+take 0 2 1 -
+remove top 0 2 -
+count-of 0 2 - - => 1
+schema top 0 2 - => -
+nodes top 0 - - => 3";
+
+pub(crate) fn rows(alloc: Global) -> Option<bool> {
+    runs(alloc, ROWS)
+}
+
+// Three nodes of one schema node, and one of a later one, which is hung first. What stands at a place is taken out or moved; where
+// none stands there nothing is taken, and the last is moved.
+const PLACES: &str = "insert top 3 - -
+insert top 2 - -
+insert top 2 - -
+insert top 2 - -
+hang top 3 0 -
+hang top 2 1 -
+hang top 2 2 -
+hang top 2 3 -
+take top 2 3 -
+take top 1 0 -
+move top 1 0 0
+row top 0 - - => 1 2 3 0
+move top 2 9 0
+row top 0 - - => 3 1 2 0
+move top 2 0 9
+row top 0 - - => 1 2 3 0
+take top 2 1 -
+row top 0 - - => 1 3 0";
 
 // A node is found where it stands, also once others came, went and moved before it.
-pub(crate) fn found_places(alloc: Global) -> Option<bool> {
-    let mut nodes = Nodes::new(alloc);
-    let mut counted = nodes.counted();
-    found_places_in(&mut counted)
-}
+const FOUND_PLACES: &str = "insert top 2 - -
+insert top 2 - -
+insert top 2 - -
+insert top 2 - -
+hang top 2 0 -
+hang top 2 1 -
+placed top 2 1 - => 1
+hang-at top 2 2 0
+hang-at top 2 3 0
+placed top 2 0 - => 2
+placed top 2 1 - => 3
+placed top 2 2 - => 1
+move top 2 3 0
+placed top 2 1 - => 0
+placed top 2 0 - => 3
+take top 2 0 -
+take top 2 0 -
+placed top 2 0 - => 1
+placed top 2 2 - => 0
+placed top 2 1 - => 2
+placed 0 2 1 - => 0";
 
-// One node stands at both ends of a row, and between them three times another.
-fn repeated(counted: &mut Counted<'_>) -> Option<(NodeId, NodeId)> {
-    let (a, b) = two(counted)?;
-    hang(counted, Row::Top, FIRST, a)?;
-    hang(counted, Row::Top, FIRST, b)?;
-    hang(counted, Row::Top, FIRST, b)?;
-    hang(counted, Row::Top, FIRST, b)?;
-    hang(counted, Row::Top, FIRST, a)?;
-    Some((a, b))
-}
-
-fn are_ends_near(counted: &mut Counted<'_>, a: NodeId) -> bool {
-    counted.place_near(Row::Top, FIRST, a, 0) == 0
-        && counted.place_near(Row::Top, FIRST, a, 1) == 0
-        && counted.place_near(Row::Top, FIRST, a, 2) == 0
-        && counted.place_near(Row::Top, FIRST, a, 3) == 4
-        && counted.place_near(Row::Top, FIRST, a, 9) == 4
-}
-
-fn are_others_near(counted: &mut Counted<'_>, b: NodeId) -> bool {
-    counted.place_near(Row::Top, FIRST, b, 0) == 1
-        && counted.place_near(Row::Top, FIRST, b, 9) == 3
-        && counted.place_near(Row::Top, SECOND, b, 0) == 0
-}
-
-fn next_places_in(counted: &mut Counted<'_>) -> Option<bool> {
-    let (a, b) = repeated(counted)?;
-    Some(are_ends_near(counted, a) && are_others_near(counted, b))
-}
-
-// Of a node that stands in a row more than once the place is found that is next to another, and of two as near the one before it.
-pub(crate) fn next_places(alloc: Global) -> Option<bool> {
-    let mut nodes = Nodes::new(alloc);
-    let mut counted = nodes.counted();
-    next_places_in(&mut counted)
-}
-
-// Two nodes in front that are hung at once, of five.
-fn five(counted: &mut Counted<'_>) -> Option<(NodeId, NodeId, NodeId, NodeId, NodeId)> {
-    let (a, b) = two(counted)?;
-    let (c, d) = two(counted)?;
-    let e = insert(counted, FIRST, None, Row::Top, 0)?;
-    hang(counted, Row::Top, FIRST, a)?;
-    hang(counted, Row::Top, FIRST, b)?;
-    hang(counted, Row::Top, FIRST, c)?;
-    hang(counted, Row::Top, FIRST, d)?;
-    hang(counted, Row::Top, FIRST, e)?;
-    Some((a, b, c, d, e))
-}
-
-// Whether these stand at the top once two in front are taken out.
-fn takes_two(counted: &mut Counted<'_>, nodes: &[NodeId]) -> bool {
-    counted.take_child_at(Row::Top, FIRST, 0);
-    takes(counted, 0, nodes)
-}
-
-// Whether these stand at the top once one is taken out, and another is moved to the front.
-fn takes_and_moves(counted: &mut Counted<'_>, nodes: &[NodeId]) -> bool {
-    counted.take_child_at(Row::Top, FIRST, 1);
-    moves(counted, 3, 0, nodes)
-}
-
-// Whether these stand at the top once one is hung behind all, and another put in its own place.
-fn hangs_and_puts(
-    counted: &mut Counted<'_>,
-    last: NodeId,
-    same: NodeId,
-    nodes: &[NodeId],
-) -> Option<bool> {
-    hang_at(counted, Row::Top, FIRST, last, 9)?;
-    counted.put_child(Row::Top, FIRST, same, same);
-    Some(are_at_top(counted, nodes))
-}
-
-fn ways_made_in(counted: &mut Counted<'_>) -> Option<bool> {
-    let (a, b, c, d, e) = five(counted)?;
-    let taken = takes_two(counted, &[c, d, e]);
-    let between = hangs(counted, a, 1, &[c, a, d, e])?;
-    let before = hangs(counted, b, 0, &[b, c, a, d, e])?;
-    let moved = takes_and_moves(counted, &[e, b, a, d]);
-    let behind = hangs_and_puts(counted, c, a, &[e, b, a, d, c])?;
-    Some(taken && between && before && moved && behind)
-}
+// One node stands at both ends of a row, and between them three times another. Of a node that stands in a row more than once the
+// place is found that is next to another, and of two as near the one before it.
+const NEXT_PLACES: &str = "insert top 2 - -
+insert top 2 - -
+hang top 2 0 -
+hang top 2 1 -
+hang top 2 1 -
+hang top 2 1 -
+hang top 2 0 -
+near top 2 0 0 => 0
+near top 2 0 1 => 0
+near top 2 0 2 => 0
+near top 2 0 3 => 4
+near top 2 0 9 => 4
+near top 2 1 0 => 1
+near top 2 1 9 => 3
+near top 3 1 0 => 0";
 
 // Nodes come and go at both ends of a row and in it, more than once; the shorter side makes way for each.
-pub(crate) fn ways_made(alloc: Global) -> Option<bool> {
-    let mut nodes = Nodes::new(alloc);
-    let mut counted = nodes.counted();
-    ways_made_in(&mut counted)
-}
-
-// Two nodes of one schema node, and one of a later one, which is hung first.
-fn three(counted: &mut Counted<'_>) -> Option<(NodeId, NodeId, NodeId)> {
-    counted.reserve_nodes(3).ok()?;
-    let (first, other) = two(counted)?;
-    let second = insert(counted, SECOND, None, Row::Top, 0)?;
-    hang(counted, Row::Top, SECOND, second)?;
-    hang(counted, Row::Top, FIRST, first)?;
-    hang_at(counted, Row::Top, FIRST, other, 0)?;
-    Some((first, other, second))
-}
-
-fn are_three(counted: &mut Counted<'_>, first: NodeId, other: NodeId, second: NodeId) -> bool {
-    counted.child(Row::Top, 0) == Some(other)
-        && counted.child(Row::Top, 1) == Some(first)
-        && counted.child(Row::Top, 2) == Some(second)
-}
-
-fn is_last_taken(counted: &mut Counted<'_>, other: NodeId, second: NodeId) -> bool {
-    counted.take_last_child(Row::Top, FIRST);
-    counted.child(Row::Top, 0) == Some(other)
-        && counted.child(Row::Top, 1) == Some(second)
-        && counted.child(Row::Top, 2) == None
-}
-
-fn is_back(counted: &mut Counted<'_>, first: NodeId, second: NodeId) -> Option<bool> {
-    hang_at(counted, Row::Top, FIRST, first, 7)?;
-    Some(counted.child(Row::Top, 1) == Some(first) && counted.child(Row::Top, 2) == Some(second))
-}
-
-fn is_one_left(counted: &mut Counted<'_>, second: NodeId) -> bool {
-    counted.take_last_child(Row::Top, CONTAINER);
-    counted.take_last_child(Row::Top, FIRST);
-    counted.take_last_child(Row::Top, FIRST);
-    counted.take_last_child(Row::Top, FIRST);
-    counted.child(Row::Top, 0) == Some(second) && counted.child(Row::Top, 1) == None
-}
-
-fn last_children_in(counted: &mut Counted<'_>) -> Option<bool> {
-    let (first, other, second) = three(counted)?;
-    let before = are_three(counted, first, other, second);
-    let taken = is_last_taken(counted, other, second);
-    let behind = is_back(counted, first, second)?;
-    Some(before && taken && behind && is_one_left(counted, second))
-}
+const WAYS_MADE: &str = "insert top 2 - -
+insert top 2 - -
+insert top 2 - -
+insert top 2 - -
+insert top 2 - -
+hang top 2 0 -
+hang top 2 1 -
+hang top 2 2 -
+hang top 2 3 -
+hang top 2 4 -
+take top 2 0 -
+take top 2 0 -
+row top 0 - - => 2 3 4
+hang-at top 2 0 1
+row top 0 - - => 2 0 3 4
+hang-at top 2 1 0
+row top 0 - - => 1 2 0 3 4
+take top 2 1 -
+move top 2 3 0
+row top 0 - - => 4 1 0 3
+hang-at top 2 2 9
+put top 2 0 0
+row top 0 - - => 4 1 0 3 2";
 
 // The last node of a schema node is taken out of a row, and none where there is none; one that comes back stands at its place.
-pub(crate) fn last_children(alloc: Global) -> Option<bool> {
-    let mut nodes = Nodes::new(alloc);
-    let mut counted = nodes.counted();
-    last_children_in(&mut counted)
-}
+const LAST_CHILDREN: &str = "reserve top 0 3 -
+insert top 2 - -
+insert top 2 - -
+insert top 3 - -
+hang top 3 2 -
+hang top 2 0 -
+hang-at top 2 1 0
+row top 0 - - => 1 0 2
+take-last top 2 - -
+row top 0 - - => 1 2
+hang-at top 2 0 7
+row top 0 - - => 1 0 2
+take-last top 1 - -
+take-last top 2 - -
+take-last top 2 - -
+take-last top 2 - -
+row top 0 - - => 2";
 
 fn tell(counted: &mut Counted<'_>) -> Option<NodeId> {
     let node = leaf(counted, FIRST, "a", Row::Top)?;
@@ -586,14 +621,19 @@ pub(crate) fn keys(alloc: Global) -> Option<bool> {
 }
 
 #[test]
-fn all_calls(rt: HostRuntime) {
+fn steps(rt: HostRuntime) {
     let alloc = rt.alloc();
     assert!(rt; rows(alloc) == Some(true));
-    assert!(rt; places(alloc) == Some(true));
-    assert!(rt; found_places(alloc) == Some(true));
-    assert!(rt; next_places(alloc) == Some(true));
-    assert!(rt; ways_made(alloc) == Some(true));
-    assert!(rt; last_children(alloc) == Some(true));
+    assert!(rt; runs(alloc, PLACES) == Some(true));
+    assert!(rt; runs(alloc, FOUND_PLACES) == Some(true));
+    assert!(rt; runs(alloc, NEXT_PLACES) == Some(true));
+    assert!(rt; runs(alloc, WAYS_MADE) == Some(true));
+    assert!(rt; runs(alloc, LAST_CHILDREN) == Some(true));
+}
+
+#[test]
+fn all_calls(rt: HostRuntime) {
+    let alloc = rt.alloc();
     assert!(rt; told(alloc) == Some(true));
     assert!(rt; keys(alloc) == Some(true));
 }

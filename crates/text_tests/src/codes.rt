@@ -1,5 +1,6 @@
 //! What is said of each code, and of what is none.
 
+use crate::rows::all_hold;
 use std::alloc::Global;
 use ybase_output::Cut;
 use ysay_codes::{
@@ -33,8 +34,9 @@ fn sentences(rt: HostRuntime) {
     );
 }
 
-// Whether a failing call ends it, with a beginning taken.
-fn breaks(alloc: Global, call: u64) -> Option<bool> {
+// Whether the call of this number, failing, ends it, with a beginning taken.
+fn breaks(alloc: Global, row: &str) -> Option<bool> {
+    let call = row.parse::<u64>().ok()?;
     let mut sink = Cut::new(alloc, 4096, 4096, Some(call)).ok()?;
     let explanation = explain("C12")?;
     match write_explanation(&mut sink, explanation) {
@@ -45,20 +47,28 @@ fn breaks(alloc: Global, call: u64) -> Option<bool> {
 
 #[test]
 fn failing_calls(rt: HostRuntime) {
-    for call in 1..10 {
-        assert!(rt; breaks(rt.alloc(), call) == Some(true), "{call}");
-    }
+    all_hold(&rt, rt.alloc(), "1\n2\n3\n4\n5\n6\n7\n8\n9", breaks);
 }
 
 // `CODE` that is one, or `-CODE` for what is none.
-fn is_known(row: &str) -> bool {
-    match row.split_once('-') {
+fn is_known(word: &str) -> bool {
+    match word.split_once('-') {
         Some((_, other)) => explain(other).is_none(),
-        None => match explain(row) {
-            Some(explanation) => explanation.code == row,
+        None => match explain(word) {
+            Some(explanation) => explanation.code == word,
             None => false,
         },
     }
+}
+
+// The same of several.
+fn are_known(row: &str) -> bool {
+    for word in row.split(' ') {
+        if !is_known(word) {
+            return false;
+        }
+    }
+    true
 }
 
 #[test]
@@ -68,11 +78,7 @@ C1 C2 C3 C4 C5 C6 C7 C8 C9 C10 C11 C12 C13 C14 C15 C16 C17 C18 C20 C22 -C0 -C19 
 J1 J2 J3 J4 J5 J6 J7 J8 -J9
 V1 V2 V3 V4 V5 V6 V7 V8 V9 V10 V11 V12 -V13
 E1 E2 E3 E4 E5 E6 E7 E8 E9 E10 E11 E12 E13 -E14 -E -";
-    for row in rows.lines() {
-        for code in row.split(' ') {
-            assert!(rt; is_known(code), "{code:?}");
-        }
-    }
+    all_hold(&rt, rt.alloc(), rows, |_, row| Some(are_known(row)));
 }
 
 // Whether these are the codes of which that many are known, with the first and the last of them.
@@ -100,9 +106,7 @@ C1 V3 C1/3/-
 C1 V12 V13 x/2/V13
 c1 v3 e10 J8/4/-
 c1 c0 v12/2/c0";
-    for row in rows.lines() {
-        assert!(rt; are_found(rt.alloc(), row) == Some(true), "{row:?}");
-    }
+    all_hold(&rt, rt.alloc(), rows, are_found);
 }
 
 // Whether that is the reason of a code, which is given by its letter and its number.

@@ -1,5 +1,6 @@
 //! What arguments of `if-feature` spell.
 
+use crate::rows::all_hold;
 use std::alloc::{AllocError, Global};
 use ylink_arguments::Name;
 use ylink_conditions::{Expression, YangVersion, expression_of};
@@ -87,12 +88,9 @@ a) => -
 p: => -
 p:a:b => -
 a or not => -";
-    for row in rows.lines() {
-        assert!(rt;
-            holds(rt.alloc(), YangVersion::Yang1_1, row) == Some(true),
-            "{row:?}"
-        );
-    }
+    all_hold(&rt, rt.alloc(), rows, |alloc, row| {
+        holds(alloc, YangVersion::Yang1_1, row)
+    });
 }
 
 // The name of a feature alone.
@@ -105,12 +103,9 @@ not b => -
 (a) => -
  a => -
  => -";
-    for row in rows.lines() {
-        assert!(rt;
-            holds(rt.alloc(), YangVersion::Yang1, row) == Some(true),
-            "{row:?}"
-        );
-    }
+    all_hold(&rt, rt.alloc(), rows, |alloc, row| {
+        holds(alloc, YangVersion::Yang1, row)
+    });
 }
 
 // So many `not` in front of a name.

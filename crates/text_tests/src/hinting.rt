@@ -1,5 +1,6 @@
 //! The lines that are told, which words are near to one another, and what is said of statements.
 
+use crate::rows::all_hold;
 use std::alloc::Global;
 use ysay_text::{is_near, is_unread, line_sentence, nearest, nearest_word, shown_line};
 use ytext::parse;
@@ -50,9 +51,7 @@ mandatory|manadatroy|2
 mandatory|madnatroy|2
 é|e|2
 é|è|1";
-    for row in rows.lines() {
-        assert!(rt; is_apart(row) == Some(true), "{row}");
-    }
+    all_hold(&rt, rt.alloc(), rows, |_, row| is_apart(row));
 }
 
 // `WORD|NAME,NAME,..|NEAREST`, with `-` for none
@@ -78,9 +77,7 @@ uplink|host,speed|-
 iterface|interface,interfaces|interface
 iterfaces|interface,interfaces|interfaces
 x||-";
-    for row in rows.lines() {
-        assert!(rt; is_nearest(rt.alloc(), row) == Some(true), "{row}");
-    }
+    all_hold(&rt, rt.alloc(), rows, is_nearest);
 }
 
 // `WORD|NEAREST`, with `-` for none, or `WORD` alone, which is a keyword that isn't read
@@ -127,9 +124,7 @@ rpc
 submodule
 when
 yin-element";
-    for row in rows.lines() {
-        assert!(rt; is_word(row), "{row}");
-    }
+    all_hold(&rt, rt.alloc(), rows, |_, row| Some(is_word(row)));
 }
 
 const MODULE: &str = "module m {
@@ -173,9 +168,7 @@ fn sentences(rt: HostRuntime) {
 13|no statement is called bases; near it: base.
 14|
 15|";
-    for row in rows.lines() {
-        assert!(rt; is_said(rt.alloc(), row) == Some(true), "{row}");
-    }
+    all_hold(&rt, rt.alloc(), rows, is_said);
 }
 
 // Whether the line of a number is shown so.
@@ -183,26 +176,25 @@ fn is_shown(alloc: Global, number: u32, text: &[u8], wanted: &str) -> Option<boo
     Some(shown_line(alloc, number, text).ok()?.as_str() == wanted)
 }
 
+// `NUMBER|LINE`
+fn is_line(alloc: Global, row: &str) -> Option<bool> {
+    let text = b"module m {\r\n \t leaf b;\n\n  z\x1b[31m\xff\n\xc3\xa9\tx\n\xe2\x80\xae\nend";
+    let (number, wanted) = row.split_once('|')?;
+    is_shown(alloc, number.parse::<u32>().ok()?, text, wanted)
+}
+
 #[test]
 fn lines(rt: HostRuntime) {
-    let text = b"module m {\r\n \t leaf b;\n\n  z\x1b[31m\xff\n\xc3\xa9\tx\n\xe2\x80\xae\nend";
-    let rows = "module m {
-leaf b;
-
-z\\x1b[31m\\xff
-é\tx
-\\xe2\\x80\\xae
-end
-";
-    let mut number = 0u32;
-    for row in rows.split('\n') {
-        number = number.saturating_add(1);
-        assert!(rt;
-            is_shown(rt.alloc(), number, text, row) == Some(true),
-            "{row}"
-        );
-    }
-    assert!(rt; is_shown(rt.alloc(), 4_294_967_295, text, "") == Some(true));
+    let rows = "1|module m {
+2|leaf b;
+3|
+4|z\\x1b[31m\\xff
+5|é\tx
+6|\\xe2\\x80\\xae
+7|end
+8|
+4294967295|";
+    all_hold(&rt, rt.alloc(), rows, is_line);
 }
 
 #[test]

@@ -10,6 +10,8 @@ mod hinting;
 #[cfg(test)]
 mod readings;
 #[cfg(test)]
+mod rows;
+#[cfg(test)]
 mod scans;
 #[cfg(test)]
 mod sinks;

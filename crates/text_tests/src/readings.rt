@@ -1,5 +1,6 @@
 //! What whole texts are read as.
 
+use crate::rows::all_hold;
 use crate::spelled::{is_fault, unmarked};
 use std::alloc::{AllocError, Global};
 use ytext::{Module, Stmt, TextFault, is_identifier, is_name, parse};
@@ -63,9 +64,7 @@ module a { prefix \"x => L3 1
 module \"a\r¶ b\"; => 'a¶b
 module 'a\r¶b'; => 'a¶b
 module /* \" */ \"/* // */\"; => '/* // */";
-    for row in rows.lines() {
-        assert!(rt; holds(rt.alloc(), row) == Some(true), "{row:?}");
-    }
+    all_hold(&rt, rt.alloc(), rows, holds);
     assert!(rt; is_read(rt.alloc(), b"module a {\n\xff}", "L1 2") == Some(true));
 }
 

@@ -1,5 +1,6 @@
 //! The tokens of texts, and the first fault among them.
 
+use crate::rows::all_hold;
 use crate::spelled::{is_fault, unmarked};
 use std::alloc::Global;
 use ytext::{Token, TokenKind, tokens};
@@ -80,7 +81,5 @@ a; // \u{ffff} => 2 then L2 1
 a \"\r\\x\" => 1 then L2 1
 a \"\\x\r\" => 1 then L4 1
 a '\u{1} => 1 then L3 1";
-    for row in rows.lines() {
-        assert!(rt; holds(rt.alloc(), row) == Some(true), "{row:?}");
-    }
+    all_hold(&rt, rt.alloc(), rows, holds);
 }

@@ -1,5 +1,6 @@
 //! Which rules of the table of statements modules break, by language.
 
+use crate::rows::all_hold;
 use crate::spelled::unmarked;
 use std::alloc::Global;
 use ylink_grammar::{BrokenRule, Language, Sources, Unjudged, Wide, broken_statement_rule_in};
@@ -30,6 +31,24 @@ fn holds(alloc: Global, language: &Language, head: &str, row: &str) -> Option<bo
     is_told(alloc, told, wanted)
 }
 
+// Of modules of YANG 1.1, in the core.
+fn holds_of_the_core(alloc: Global, row: &str) -> Option<bool> {
+    holds(alloc, &Language::Core, "yang-version 1.1;", row)
+}
+
+// Of modules of YANG 1.1, in the wide language without a choice of features.
+fn holds_of_yang_1_1(alloc: Global, row: &str) -> Option<bool> {
+    let language = Language::rfc_with(Vec::new(alloc));
+    holds(alloc, &language, "yang-version 1.1;", row)
+}
+
+// Of modules of YANG 1, which state their version or don't.
+fn holds_of_yang_1(alloc: Global, row: &str) -> Option<bool> {
+    let language = Language::rfc_with(Vec::new(alloc));
+    let is_silent = holds(alloc, &language, "", row)?;
+    Some(is_silent && holds(alloc, &language, "yang-version 1;", row)?)
+}
+
 // YANG 1.1, and no features.
 #[test]
 fn of_the_core(rt: HostRuntime) {
@@ -40,24 +59,18 @@ leaf-list l { type string; default x; } => -
 leaf l { type string; ¶if-feature a; } => C1 2
 ¶leaf l { } => C2 2
 ¶leaf a/b { type string; } => C3 2";
-    for row in rows.lines() {
-        assert!(rt;
-            holds(rt.alloc(), &Language::Core, "yang-version 1.1;", row) == Some(true),
-            "{row:?}"
-        );
-    }
-    for head in ["", "yang-version 1;", "yang-version 1.2;"] {
-        assert!(rt;
-            holds(rt.alloc(), &Language::Core, head, "¶ => C4 1") == Some(true),
-            "{head:?}"
-        );
-    }
+    all_hold(&rt, rt.alloc(), rows, holds_of_the_core);
+    let heads = "
+yang-version 1;
+yang-version 1.2;";
+    all_hold(&rt, rt.alloc(), heads, |alloc, head| {
+        holds(alloc, &Language::Core, head, "¶ => C4 1")
+    });
 }
 
 // What features bring, of modules of YANG 1.1 (RFC 7950, 7.20.1, 7.20.2 and 14).
 #[test]
 fn of_yang_1_1(rt: HostRuntime) {
-    let language = Language::rfc_with(Vec::new(rt.alloc()));
     let rows = "feature a; feature b { if-feature a; status current; } => -
 feature b { if-feature \"not a\"; if-feature c; description d; } => -
 leaf l { if-feature \"a or b\"; type string; } => -
@@ -80,18 +93,12 @@ container c { ¶feature a; } => C1 2
 leaf l { type string { ¶if-feature a; } } => C1 2
 leaf l { type string; if-feature a { ¶if-feature a; } } => C1 2
 ¶must a; => C1 2";
-    for row in rows.lines() {
-        assert!(rt;
-            holds(rt.alloc(), &language, "yang-version 1.1;", row) == Some(true),
-            "{row:?}"
-        );
-    }
+    all_hold(&rt, rt.alloc(), rows, holds_of_yang_1_1);
 }
 
 // What YANG 1 lacks of it (RFC 7950, 1.1; RFC 6020, 7.18.2 and 12).
 #[test]
 fn of_yang_1(rt: HostRuntime) {
-    let language = Language::rfc_with(Vec::new(rt.alloc()));
     let rows = "feature a; leaf l { if-feature a; type string; } => -
 import n { prefix xml; } => -
 leaf l { type string; ¶if-feature \"a or b\"; } => C3 2
@@ -106,29 +113,21 @@ uses g { ¶refine l { default x; default y; } } => C2 2
 leaf-list l { type string; ¶default x; } => C1 2
 choice c { ¶choice d; } => C1 2
 leaf l { ¶type identityref { base a; base b; } } => C2 2";
-    for row in rows.lines() {
-        for head in ["", "yang-version 1;"] {
-            assert!(rt;
-                holds(rt.alloc(), &language, head, row) == Some(true),
-                "{row:?}"
-            );
-        }
-    }
+    all_hold(&rt, rt.alloc(), rows, holds_of_yang_1);
+}
+
+// Of modules that have their version in the row.
+fn holds_as_it_stands(alloc: Global, row: &str) -> Option<bool> {
+    holds(alloc, &Language::rfc_with(Vec::new(alloc)), "", row)
 }
 
 // A `yang-version` that names none, and two of it (RFC 7950, 7.1.2).
 #[test]
 fn versions(rt: HostRuntime) {
-    let language = Language::rfc_with(Vec::new(rt.alloc()));
     let rows = "¶yang-version 1.2; => C4 2
 ¶yang-version 1.0; => C4 2
 ¶yang-version 1; yang-version 1; => C2 1";
-    for row in rows.lines() {
-        assert!(rt;
-            holds(rt.alloc(), &language, "", row) == Some(true),
-            "{row:?}"
-        );
-    }
+    all_hold(&rt, rt.alloc(), rows, holds_as_it_stands);
 }
 
 // The wide language, in which some conditions aren't judged.
@@ -139,10 +138,16 @@ fn unjudging(alloc: Global, musts: bool, whens: bool) -> Language {
     })
 }
 
+// Of modules of either version, where no condition is judged.
+fn holds_unjudged(alloc: Global, row: &str) -> Option<bool> {
+    let language = unjudging(alloc, true, true);
+    let is_of_yang_1 = holds(alloc, &language, "", row)?;
+    Some(is_of_yang_1 && holds(alloc, &language, "yang-version 1.1;", row)?)
+}
+
 // Where conditions that aren't judged stand, how often, and what stands below them (RFC 7950, 7.5.3 and 7.21.5).
 #[test]
 fn unjudged_conditions(rt: HostRuntime) {
-    let language = unjudging(rt.alloc(), true, true);
     let rows = "container c { must a; must b; when c; } => -
 leaf l { must a { error-message b; error-app-tag c; description d; reference e; } type string; } => -
 leaf-list l { when a { description b; reference c; } type string; } => -
@@ -158,14 +163,7 @@ leaf l { type string; ¶must; } => C3 2
 leaf l { type string; ¶when; } => C3 2
 leaf l { type string; ¶must a { description b; description c; } } => C2 2
 leaf l { type string; when a { ¶error-message b; } } => C1 2";
-    for row in rows.lines() {
-        for head in ["", "yang-version 1.1;"] {
-            assert!(rt;
-                holds(rt.alloc(), &language, head, row) == Some(true),
-                "{row:?}"
-            );
-        }
-    }
+    all_hold(&rt, rt.alloc(), rows, holds_unjudged);
 }
 
 // Each is no keyword where it is to be judged.

@@ -1,6 +1,7 @@
 //! What texts are read as by their versions (RFC 6020, 6.1.3; RFC 7950, 6.1.3 and 7.1.2).
 
 use crate::readings::is_given;
+use crate::rows::all_hold;
 use crate::spelled::unmarked;
 use std::alloc::Global;
 use ytext::{TextFault, parse_in};
@@ -38,9 +39,7 @@ module m { x \"\\q\"; 9 b; yang-version 1.1; } => L8 1
 module m { x \"\\q\"; yang-version 1.1 } => L5 1
 module m { x a\"b; c\"d; yang-version 1.1; } => L3 1
 module m { yang-version 1.1\"; x b; } => '1.1\"";
-    for row in rows.lines() {
-        assert!(rt; holds(rt.alloc(), true, row) == Some(true), "{row:?}");
-    }
+    all_hold(&rt, rt.alloc(), rows, |alloc, row| holds(alloc, true, row));
 }
 
 // The first `yang-version` right below the top statement says so, as YANG 1 reads it.
@@ -51,9 +50,7 @@ module m { yang-version 1.1; x \"\\q\"; } => L4 1
 module m { yang-version \"1\" + '.1';¶ x \"\\q\"; } => L4 2
 module m { x \"\\q\"; yang-version 1.1; } => L4 1
 module m { x \"\\q\"; yang-version 1.1 { } } => L4 1";
-    for row in rows.lines() {
-        assert!(rt; holds(rt.alloc(), true, row) == Some(true), "{row:?}");
-    }
+    all_hold(&rt, rt.alloc(), rows, |alloc, row| holds(alloc, true, row));
 }
 
 // Where versions aren't read, every text is one of YANG 1.1.
@@ -63,9 +60,7 @@ fn without_versions(rt: HostRuntime) {
 module m { x +\"c\"; } => L5 1
 module \"\\q\"; => L4 1
 module m { x \"\\q\"; c { yang-version 1.1; } } => L4 1";
-    for row in rows.lines() {
-        assert!(rt; holds(rt.alloc(), false, row) == Some(true), "{row:?}");
-    }
+    all_hold(&rt, rt.alloc(), rows, |alloc, row| holds(alloc, false, row));
 }
 
 // Whether a text of YANG 1 is read, or memory ran out.

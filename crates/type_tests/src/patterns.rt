@@ -1,5 +1,6 @@
 //! Texts as regular expressions.
 
+use crate::tables::all_hold;
 use std::alloc::Global;
 use ytype::Expression;
 
@@ -31,7 +32,5 @@ a{3,2}/aa/none
 (a/a/none
 aaa{50000}/a/no
 aaa{50001}/a/none";
-    for row in rows.lines() {
-        assert!(rt; holds(rt.alloc(), row) == Some(true), "{row:?}");
-    }
+    all_hold(&rt, rt.alloc(), rows, holds);
 }

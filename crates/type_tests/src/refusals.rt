@@ -1,6 +1,7 @@
 //! Which types there are, and what they require.
 
 use crate::described::{described, narrowed};
+use crate::tables::all_hold;
 use std::alloc::Global;
 use ytype::{NarrowFault, Part, Range};
 
@@ -88,38 +89,35 @@ identityref:a|a:x=3|3 > range:3..3/refused
 identityref:a|a:x=3|3 > length:1..3/refused
 identityref:a|a:x=3|3 > instance:true/refused
 identityref:a|a:x=3|3 > leafref > instance:false/made";
-    for row in rows.lines() {
-        assert!(rt; holds(rt.alloc(), row) == Some(true), "{row:?}");
-    }
+    all_hold(&rt, rt.alloc(), rows, holds);
 }
 
 #[test]
 fn carriage_returns_in_names(rt: HostRuntime) {
     // White space at an end is refused, a carriage return too; lines of a table can't hold it.
-    for row in [
-        "enumeration:a,b\r/refused",
-        "enumeration:a,\rb/refused",
-        "enumeration:a,b\rc/made",
-    ] {
-        assert!(rt; holds(rt.alloc(), row) == Some(true), "{row:?}");
-    }
+    assert!(rt; holds(rt.alloc(), "enumeration:a,b\r/refused") == Some(true));
+    assert!(rt; holds(rt.alloc(), "enumeration:a,\rb/refused") == Some(true));
+    assert!(rt; holds(rt.alloc(), "enumeration:a,b\rc/made") == Some(true));
 }
 
-// What is told of a type's last step, if it is refused.
-fn told(alloc: Global, steps: &str) -> Option<String> {
+fn shows(alloc: Global, fault: NarrowFault, wanted: &str) -> Option<bool> {
+    let text = format!(in alloc; "{fault}").ok()?;
+    Some(text.as_str() == wanted)
+}
+
+// Whether a type whose last step is refused is told so.
+fn is_told(alloc: Global, steps: &str) -> Option<bool> {
     match narrowed(alloc, steps)? {
-        Ok(_) => None,
-        Err(fault) => format!(in alloc; "{fault}").ok(),
+        Ok(_) => Some(false),
+        Err(fault) => shows(alloc, fault, "no such type"),
     }
 }
 
 #[test]
 fn faults_told(rt: HostRuntime) {
-    let alloc = rt.alloc();
-    assert!(rt; told(alloc, "enumeration:a,a").as_deref() == Some("no such type"));
-    assert!(rt; told(alloc, "string > range:1..5").as_deref() == Some("no such type"));
-    let fault = NarrowFault::Memory;
-    assert!(rt; format!(in alloc; "{fault}").ok().as_deref() == Some("memory"));
+    assert!(rt; is_told(rt.alloc(), "enumeration:a,a") == Some(true));
+    assert!(rt; is_told(rt.alloc(), "string > range:1..5") == Some(true));
+    assert!(rt; shows(rt.alloc(), NarrowFault::Memory, "memory") == Some(true));
 }
 
 // Whether a type requires an instance: `true`, `false`, or `none` for one that is no leafref.
@@ -137,9 +135,7 @@ fn instances(rt: HostRuntime) {
     let rows = "uint8 > leafref > instance:true/true
 uint8 > leafref > instance:false/false
 uint8/none";
-    for row in rows.lines() {
-        assert!(rt; is_required(rt.alloc(), row) == Some(true), "{row:?}");
-    }
+    all_hold(&rt, rt.alloc(), rows, is_required);
 }
 
 fn range_with_gaps(alloc: Global) -> Option<Range> {
@@ -150,16 +146,21 @@ fn range_with_gaps(alloc: Global) -> Option<Range> {
     Some(Range::new(parts))
 }
 
-fn range_holds(alloc: Global, number: i128) -> Option<bool> {
-    Some(range_with_gaps(alloc)?.holds(number))
+// Whether a row holds: a number, and whether the range has it.
+fn is_held(alloc: Global, row: &str) -> Option<bool> {
+    let (number, wanted) = row.split_once('/')?;
+    let number = number.parse::<i128>().ok()?;
+    Some(range_with_gaps(alloc)?.holds(number) == wanted.parse::<bool>().ok()?)
 }
 
 #[test]
 fn gaps(rt: HostRuntime) {
-    for number in [5, 7, 9, 255] {
-        assert!(rt; range_holds(rt.alloc(), number) == Some(true), "{number}");
-    }
-    for number in [6, 8, 256] {
-        assert!(rt; range_holds(rt.alloc(), number) == Some(false), "{number}");
-    }
+    let rows = "5/true
+6/false
+7/true
+8/false
+9/true
+255/true
+256/false";
+    all_hold(&rt, rt.alloc(), rows, is_held);
 }

@@ -1,5 +1,6 @@
 //! Rows that are joined of others.
 
+use crate::tables::all_hold;
 use std::alloc::Global;
 use std::rc::Rc;
 use ybase_row::Row;
@@ -31,22 +32,26 @@ fn joins(alloc: Global, first: usize, end: usize) -> Option<bool> {
     Some(counts(&front, first) && counts(&row, end) && counts(&row.clone().ok()?, end))
 }
 
+// `FIRST of END`
+fn holds(alloc: Global, row: &str) -> Option<bool> {
+    let (first, end) = row.split_once(" of ")?;
+    joins(
+        alloc,
+        first.parse::<usize>().ok()?,
+        end.parse::<usize>().ok()?,
+    )
+}
+
 #[test]
 fn rows(rt: HostRuntime) {
-    for (first, end) in [
-        (0, 0),
-        (0, 1),
-        (1, 1),
-        (1, 2),
-        (1, 3),
-        (2, 3),
-        (1, 100),
-        (50, 100),
-        (99, 100),
-    ] {
-        assert!(rt;
-            joins(rt.alloc(), first, end) == Some(true),
-            "{first} of {end}"
-        );
-    }
+    let rows = "0 of 0
+0 of 1
+1 of 1
+1 of 2
+1 of 3
+2 of 3
+1 of 100
+50 of 100
+99 of 100";
+    all_hold(&rt, rt.alloc(), rows, holds);
 }

@@ -1,6 +1,7 @@
 //! What types make of what they are given, and how values are printed and ordered.
 
 use crate::described::described;
+use crate::tables::all_hold;
 use std::alloc::Global;
 use std::cmp::Ordering;
 use ytype::{BadValue, ModuleNames, Raw, Val, YType};
@@ -86,6 +87,19 @@ fn holds(alloc: Global, way: Way, row: &str) -> Option<bool> {
     holds_of(alloc, way, steps, rest)
 }
 
+fn holds_of_document(alloc: Global, row: &str) -> Option<bool> {
+    holds(alloc, Way::Document, row)
+}
+
+// Also where the value and its type are copied.
+fn holds_of_copy(alloc: Global, row: &str) -> Option<bool> {
+    Some(holds(alloc, Way::Document, row)? && holds(alloc, Way::Copy, row)?)
+}
+
+fn holds_of_default(alloc: Global, row: &str) -> Option<bool> {
+    holds(alloc, Way::Default, row)
+}
+
 // Whether a row holds: a type, what a document has, and the message of what excludes it, `-` for none.
 fn gives_message(alloc: Global, row: &str) -> Option<bool> {
     let (steps, rest) = row.split_once('/')?;
@@ -135,9 +149,7 @@ boolean > uint8 > string > union > union/true/0/boolean
 boolean > uint8 > string > union > union/5/1/uint8
 boolean > uint8 > string > union > union/'x/2/string
 uint8 > uint8 > union/5/0/uint8";
-    for row in rows.lines() {
-        assert!(rt; has_member(rt.alloc(), row) == Some(true), "{row:?}");
-    }
+    all_hold(&rt, rt.alloc(), rows, has_member);
 }
 
 #[test]
@@ -157,9 +169,7 @@ string > length:2..5~too short/'a/too short
 string > length:2..5~too short > uint8 > union/'a/-
 string > length:2..5~too short > pattern:t~no name:[a-z]+/'55/no name
 identityref:a|a:x=3,a:y=4|3/'y/-";
-    for row in rows.lines() {
-        assert!(rt; gives_message(rt.alloc(), row) == Some(true));
-    }
+    all_hold(&rt, rt.alloc(), rows, gives_message);
 }
 
 #[test]
@@ -181,11 +191,7 @@ string > pattern:a:a.* > length:0..2:long > pattern:b:.*b/'ab/ab
 string > pattern:a:a.* > leafref/'b/!a
 uint8 > string > pattern:a:a > union/'b/!
 uint8 > string > pattern:a:a > union/'a/a";
-    for row in rows.lines() {
-        for way in [Way::Document, Way::Copy] {
-            assert!(rt; holds(rt.alloc(), way, row) == Some(true), "{row:?}");
-        }
-    }
+    all_hold(&rt, rt.alloc(), rows, holds_of_copy);
 }
 
 #[test]
@@ -193,12 +199,7 @@ fn defaults_of_patterns(rt: HostRuntime) {
     let rows = "string > pattern:t:[a-z]+/abc/abc
 string > pattern:t:[a-z]+/ab1/!
 string > unless:t:[a-z]+/abc/!";
-    for row in rows.lines() {
-        assert!(rt;
-            holds(rt.alloc(), Way::Default, row) == Some(true),
-            "{row:?}"
-        );
-    }
+    all_hold(&rt, rt.alloc(), rows, holds_of_default);
 }
 
 // The vectors of RFC 4648, 10, and texts that are no base64.
@@ -244,18 +245,10 @@ binary > leafref/'Zm8=/Zm8=
 binary > leafref/'Zm8/!
 binary > string > union/'Zm8/Zm8
 binary > uint8 > union/'Zm8/!";
-    for row in rows.lines() {
-        for way in [Way::Document, Way::Copy] {
-            assert!(rt; holds(rt.alloc(), way, row) == Some(true), "{row:?}");
-        }
-    }
-    for row in [
-        "binary/'Zm9v\nYmFy/!",
-        "binary/'Zm9v\r\nYmFy/!",
-        "binary/'Zm9vYmFy\n/!",
-    ] {
-        assert!(rt; holds(rt.alloc(), Way::Copy, row) == Some(true), "{row:?}");
-    }
+    all_hold(&rt, rt.alloc(), rows, holds_of_copy);
+    assert!(rt; holds_of_copy(rt.alloc(), "binary/'Zm9v\nYmFy/!") == Some(true));
+    assert!(rt; holds_of_copy(rt.alloc(), "binary/'Zm9v\r\nYmFy/!") == Some(true));
+    assert!(rt; holds_of_copy(rt.alloc(), "binary/'Zm9vYmFy\n/!") == Some(true));
 }
 
 #[test]
@@ -266,12 +259,7 @@ binary/Zm9vYg/!
 binary/Zm9vYh==/!
 binary > length:3/Zm9v/Zm9v
 binary > length:3/Zm8=/!";
-    for row in rows.lines() {
-        assert!(rt;
-            holds(rt.alloc(), Way::Default, row) == Some(true),
-            "{row:?}"
-        );
-    }
+    all_hold(&rt, rt.alloc(), rows, holds_of_default);
 }
 
 #[test]
@@ -435,14 +423,9 @@ string > uint8 > union > module:b/'x/x
 identityref:a|a:a=1,a:b=2,a:c=3,a:d=4,a:e=5,a:f=6,a:g=7,a:h=8,b:a=9|2,9/'b/a:b
 identityref:a|a:a=1,a:b=2,a:c=3,a:d=4,a:e=5,a:f=6,a:g=7,a:h=8,b:a=9|2,9/'b:a/b:a
 identityref:a|a:a=1,a:b=2,a:c=3,a:d=4,a:e=5,a:f=6,a:g=7,a:h=8,b:a=9|2,9/'a/!";
-    for row in rows.lines() {
-        assert!(rt;
-            holds(rt.alloc(), Way::Document, row) == Some(true),
-            "{row:?}"
-        );
-    }
+    all_hold(&rt, rt.alloc(), rows, holds_of_document);
     let row = "string/'a\tb\r\n/a\tb\r\n";
-    assert!(rt; holds(rt.alloc(), Way::Document, row) == Some(true));
+    assert!(rt; holds_of_document(rt.alloc(), row) == Some(true));
 }
 
 #[test]
@@ -489,30 +472,30 @@ identityref:a|a:x=3,a:y=4,b:x=7,b:z=9|3,9//!
 identityref:a|a:x=3,a:y=4,b:x=7,b:z=9|3,9 > module:b/p:x/a:x
 identityref:a|a:x=3,b:x=7|7 > string > union > module:a/x/b:x
 identityref:a|a:x=3,b:x=7|3 > string > union > module:a/x/x";
-    for row in rows.lines() {
-        assert!(rt;
-            holds(rt.alloc(), Way::Default, row) == Some(true),
-            "{row:?}"
-        );
-    }
+    all_hold(&rt, rt.alloc(), rows, holds_of_default);
 }
 
-// What is told of a value that a type doesn't take.
-fn told(alloc: Global, steps: &str, text: &str) -> Option<String> {
+fn shows(alloc: Global, fault: &BadValue, wanted: &str) -> Option<bool> {
+    let text = format!(in alloc; "{fault}").ok()?;
+    Some(text.as_str() == wanted)
+}
+
+// Whether a row holds: a type, a value that it doesn't take, and what is told of that.
+fn is_told(alloc: Global, row: &str) -> Option<bool> {
+    let (steps, rest) = row.split_once('/')?;
+    let (text, wanted) = rest.split_once('/')?;
     match described(alloc, steps)?.check(alloc, &raw(alloc, text)?) {
-        Ok(_) => None,
-        Err(fault) => format!(in alloc; "{fault}").ok(),
+        Ok(_) => Some(false),
+        Err(fault) => shows(alloc, &fault, wanted),
     }
 }
 
 #[test]
 fn faults_told(rt: HostRuntime) {
-    let alloc = rt.alloc();
-    let steps = "uint8 > range:1..10:t1";
-    assert!(rt; told(alloc, steps, "20").as_deref() == Some("invalid-value t1"));
-    assert!(rt; told(alloc, steps, "300").as_deref() == Some("invalid-value"));
-    let fault = BadValue::Memory;
-    assert!(rt; format!(in alloc; "{fault}").ok().as_deref() == Some("memory"));
+    let rows = "uint8 > range:1..10:t1/20/invalid-value t1
+uint8 > range:1..10:t1/300/invalid-value";
+    all_hold(&rt, rt.alloc(), rows, is_told);
+    assert!(rt; shows(rt.alloc(), &BadValue::Memory, "memory") == Some(true));
 }
 
 fn value(alloc: Global, of: &YType, text: &str) -> Option<Val> {
@@ -551,9 +534,7 @@ boolean > uint8 > string > union > union/5<'5
 string > length:1..1 > string > length:2..2 > union > string > length:3..3 > string > union > union/'c<'bb
 string > length:1..1 > string > length:2..2 > union > string > length:3..3 > string > union > union/'bb<'aaa
 string > length:1..1 > string > length:2..2 > union > string > length:3..3 > string > union > union/'aaa<'aa aa";
-    for row in rows.lines() {
-        assert!(rt; is_below(rt.alloc(), row) == Some(true), "{row:?}");
-    }
+    all_hold(&rt, rt.alloc(), rows, is_below);
 }
 
 // A leafref whose target has members of several kinds.
@@ -567,14 +548,13 @@ const OF_MEMBERS: &str = "'y z/z y
 'Zm9vYmE=/Zm9vYmE=
 'wxyz/wxyz";
 
+fn is_member_copied(alloc: Global, row: &str) -> Option<bool> {
+    holds_of(alloc, Way::Copy, OF_ALL_KINDS, row)
+}
+
 #[test]
 fn copies(rt: HostRuntime) {
-    for row in OF_MEMBERS.lines() {
-        assert!(rt;
-            holds_of(rt.alloc(), Way::Copy, OF_ALL_KINDS, row) == Some(true),
-            "{row:?}"
-        );
-    }
+    all_hold(&rt, rt.alloc(), OF_MEMBERS, is_member_copied);
     assert!(rt; holds_of(rt.alloc(), Way::Default, OF_ALL_KINDS, "0x5/5") == Some(true));
 }
 
@@ -582,12 +562,9 @@ fn copies(rt: HostRuntime) {
 // tests above, where they hold.
 #[test]
 fn memory(rt: HostRuntime) {
-    for row in OF_MEMBERS.lines() {
-        assert!(rt;
-            holds_of(rt.alloc(), Way::Copy, OF_ALL_KINDS, row) != Some(false),
-            "{row:?}"
-        );
-    }
+    all_hold(&rt, rt.alloc(), OF_MEMBERS, |alloc, row| {
+        Some(is_member_copied(alloc, row) != Some(false))
+    });
     assert!(rt; holds_of(rt.alloc(), Way::Default, OF_ALL_KINDS, "0x5/5") != Some(false));
     let tagged = "uint8 > range:1..10:t1 > range:2..5:t2/20/!t1";
     assert!(rt; holds(rt.alloc(), Way::Document, tagged) != Some(false));

@@ -6,7 +6,7 @@ mod system;
 use std::io::{BufWriter, Write};
 use std::process::ExitCode;
 use std::{env, io};
-use system::{FileSystem, Stream};
+use system::{Asker, FileSystem, Stream};
 use yapp::{Ended, refuse, run, save, tell_memory, tell_unwritten};
 use ytext::{Sink, SinkFault};
 
@@ -20,9 +20,17 @@ fn words_of(rt: &HostRuntime) -> io::Result<Vec<String>> {
 /// behind it the file that is due.
 fn answer<W: Write + Drop, E: Sink>(rt: &HostRuntime, stdout: BufWriter<W>, errors: &mut E) -> u8 {
     let mut files = FileSystem::new(rt);
+    let mut caller = Asker::new(rt);
     let mut output = Stream::new(stdout);
     let ended = match words_of(rt) {
-        Ok(words) => run(rt.alloc(), &words, &mut files, &mut output, errors),
+        Ok(words) => run(
+            rt.alloc(),
+            &words,
+            &mut files,
+            &mut caller,
+            &mut output,
+            errors,
+        ),
         Err(error) if error.kind() == io::ErrorKind::OutOfMemory => {
             Ended::with_status(tell_memory(errors))
         }

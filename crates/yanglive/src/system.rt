@@ -2,12 +2,14 @@
 
 ghost use Rattle.std.specs.Prelude.{None};
 
+use std::alloc::{AllocError, Global};
 use std::fs::{File, Metadata, OpenOptions, Permissions, TryLockError};
-use std::io::{BufWriter, ErrorKind, Write};
+use std::io::{BufRead, BufReader, BufWriter, ErrorKind, Stdin, Write};
 use std::os::unix::fs::{MetadataExt, OpenOptionsExt, PermissionsExt};
 use std::path::AsPath;
 use std::{fs, io};
 use yapp::{FileFault, Files, SavedFile, Shelf, Unreadable, Unsaved};
+use ybase_talk::{Caller, LineFault};
 use ytext::{CallCount, Sink, SinkFault};
 
 /// Where the system has what it is given on its standard input.
@@ -326,6 +328,87 @@ impl<W: Write> Sink for Stream<W> {
                 self.count.rise();
                 Err(SinkFault)
             }
+        }
+    }
+}
+
+/// Who asks on the standard streams: each line of the input is a request, and each answer is written out at once, as a line.
+#[derive(Drop)]
+pub struct Asker<'a> {
+    runtime: &'a HostRuntime,
+    input: Option<BufReader<Stdin>>,
+}
+
+impl<'a> Asker<'a> {
+    /// Who asks on the streams of the runtime.
+    pub fn new(runtime: &'a HostRuntime) -> Asker<'a> {
+        Asker {
+            runtime,
+            input: None,
+        }
+    }
+
+    /// The next line of the input, with its line feed.
+    fn read_line(&mut self) -> io::Result<Vec<u8>> {
+        let alloc = self.runtime.alloc();
+        let mut input = match self.input.take() {
+            Some(input) => input,
+            None => BufReader::new(alloc, self.runtime.stdin())?,
+        };
+        let mut line = Vec::new(alloc);
+        let read = input.read_until(LINE_FEED, &mut line);
+        self.input = Some(input);
+        read?;
+        Ok(line)
+    }
+
+    /// Writes an answer and a line feed, in one write where there is memory for both together.
+    fn write_line(&mut self, answer: &[u8]) -> io::Result<()> {
+        let mut stdout = self.runtime.stdout();
+        match whole_line(self.runtime.alloc(), answer) {
+            Ok(line) => stdout.write_all(&line)?,
+            Err(_) => {
+                stdout.write_all(answer)?;
+                stdout.write_all(&[LINE_FEED])?;
+            }
+        }
+        stdout.flush()
+    }
+}
+
+/// What ends a line.
+const LINE_FEED: u8 = b'\n';
+
+/// A text with a line feed behind it.
+fn whole_line(alloc: Global, text: &[u8]) -> Result<Vec<u8>, AllocError> {
+    let mut line = Vec::from_slice(alloc, text)?;
+    line.push(LINE_FEED)?;
+    Ok(line)
+}
+
+impl Caller for Asker<'_> {
+    ghost events = { λ _. None };
+
+    fn next_line(&mut self) -> Result<Option<Vec<u8>>, LineFault> {
+        match self.read_line() {
+            Ok(mut line) => {
+                if line.is_empty() {
+                    return Ok(None);
+                }
+                if line.last() == Some(&LINE_FEED) {
+                    line.pop();
+                }
+                Ok(Some(line))
+            }
+            Err(error) if error.kind() == ErrorKind::OutOfMemory => Err(LineFault::Memory),
+            Err(_) => Err(LineFault::Unread),
+        }
+    }
+
+    fn tell(&mut self, answer: &[u8]) -> Result<(), SinkFault> {
+        match self.write_line(answer) {
+            Ok(()) => Ok(()),
+            Err(_) => Err(SinkFault),
         }
     }
 }

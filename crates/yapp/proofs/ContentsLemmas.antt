@@ -85,7 +85,7 @@ length_behind : (texts : List (List ℕ)) → length (map Some texts ++ None ∷
 length_behind texts = omega (arith, length-append (map (λ (t : List ℕ). Some t) texts) (None ∷ []), length-map texts (λ (t : List ℕ). Some t))
 
 -- a file has one answer at most
-answers_few : (contents : Contents) (names : List Text) (answers : FileAnswers) → Answered contents names answers → length answers ≤ length names
+pub answers_few : (contents : Contents) (names : List Text) (answers : FileAnswers) → Answered contents names answers → length answers ≤ length names
 answers_few contents [] [] a = omega arith
 answers_few contents [] (answer ∷ answers) a = absurd a
 answers_few contents (name ∷ names) [] a = absurd a

@@ -2,3 +2,4 @@ pub mod RunningLemmas
 pub mod ContentsLemmas
 pub mod DocumentLemmas
 pub mod NotedLemmas
+mod SessionLemmas

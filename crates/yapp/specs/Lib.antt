@@ -4,3 +4,4 @@ pub use Rattle.yapp_report.specs.Failing
 pub mod Edited
 pub mod Files
 pub mod Telling
+pub mod Sessions

@@ -60,7 +60,7 @@ pub fn names_of<'a>(alloc: Global, request: &Request<'a>) -> Result<Vec<&'a str>
 }
 
 /// Names with others behind them.
-fn names_with<'a>(
+pub(crate) fn names_with<'a>(
     alloc: Global,
     names: &[&'a str],
     others: &[&'a str],

@@ -1,57 +1,22 @@
 //! A run of the program.
 
-ghost use Rattle.std.specs.Prelude.{◌≡◌, ◌⊎◌, [], IfOk, OnErr, is_ok, if◌then◌else◌, map, None, option_map, string_bytes, true};
-ghost use Rattle.yapp_report.specs.Failing.{besides_in, outcome_of};
+ghost use Rattle.std.specs.Prelude.{◌≡◌, ◌⊎◌, [], map, string_bytes};
+ghost use Rattle.yspec_run.specs.Output.{Printed, as_json_of};
+ghost use Rattle.ybase_output.specs.Writing.{side};
+ghost use Rattle.yapp_words.specs.Command.{asked_in, asked_view, asks_reasons, refusals, view};
+ghost use Rattle.yapp_words.specs.Running.{AnswersWords, Brings};
 ghost use Rattle.yapp_report.specs.Saving.{end_of};
-ghost use Rattle.yapp.specs.Telling.{Tells, object_bytes, printed_so};
-ghost use Rattle.ysay_json.specs.RefusalData.{refused_text};
-ghost use Rattle.yspec_run.specs.Output.{Besides, Outcome, Printed, as_json_of, printed, printed_with};
-ghost use Rattle.yapp_words.specs.Command.{asks_reasons, refusals, request_of, view};
-ghost use Rattle.yapp_report.specs.Explained.{IsExplained};
-ghost use Rattle.yapp.specs.Files.{IsOutcome, came_to, found_as, said_besides, store};
-ghost use Rattle.yapp_words.specs.Running.{AnswersWords, Brings, Ends, WritesBoth, memory_told, refused};
-ghost use Rattle.ybase_output.specs.Writing.{Writes, side};
+ghost use Rattle.yapp.specs.Files.{store};
+ghost use Rattle.yapp.specs.Sessions.{Does};
 
 use crate::answering::answer;
-use crate::unjudged::Found;
-use std::alloc::{AllocError, Global};
-use yapp_report::{Ended, FAILED, Failure, Files, GOOD, MISUSED, ended_after, failure_object};
-use yapp_words::{NoRequest, Request, read_words};
-use ybase_output::{Sink, SinkFault, write_texts};
-
-/// The exit status after something was to be written: another one where a write failed.
-fn status_after(written: Result<(), SinkFault>, status: u8) -> u8
-    ensures { result ≡ (if is_ok written then status else 4) }
-{
-    match written {
-        Ok(()) => status,
-        Err(SinkFault) => FAILED,
-    }
-}
-
-/// Says that there is no memory.
-pub fn tell_memory<E: Sink>(errors: &mut E) -> u8
-    ensures { Ends (side E.taken E.failures errors.old) (side E.taken E.failures errors.new)
-        memory_told.errors memory_told.status result }
-{
-    status_after(write_texts(errors, &["memory\n"]), FAILED)
-}
-
-/// Refuses a command line with a text.
-pub fn refuse<E: Sink>(text: &str, errors: &mut E) -> u8
-    ensures { Ends (side E.taken E.failures errors.old) (side E.taken E.failures errors.new)
-        text.now (refused text.now).status result }
-{
-    status_after(write_texts(errors, &[text]), MISUSED)
-}
-
-/// Shows a text that was asked for.
-fn show<O: Sink>(text: &str, output: &mut O) -> u8
-    ensures { Ends (side O.taken O.failures output.old) (side O.taken O.failures output.new)
-        text.now 0 result }
-{
-    status_after(write_texts(output, &[text]), GOOD)
-}
+use crate::opening::hold_session;
+use crate::saying::{refuse, show, tell, tell_memory};
+use std::alloc::Global;
+use yapp_report::{Ended, Files};
+use yapp_words::{Asked, NoRequest, Request, read_words};
+use ybase_output::Sink;
+use ybase_talk::Caller;
 
 /// Whether what is told is to be told as JSON.
 fn is_json(request: &Request<'_>) -> bool
@@ -66,137 +31,56 @@ fn is_json(request: &Request<'_>) -> bool
     }
 }
 
-/// The object that tells a failure too, where that is wanted.
-fn object_where(
+/// Does what a command line asks for, and answers how that ends.
+fn do_asked<F: Files, C: Caller, O: Sink, E: Sink>(
     alloc: Global,
-    failure: &Failure<'_>,
-    is_wanted: bool,
-) -> Result<Option<String>, AllocError>
-    ensures ok { IfOk result (λ text. option_map string_bytes text ≡ (if is_wanted then option_map
-        refused_text (outcome_of failure.now).told else None)) }
-    ensures err { OnErr result (is_wanted ≡ true) }
-{
-    if is_wanted {
-        failure_object(alloc, failure)
-    } else {
-        Ok(None)
-    }
-}
-
-/// Writes an object in a line, if there is one.
-fn write_object<S: Sink>(object: &Option<String>, sink: &mut S) -> Result<(), SinkFault>
-    ensures { Writes (side S.taken S.failures sink.old) (side S.taken S.failures sink.new)
-        (object_bytes (option_map string_bytes object.now)) result }
-{
-    match object {
-        Some(text) => write_texts(sink, &[text.as_str(), "\n"]),
-        None => Ok(()),
-    }
-}
-
-/// Writes a failure on the error side, and then the object that tells it too, if there is one.
-fn write_failure<O: Sink, E: Sink>(
-    failure: &Failure<'_>,
-    object: &Option<String>,
+    asked: &Asked<'_>,
     with_reasons: bool,
-    output: &mut O,
-    errors: &mut E,
-) -> Result<(), SinkFault>
-    ensures { WritesBoth (side O.taken O.failures output.old) (side O.taken O.failures output.new)
-        (side E.taken E.failures errors.old) (side E.taken E.failures errors.new)
-        (printed_so with_reasons failure.now (option_map string_bytes object.now)) result }
-{
-    failure.write(with_reasons, errors)?;
-    write_object(object, output)
-}
-
-/// Tells why nothing was found; where that is wanted, with the reasons, and by an object too, which is made before anything is
-/// written. Answers how the run ends.
-fn tell_failure<O: Sink, E: Sink>(
-    alloc: Global,
-    failure: &Failure<'_>,
-    with_reasons: bool,
-    as_json: bool,
+    files: &mut F,
+    caller: &mut C,
     output: &mut O,
     errors: &mut E,
 ) -> Ended
     ensures reasons { result.with_reasons ≡ with_reasons }
-    ensures tells { Tells (side O.taken O.failures output.old) (side O.taken O.failures output.new)
-        (side E.taken E.failures errors.old) (side E.taken E.failures errors.new)
-        with_reasons as_json (besides_in failure.now) (outcome_of failure.now) (end_of result) }
+    ensures does { Does (store F.contents F.reads F.failures files.old)
+        (store F.contents F.reads F.failures files.new) (asked_view asked.now) with_reasons
+        (C.events caller.old) (C.events caller.new)
+        (side O.taken O.failures output.old) (side O.taken O.failures output.new)
+        (side E.taken E.failures errors.old) (side E.taken E.failures errors.new) (end_of result) }
 {
-    match object_where(alloc, failure, as_json) {
-        Ok(object) => {
-            let written = write_failure(failure, &object, with_reasons, output, errors);
-            ended_after(written, failure.status(), None, with_reasons)
-        }
-        Err(_) => Ended {
-            status: tell_memory(errors),
-            saved: None,
+    match asked {
+        Asked::Report(request) => tell(
+            alloc,
+            answer(alloc, request, with_reasons, files),
             with_reasons,
-        },
-    }
-}
-
-/// Writes what is said of conditions that weren't judged, and then what was found.
-fn write_found<O: Sink, E: Sink>(
-    found: &Found,
-    with_reasons: bool,
-    output: &mut O,
-    errors: &mut E,
-) -> Result<(), SinkFault>
-    requires { IsExplained with_reasons found.now.report }
-    ensures { WritesBoth (side O.taken O.failures output.old) (side O.taken O.failures output.new)
-        (side E.taken E.failures errors.old) (side E.taken E.failures errors.new)
-        (printed with_reasons (found_as found.now)) result }
-{
-    write_texts(errors, &[found.note.as_str()])?;
-    found.report.write(with_reasons, output, errors)
-}
-
-/// Tells what was found, or why nothing was; where that is wanted, with the reasons, and by an object too. Answers how the run
-/// ends.
-fn tell<O: Sink, E: Sink>(
-    alloc: Global,
-    found: Result<Found, Failure<'_>>,
-    with_reasons: bool,
-    as_json: bool,
-    output: &mut O,
-    errors: &mut E,
-) -> Ended
-    requires { IfOk found (λ f. IsExplained with_reasons f.report) }
-    ensures reasons { result.with_reasons ≡ with_reasons }
-    ensures tells { Tells (side O.taken O.failures output.old) (side O.taken O.failures output.new)
-        (side E.taken E.failures errors.old) (side E.taken E.failures errors.new)
-        with_reasons as_json (said_besides found.entry) (came_to found.entry) (end_of result) }
-{
-    match found {
-        Ok(found) => {
-            let written = write_found(&found, with_reasons, output, errors);
-            let status = found.report.status();
-            ended_after(written, status, found.report.into_saved(), with_reasons)
+            is_json(request),
+            output,
+            errors,
+        ),
+        Asked::Session(opening) => {
+            hold_session(alloc, opening, with_reasons, files, caller, output, errors)
         }
-        Err(failure) => tell_failure(alloc, &failure, with_reasons, as_json, output, errors),
     }
 }
 
 /// Runs the program on the words of a command line, the first of which is its name, and answers the exit status, with the
-/// file that is to be written once the output is out. After a failed write nothing more is written on either side, and no
-/// file. Where a document that isn't JSON stops being it, and why a file can't be read, is what the
-/// kit and the system say, of which nothing else is said.
-pub fn run<F: Files, O: Sink, E: Sink>(
+/// file that is to be written once the output is out. A session asks the caller for its requests, and answers them there. After a
+/// failed write nothing more is written on either side, and no file. Where a document that isn't JSON stops being it, and why a
+/// file can't be read, is what the kit and the system say, of which nothing else is said.
+pub fn run<F: Files, C: Caller, O: Sink, E: Sink>(
     alloc: Global,
     words: &[String],
     files: &mut F,
+    caller: &mut C,
     output: &mut O,
     errors: &mut E,
 ) -> Ended
-    ensures taken { (refusals (map string_bytes words.now) ≡ []) → (o : Outcome) × (besides : Besides)
-        × IsOutcome (store F.contents F.reads F.failures files.old)
-        (store F.contents F.reads F.failures files.new) (request_of (map string_bytes words.now)) o
-        × Brings (side O.taken O.failures output.old) (side O.taken O.failures output.new)
-        (side E.taken E.failures errors.old) (side E.taken E.failures errors.new)
-        (printed_with besides (asks_reasons (map string_bytes words.now)) o) (end_of result) }
+    ensures taken { (refusals (map string_bytes words.now) ≡ [])
+        → Does (store F.contents F.reads F.failures files.old)
+        (store F.contents F.reads F.failures files.new) (asked_in (map string_bytes words.now))
+        (asks_reasons (map string_bytes words.now)) (C.events caller.old) (C.events caller.new)
+        (side O.taken O.failures output.old) (side O.taken O.failures output.new)
+        (side E.taken E.failures errors.old) (side E.taken E.failures errors.new) (end_of result) }
     ensures words { ¬ (refusals (map string_bytes words.now) ≡ []) → (o : Printed)
         × AnswersWords (refusals (map string_bytes words.now)) o
         × Brings (side O.taken O.failures output.old) (side O.taken O.failures output.new)
@@ -204,13 +88,15 @@ pub fn run<F: Files, O: Sink, E: Sink>(
     ensures reasons { (refusals (map string_bytes words.now) ≡ [])
         → (result.with_reasons ≡ asks_reasons (map string_bytes words.now)) ⊎ (result.status ≡ 4) }
     ensures untouched { ¬ (refusals (map string_bytes words.now) ≡ []) → files.new ≡ files.old }
+    ensures unasked { ¬ (refusals (map string_bytes words.now) ≡ []) → caller.new ≡ caller.old }
 {
     match read_words(alloc, words) {
-        Ok(line) => tell(
+        Ok(line) => do_asked(
             alloc,
-            answer(alloc, &line.request, line.with_reasons, files),
+            &line.asked,
             line.with_reasons,
-            is_json(&line.request),
+            files,
+            caller,
             output,
             errors,
         ),

@@ -1,7 +1,10 @@
 //! What is said of conditions that aren't judged (RFC 7950, 7.5.3 and 7.21.5).
 
-ghost use Rattle.std.specs.Prelude.{◌≡◌, ◌+◌, IfOk, OnOk, if◌then◌else◌, length, map, string_bytes};
+ghost use Rattle.std.specs.Prelude.{◌≡◌, ◌+◌, [], IfOk, OnOk, if◌then◌else◌, length, map, string_bytes};
 ghost use Rattle.yspec_run.specs.Unjudged as spec;
+ghost use Rattle.yspec.specs.text.Text.{Text};
+ghost use Rattle.yspec_run.specs.Output.{Outcome, with_modules};
+ghost use Rattle.yspec_opening.specs.Opening.{with_conditions};
 ghost use Rattle.ytext.specs.View as text;
 ghost use Rattle.ytext.specs.View.{modules_view, row_view};
 ghost use Rattle.ylink_grammar.specs.LanguageView.{language_view, unjudged_view};
@@ -203,5 +206,59 @@ pub(crate) fn unnoted(alloc: Global, report: Report) -> Found
     Found {
         report,
         note: String::new(alloc),
+    }
+}
+
+/// What is said of the conditions of the modules of some files, which aren't judged.
+fn note_of_files<'a>(
+    alloc: Global,
+    language: &Language,
+    unjudged: Unjudged,
+    names: &[&'a str],
+    contents: &[Vec<u8>],
+) -> Result<String, Failure<'a>>
+    ensures { (next : Text → Outcome) → LeadsTo (with_modules (language_view language.now) (map (λ n. n.now) names.now)
+        (map (λ c. c.items) contents.now) (λ modules files. next (spec.note_of (unjudged_view unjudged) modules)))
+        (λ note. next (string_bytes note)) result }
+{
+    match parse_modules(alloc, language, names, contents) {
+        Ok(parsed) => Ok(note_of(alloc, unjudged, &parsed.value)?),
+        Err(failure) => Err(failure),
+    }
+}
+
+/// The same, where any conditions aren't judged.
+fn note_where<'a>(
+    alloc: Global,
+    language: &Language,
+    unjudged: Unjudged,
+    names: &[&'a str],
+    contents: &[Vec<u8>],
+) -> Result<String, Failure<'a>>
+    ensures { let u = unjudged_view unjudged in (next : Text → Outcome)
+        → LeadsTo (if spec.is_any u then with_modules (language_view language.now) (map (λ n. n.now) names.now)
+        (map (λ c. c.items) contents.now) (λ modules files. next (spec.note_of u modules)) else next [])
+        (λ note. next (string_bytes note)) result }
+{
+    if unjudged.is_any() {
+        note_of_files(alloc, language, unjudged, names, contents)
+    } else {
+        Ok(String::new(alloc))
+    }
+}
+
+/// What is said of the conditions of modules that a language doesn't judge, by the contents of their files.
+pub(crate) fn note_in<'a>(
+    alloc: Global,
+    language: &Language,
+    names: &[&'a str],
+    contents: &[Vec<u8>],
+) -> Result<String, Failure<'a>>
+    ensures { (next : Text → Outcome) → LeadsTo (with_conditions (language_view language.now) (map (λ n. n.now) names.now)
+        (map (λ c. c.items) contents.now) next) (λ note. next (string_bytes note)) result }
+{
+    match language {
+        Language::Core => Ok(String::new(alloc)),
+        Language::Rfc(wide) => note_where(alloc, language, wide.unjudged, names, contents),
     }
 }

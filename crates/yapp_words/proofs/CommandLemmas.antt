@@ -4,6 +4,7 @@ use Rattle.std.specs.Prelude.{Result, Ok, Err, IsErrAnd, option_map, unwrap_or, 
 use Rattle.yspec_wide.specs.Language.{Language, core}
 use Rattle.yspec_run.specs.Output as spec
 use Rattle.yspec_run.specs.Output.{compile, edit, validate}
+use Rattle.yspec_opening.specs.Opening.{Opening, report}
 use Rattle.clap.specs.Kinds.{or_else}
 use Rattle.clap.specs.Words.{AddsArg, AddsSubcommand, App, Kinds, IsAmong, Row, Rule, Text, all_of, app_of, fault_of, first_of, first_value, matched_of, raw_values, rows_of, is_simple, is_simple_and_free, new_app, subcommand_of, with_rule, with_subcommand}
 use Rattle.clap.specs.Simple.{app_of_fields}
@@ -17,7 +18,7 @@ use Rattle.clap.specs.declared.parser.matches.Found.{Found}
 use Rattle.clap.proofs.WalkLemmas.{first_value-rows, raw_values-rows}
 use Rattle.clap.proofs.OnLiterals.{clap_on_literals}
 use Rattle.yapp_words.specs.Application.{IsArgument, IsCommand, yanglive}
-use Rattle.yapp_words.specs.Command.{Declines, Explains, Refuses, Takes, TakesFit, asked_by, asked_of, asks_help, conditions_in_core, drawing_by, explained_by, features_in_core, is_help, misuse_fault, named_stream, reads_input_twice, refused_pair, refused_value, unfit_conditions, unfit_features, unknown_format, unknown_profile, value_of}
+use Rattle.yapp_words.specs.Command.{Declines, Explains, Refuses, Takes, TakesFit, asked_by, asked_of, asks_help, conditions_in_core, drawing_by, explained_by, features_in_core, is_help, misuse_fault, named_stream, reads_input_twice, reads_requests_twice, refused_pair, refused_value, unfit_conditions, unfit_features, unknown_format, unknown_profile, value_of}
 use Rattle.yapp_words.specs.Running.{refused, shown, with_text}
 use Rattle.yapp_words.specs.declared.command.CommandLine.{CommandLine}
 use Rattle.yapp_words.specs.declared.command.NoRequest.{NoRequest}
@@ -91,6 +92,13 @@ pub validate_same : (k l : Language) (d e : spec.Options) (a b : Text) (ms ns : 
 validate_same k l d e a b ms ns languages options documents modules =
     ap₂ (λ j f. validate j f a ms) languages options ∙ ap₂ (validate l e) documents modules
 
+abbrev pub over : Language → Bool → Text → List Text → Opening
+over language is_strict document modules =
+    record { language = language; is_strict = is_strict; document = document; modules = modules }
+
+pub opening_same : (k l : Language) (d e : Bool) (a b : Text) (ms ns : List Text) → k ≡ l → d ≡ e → a ≡ b → ms ≡ ns → over k d a ms ≡ over l e b ns
+opening_same k l d e a b ms ns languages strict documents modules = ap₂ (λ j f. over j f a ms) languages strict ∙ ap₂ (over l e) documents modules
+
 pub drawing_same : (a b : Bool) (k l : Language) (n m : Text) (xs ys : List Text) → a ≡ b → k ≡ l → n ≡ m → xs ≡ ys → drawing_by a k n xs ≡ drawing_by b l m ys
 drawing_same a b k l n m xs ys all languages names modules = ap₂ (λ c j. drawing_by c j n xs) all languages ∙ ap₂ (drawing_by b l) names modules
 
@@ -108,7 +116,7 @@ pub asked_some : (o : Option (Text × List Row)) (name : Text) (rows : List Row)
 asked_some None name rows e f = cc
 asked_some (Some p) name rows e f = ap₂ (λ (n : Option Text) (r : Option (List Row)). asked_of (unwrap_or n name) (unwrap_or r rows)) e f
 
-pub asked_none : (o : Option (Text × List Row)) → None ≡ option_map (λ p. p.1) o → compile core [] ≡ asked_by o
+pub asked_none : (o : Option (Text × List Row)) → None ≡ option_map (λ p. p.1) o → report (compile core []) ≡ asked_by o
 asked_none None e = refl
 asked_none (Some p) e = cc
 
@@ -156,7 +164,8 @@ misused command =
     (refused_first _ _
     (refused_first _ _ (value_refused (unknown_profile command)) (refused_first _ _ (value_refused (unfit_features command)) (pair_refused (features_in_core command))))
     (refused_first _ _ (value_refused (unfit_conditions command)) (pair_refused (conditions_in_core command))))
-    (refused_first _ _ (value_refused (named_stream command)) (pair_refused (reads_input_twice command))))
+    (refused_first _ _ (value_refused (named_stream command))
+    (refused_first _ _ (pair_refused (reads_input_twice command)) (pair_refused (reads_requests_twice command)))))
 
 -- a refusal of the first of two causes is one of both
 pub refuses_first : (kinds others : Kinds) (a : NoRequest) → Refuses kinds (Some a) → Refuses (or_else kinds others) (Some a)

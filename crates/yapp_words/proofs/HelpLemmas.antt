@@ -278,6 +278,10 @@ edit_help : HelpsOf (codes "edit")
 unfolding clap_on_literals
 edit_help program = refl
 
+session_help : HelpsOf (codes "session")
+unfolding clap_on_literals
+session_help program = refl
+
 -- each of these does
 EachHelps : List Text → Type 0
 EachHelps [] = Unit {0}
@@ -295,7 +299,7 @@ among_helps name (other ∷ names) each is = this_or_later (bytes_eq name other)
 
 pub command_help : (name : Text) → is_command name ≡ true → HelpsOf name
 unfolding EachHelps
-command_help name = among_helps name commands (explain_help, (compile_help, (tree_help, (validate_help, (edit_help, tt)))))
+command_help name = among_helps name commands (explain_help, (compile_help, (tree_help, (validate_help, (edit_help, (session_help, tt))))))
 
 -- fewer words than two, and more than three, mean themselves
 pub few_taken : (words : List (String Global)) (r : Result CommandLine NoRequest) → length words < 2 → Takes (map string_bytes words) r

@@ -59,6 +59,11 @@ abbrev pub edit_app : App
 edit_app = with_rule (with_rule (with_rule (with_rule (with_rule (over_document (codes "edit")) (flag (codes "dump")))
     (option (codes "output"))) (wanted (codes "DATA"))) (wanted (codes "SCRIPT"))) (wanted_all (codes "MODULE"))
 
+-- `session ..` with these of a command over files, `[--strict] DATA MODULE..`
+abbrev pub session_app : App
+session_app = with_rule (with_rule (with_rule (over_files (codes "session")) (flag (codes "strict"))) (wanted (codes "DATA")))
+    (wanted_all (codes "MODULE"))
+
 -- `explain [CODE..]`
 abbrev pub explain_app : App
 explain_app = with_rule (new_app (codes "explain")) (any_number (codes "CODE"))
@@ -68,9 +73,9 @@ abbrev pub with_commands : Shape → Shape
 with_commands s = record s { has_version = true; disable_help_subcommand = true; subcommand_required = true }
 
 abbrev pub yanglive : App
-yanglive = with_subcommand (with_subcommand (with_subcommand (with_subcommand (with_subcommand
+yanglive = with_subcommand (with_subcommand (with_subcommand (with_subcommand (with_subcommand (with_subcommand
     (on_top with_commands (new_app (codes "yanglive")))
-    compile_app.top) tree_app.top) validate_app.top) edit_app.top) explain_app.top
+    compile_app.top) tree_app.top) validate_app.top) edit_app.top) session_app.top) explain_app.top
 
 -- ---- what is built of these
 

@@ -5,6 +5,7 @@ use Rattle.std.specs.Str.{bytes_eq}
 use Rattle.yspec_wide.specs.Language.{Language, core}
 use Rattle.yspec_run.specs.Output as spec
 use Rattle.yspec_run.specs.Output.{explain, compile, draw, draw_all, validate, edit}
+use Rattle.yspec_opening.specs.Opening.{Asked, Opening, report, session}
 use Rattle.clap.specs.Kinds.{or_else}
 use Rattle.clap.specs.Words.{Kinds, Row, Text, all_of, fault_of, first_of, subcommand_of}
 use Rattle.clap.specs.declared.error.kind.ErrorKind.{ErrorKind}
@@ -15,14 +16,17 @@ use Rattle.yapp_words.specs.Languages.{chooses_in_core, choosings_of, is_profile
 use Rattle.yapp_words.specs.declared.command.Options.{Options}
 use Rattle.yapp_words.specs.declared.command.Request.{Request}
 use Rattle.yapp_words.specs.declared.command.Request.TheVariants as requests
+use Rattle.yapp_words.specs.declared.command.Asked as rust
+use Rattle.yapp_words.specs.declared.command.Asked.TheVariants as asks
 use Rattle.yapp_words.specs.declared.command.CommandLine.{CommandLine}
+use Rattle.yapp_words.specs.declared.command.Opening as given
 use Rattle.yapp_words.specs.declared.command.NoRequest.{NoRequest}
 use Rattle.yapp_words.specs.declared.command.NoRequest.TheVariants as none
 
 -- ---- words; the first is the program's name
 
 abbrev pub commands : List Text
-commands = codes "explain" ∷ codes "compile" ∷ codes "tree" ∷ codes "validate" ∷ codes "edit" ∷ []
+commands = codes "explain" ∷ codes "compile" ∷ codes "tree" ∷ codes "validate" ∷ codes "edit" ∷ codes "session" ∷ []
 
 abbrev pub is_command : Text → Bool
 is_command name = list_any (bytes_eq name) commands
@@ -110,6 +114,11 @@ reads_input_twice None = false
 reads_input_twice (Some command) =
     is_input (value_of (codes "DATA") command.1) && is_input (value_of (codes "SCRIPT") command.1)
 
+-- whether standard input, which has the requests of a session, is named for its document
+abbrev pub reads_requests_twice : Option (Text × List Row) → Bool
+reads_requests_twice None = false
+reads_requests_twice (Some command) = bytes_eq command.0 (codes "session") && is_input (value_of (codes "DATA") command.1)
+
 -- they are refused as clap refuses a value that isn't among those that it knows, and arguments that don't go together
 abbrev pub refused_value : Option Text → Kinds
 refused_value None = []
@@ -133,7 +142,8 @@ language_fault command = or_else (feature_fault command) (condition_fault comman
 
 -- of the files
 abbrev pub file_fault : Option (Text × List Row) → Kinds
-file_fault command = or_else (refused_value (named_stream command)) (refused_pair (reads_input_twice command))
+file_fault command = or_else (refused_value (named_stream command))
+    (or_else (refused_pair (reads_input_twice command)) (refused_pair (reads_requests_twice command)))
 
 abbrev pub misuse_fault : Option (Text × List Row) → Kinds
 misuse_fault command = or_else (refused_value (unknown_format command)) (or_else (language_fault command) (file_fault command))
@@ -181,21 +191,34 @@ abbrev pub edition_of : List Row → spec.Request
 edition_of rows = edit (language_of rows) (options_of rows) (value_of (codes "DATA") rows)
     (value_of (codes "SCRIPT") rows) (modules_of rows)
 
--- what the command of a name asks for
-abbrev pub asked_of : Text → List Row → spec.Request
-asked_of name rows = if bytes_eq name (codes "explain") then explanation_of rows
+-- what a session is over
+abbrev pub opening_of : List Row → Opening
+opening_of rows = record {
+  language = language_of rows;
+  is_strict = is_given (codes "strict") rows;
+  document = value_of (codes "DATA") rows;
+  modules = modules_of rows;
+}
+
+-- what the command of a name asks for that tells something once
+abbrev pub reported_of : Text → List Row → spec.Request
+reported_of name rows = if bytes_eq name (codes "explain") then explanation_of rows
     else (if bytes_eq name (codes "compile") then compilation_of rows
     else (if bytes_eq name (codes "tree") then drawing_of rows
     else (if bytes_eq name (codes "validate") then validation_of rows else edition_of rows)))
 
+-- what the command of a name asks for
+abbrev pub asked_of : Text → List Row → Asked
+asked_of name rows = if bytes_eq name (codes "session") then session (opening_of rows) else report (reported_of name rows)
+
 -- what a subcommand and its arguments ask for; taken words name one
-abbrev pub asked_by : Option (Text × List Row) → spec.Request
-asked_by None = compile core []
+abbrev pub asked_by : Option (Text × List Row) → Asked
+asked_by None = report (compile core [])
 asked_by (Some command) = asked_of command.0 command.1
 
 -- what taken words ask for
-abbrev pub request_of : List Text → spec.Request
-request_of words = asked_by (subcommand_of yanglive (meant words))
+abbrev pub asked_in : List Text → Asked
+asked_in words = asked_by (subcommand_of yanglive (meant words))
 
 -- whether a command's arguments ask for the reasons of what is told
 abbrev pub explained_by : Option (Text × List Row) → Bool
@@ -226,6 +249,18 @@ view (requests.Validate language options document modules) =
 view (requests.Edit language options document script modules) =
     edit (language_view language) (options_view options) document.now script.now (map (λ name. name.now) modules.items)
 
+abbrev pub opening_view : given.Opening → Opening
+opening_view o = record {
+  language = language_view o.language;
+  is_strict = o.is_strict;
+  document = o.document.now;
+  modules = map (λ name. name.now) o.modules.items;
+}
+
+abbrev pub asked_view : rust.Asked → Asked
+asked_view (asks.Report request) = report (view request)
+asked_view (asks.Session opening) = session (opening_view opening)
+
 -- ---- what comes in place of a request
 
 -- help, or the version
@@ -254,7 +289,7 @@ Declines kinds none.Memory = Unit {0}
 -- words are taken exactly where nothing is wrong with them, and then their request is the definition's
 abbrev pub Answers : Kinds → List Text → Result CommandLine NoRequest → Type 0
 Answers kinds words (Ok line) = (kinds ≡ [])
-    × (view line.request ≡ asked_by (subcommand_of yanglive words))
+    × (asked_view line.asked ≡ asked_by (subcommand_of yanglive words))
     × (line.with_reasons ≡ explained_by (subcommand_of yanglive words))
 Answers kinds words (Err answer) = Declines kinds answer
 
@@ -270,7 +305,7 @@ IsRefusal none.Memory = Unit {0}
 
 -- of what clap takes, what is misused is refused
 abbrev pub TakesFit : Option (Text × List Row) → Result CommandLine NoRequest → Type 0
-TakesFit command (Ok line) = (misuse_fault command ≡ []) × (view line.request ≡ asked_by command)
+TakesFit command (Ok line) = (misuse_fault command ≡ []) × (asked_view line.asked ≡ asked_by command)
     × (line.with_reasons ≡ explained_by command)
 TakesFit command (Err (none.Help text)) = ⊥
 TakesFit command (Err (none.Refused text)) = misuse_fault command ≡ [] → ⊥

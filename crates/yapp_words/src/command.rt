@@ -2,19 +2,20 @@
 
 ghost use Rattle.std.specs.Prelude.{◌≡◌, [], ◌∷◌, codes, map, string_bytes, true, IfOk, option_map};
 ghost use Rattle.std.specs.Str.{bytes_eq};
-ghost use Rattle.clap.specs.Words.{app_of, fault_of, first_of, found_of, kind_of, rows_of, subcommand_rows_of};
-ghost use Rattle.yapp_words.specs.Application.{IsArgument, IsCommand, any_number, compile_app, edit_app, explain_app, flag, option, over_document, over_files, repeated, tree_app, validate_app, wanted, wanted_all, yanglive};
+ghost use Rattle.clap.specs.Words.{fault_of, first_of, found_of, kind_of, rows_of, subcommand_rows_of};
+ghost use Rattle.yapp_words.specs.Application.{yanglive};
 ghost use Rattle.yapp_words.specs.Command as spec;
 ghost use Rattle.ylink_grammar.specs.LanguageView.{language_view};
-ghost use Rattle.yapp_words.specs.Command.{Declines, Explains, IsRefusal, Refuses, Takes, TakesFit, Understands, asks_help, asked_by, asked_of, compilation_of, condition_fault, drawing_of, edition_of, explained_by, explanation_of, feature_fault, file_fault, format_of, language_fault, is_given, modules_of, options_of, options_view, validation_of, value_of, view};
+ghost use Rattle.yapp_words.specs.Command.{Declines, Explains, IsRefusal, Refuses, Takes, TakesFit, Understands, asks_help, asked_by, asked_of, asked_view, compilation_of, condition_fault, drawing_of, edition_of, explained_by, explanation_of, feature_fault, file_fault, format_of, language_fault, is_given, modules_of, opening_of, opening_view, options_of, options_view, reported_of, validation_of, value_of, view};
 ghost use Rattle.yapp_words.specs.declared.command.NoRequest.TheVariants.{Memory};
 
+use crate::arguments::application;
 use crate::language::{
     chooses_in_core, is_profile, language_in, passes_in_core, profile_in, unfit_choosing_in,
     unfit_unjudged_in,
 };
+use clap::ArgMatches;
 use clap::error::ErrorKind;
-use clap::{Arg, ArgAction, ArgMatches, Command};
 use std::alloc::{AllocError, Global};
 use thiserror::Error;
 use ylink_grammar::Language;
@@ -22,8 +23,27 @@ use ylink_grammar::Language;
 /// What a command line asks for, and whether the reasons of what is told are wanted too.
 #[derive(Debug, Drop)]
 pub struct CommandLine<'a> {
-    pub request: Request<'a>,
+    pub asked: Asked<'a>,
     pub with_reasons: bool,
+}
+
+/// What a command asks for.
+#[derive(Debug, Drop)]
+pub enum Asked<'a> {
+    /// Something that is told once.
+    Report(Request<'a>),
+    /// A session.
+    Session(Opening<'a>),
+}
+
+/// What a session is over: a document under modules that are read in a language. Files are named by the words that were given.
+#[derive(Debug, Drop)]
+pub struct Opening<'a> {
+    pub language: Language,
+    /// A document with a member that comes twice is refused.
+    pub is_strict: bool,
+    pub document: &'a str,
+    pub modules: Vec<&'a str>,
 }
 
 /// How a document is taken, and what is made of it.
@@ -41,7 +61,7 @@ pub struct Options<'a> {
     pub saved_as: Option<&'a str>,
 }
 
-/// What a command asks for. Files are named by the words that were given, and modules are read in a language.
+/// What is told once. Files are named by the words that were given, and modules are read in a language.
 #[derive(Debug, Drop)]
 pub enum Request<'a> {
     /// What is said of codes; of all where none is named.
@@ -100,375 +120,6 @@ impl From<AllocError> for NoRequest {
     fn from(_e: AllocError) -> NoRequest {
         NoRequest::Memory
     }
-}
-
-/// The version that the program tells.
-const VERSION: &str = "0.1.0";
-
-/// What `compile` says at the end of its help.
-const COMPILE_HELP: &str = "Prints how many schema nodes the modules define, as `3 nodes`.
-A refused module is told as FILE:LINE: CODE, L1 to L8 of its text, C1 to C18, C20 and C22 of its statements; `yanglive explain CODE` says what it means.
-With --profile rfc modules of YANG 1 are taken too, and what rests on a feature that is off isn't there. --features net:ssh,ntp has these two of module net on, --features net: none; of a module that is named twice the first counts. --unjudged must,when reads these conditions and judges none: what hangs on a `when` may be there, and needn't.
-
-Exit status:
-  0  The modules compile
-  2  A module is refused
-  3  The command line is refused
-  4  A file, a stream or memory failed
-
-Example: yanglive compile net.yang";
-
-/// What `tree` says at the end of its help.
-const TREE_HELP: &str =
-    "Prints the tree diagram (RFC 8340) of the module NAME, one of the modules. A word alone is the file of a module, which is drawn; with --all each word is, and all modules are drawn, an empty line between two.
-
-Exit status:
-  0  The diagram is printed
-  2  A module is refused, or none has that name
-  3  The command line is refused
-  4  A file, a stream or memory failed
-
-Example: yanglive tree net net.yang";
-
-/// What `validate` says at the end of its help.
-const VALIDATE_HELP: &str =
-    "Prints a line for each fault, and then how many there are, as `0 faults`. The line has the code (V1 to V11, with --config V12), error-tag, error-app-tag, path, and the choice (V4, V5) or the number of the unique (V9), or - for none; [N] in a path is the position of an entry or item, from 1. With --format json a fault is an object on a line of its own, in the words of RESTCONF (RFC 8040, 7.1), and so are their number and what is refused, which stays a line on the error side too.
-With --config the nodes of state (config false) are left out: none is wanted, and what is stored of one is told as V12, once for each schema node and row.
-A refused module is told as FILE:LINE: CODE (L1 to L8, C1 to C18, C20, C22), a refused document as FILE: CODE PATH (J1 to J7, with --strict J8); `yanglive explain CODE` says what it means.
-
-Exit status:
-  0  There is no fault
-  1  There are faults
-  2  A module or the document is refused
-  3  The command line is refused
-  4  A file, a stream or memory failed
-
-Example: yanglive validate hosts.json net.yang";
-
-/// What `edit` says at the end of its help.
-const EDIT_HELP: &str = "Prints what `validate` prints, of the document after the edits.
-
-An edit stands on a line of its own; empty lines and those that begin with # are passed over:
-  create PATH VALUE
-  replace PATH VALUE
-  remove PATH
-  move PATH N
-PATH is a step or more: /module:name at the top and where the module changes, /name elsewhere, without choices and cases. Behind the name of an entry stands [N], its position from 1, or [key='text'] for each of its keys; behind that of an item [N]. The last step of create has none: an entry or item comes last.
-VALUE is JSON, up to the end of the line: an object for a container or an entry, as the document has it.
-N is the position of an entry or item once it is moved, from 1; the others keep their order.
-A refused edit changes nothing, and the others are applied. Its line and why it is refused stand on the error side, as `line 4: E7`; `yanglive explain E7` says what it means.
-With --output the edited document is written to a file beside FILE, which takes its place once all else is out; where something failed before, FILE stays as it is.
-
-Exit status:
-  0  There is no fault, and no edit is refused
-  1  There are faults or refused edits; FILE is written all the same
-  2  A module or the document is refused
-  3  The command line is refused
-  4  A file, a stream or memory failed
-
-Example: yanglive edit --dump hosts.json changes.txt net.yang";
-
-/// What `explain` says at the end of its help.
-const EXPLAIN_HELP: &str =
-    "Prints for each code its cause, which line or place is told with it, what to do, and where the rule stands. Without a code it prints this for all.
-
-The letter says what a code is told of:
-  L  The text of a module
-  C  Sets of modules
-  J  Documents
-  V  Faults of documents
-  E  Edits
-
-Exit status:
-  0  The codes are explained
-  2  A word is no code
-  3  The command line is refused
-  4  A stream or memory failed
-
-Example: yanglive explain C5 V11";
-
-/// `--profile PROFILE`
-fn profile_argument<'a>(alloc: Global) -> Arg<'a>
-    ensures { IsArgument (option (codes "profile")) result }
-{
-    Arg::new(alloc, "profile")
-        .long("profile")
-        .action(ArgAction::Set)
-        .value_name("PROFILE")
-        .help(
-            "How modules are read: core, as YANG 1.1 without features, or rfc, as YANG 1 and 1.1 with features",
-        )
-}
-
-/// `--features MODULE:FEATURES`
-fn features_argument<'a>(alloc: Global) -> Arg<'a>
-    ensures { IsArgument (repeated (codes "features")) result }
-{
-    Arg::new(alloc, "features")
-        .long("features")
-        .action(ArgAction::Append)
-        .value_name("MODULE:FEATURES")
-        .help(
-            "Under --profile rfc the features of a module that are on, with commas between; all are of a module that isn't named",
-        )
-}
-
-/// `--unjudged CONDITIONS`
-fn unjudged_argument<'a>(alloc: Global) -> Arg<'a>
-    ensures { IsArgument (option (codes "unjudged")) result }
-{
-    Arg::new(alloc, "unjudged")
-        .long("unjudged")
-        .action(ArgAction::Set)
-        .value_name("CONDITIONS")
-        .help(
-            "Under --profile rfc the conditions that are read and not judged, must, when or must,when; how many there are is said on the error side",
-        )
-}
-
-/// `--explain`
-fn explain_argument<'a>(alloc: Global) -> Arg<'a>
-    ensures { IsArgument (flag (codes "explain")) result }
-{
-    Arg::new(alloc, "explain")
-        .long("explain")
-        .action(ArgAction::SetTrue)
-        .help("Prints below each line with a code why it is told, and what to do")
-}
-
-/// A command over files, with its texts for help.
-fn command_over_files<'a>(
-    alloc: Global,
-    name: &'a str,
-    about: &'a str,
-    help: &'a str,
-) -> Result<Command<'a>, AllocError>
-    ensures { IfOk result (IsCommand (over_files name.entry.now)) }
-{
-    Command::new(alloc, name)
-        .about(about)
-        .after_help(help)
-        .arg(explain_argument(alloc))?
-        .arg(profile_argument(alloc))?
-        .arg(features_argument(alloc))?
-        .arg(unjudged_argument(alloc))
-}
-
-/// The modules, which are the last words of each command over files.
-fn modules_argument<'a>(alloc: Global) -> Arg<'a>
-    ensures { IsArgument (wanted_all (codes "MODULE")) result }
-{
-    Arg::new(alloc, "MODULE")
-        .help("The files of the modules")
-        .required(true)
-        .num_args(1..)
-}
-
-/// `--strict`
-fn strict_argument<'a>(alloc: Global) -> Arg<'a>
-    ensures { IsArgument (flag (codes "strict")) result }
-{
-    Arg::new(alloc, "strict")
-        .long("strict")
-        .action(ArgAction::SetTrue)
-        .help("Refuses a member that comes twice in one object")
-}
-
-/// `--config`
-fn config_argument<'a>(alloc: Global) -> Arg<'a>
-    ensures { IsArgument (flag (codes "config")) result }
-{
-    Arg::new(alloc, "config")
-        .long("config")
-        .action(ArgAction::SetTrue)
-        .help("Looks at configuration alone: no state data is wanted, and each is a fault (V12)")
-}
-
-/// `--format FORMAT`
-fn format_argument<'a>(alloc: Global) -> Arg<'a>
-    ensures { IsArgument (option (codes "format")) result }
-{
-    Arg::new(alloc, "format")
-        .long("format")
-        .action(ArgAction::Set)
-        .value_name("FORMAT")
-        .help("How faults are printed: text, or json for an object a line")
-}
-
-/// A command over a document, with its texts for help.
-fn command_over_document<'a>(
-    alloc: Global,
-    name: &'a str,
-    about: &'a str,
-    help: &'a str,
-) -> Result<Command<'a>, AllocError>
-    ensures { IfOk result (IsCommand (over_document name.entry.now)) }
-{
-    command_over_files(alloc, name, about, help)?
-        .arg(strict_argument(alloc))?
-        .arg(config_argument(alloc))?
-        .arg(format_argument(alloc))
-}
-
-/// The document.
-fn document_argument<'a>(alloc: Global) -> Arg<'a>
-    ensures { IsArgument (wanted (codes "DATA")) result }
-{
-    Arg::new(alloc, "DATA")
-        .help("The file of the document, in JSON; - for standard input")
-        .required(true)
-}
-
-/// `compile [--explain] [--profile PROFILE] [--features MODULE:FEATURES].. MODULE..`
-fn compile_command<'a>(alloc: Global) -> Result<Command<'a>, AllocError>
-    ensures { IfOk result (IsCommand compile_app) }
-{
-    command_over_files(
-        alloc,
-        "compile",
-        "Counts the schema nodes of modules",
-        COMPILE_HELP,
-    )?
-    .arg(modules_argument(alloc))
-}
-
-/// `--all`
-fn all_argument<'a>(alloc: Global) -> Arg<'a>
-    ensures { IsArgument (flag (codes "all")) result }
-{
-    Arg::new(alloc, "all")
-        .long("all")
-        .action(ArgAction::SetTrue)
-        .help("Draws all modules: each word is the file of one")
-}
-
-/// The name of a module.
-fn name_argument<'a>(alloc: Global) -> Arg<'a>
-    ensures { IsArgument (wanted (codes "NAME")) result }
-{
-    Arg::new(alloc, "NAME")
-        .help("The name of the module to draw; a word alone is its file")
-        .required(true)
-}
-
-/// The modules behind a name, if there are any.
-fn other_modules_argument<'a>(alloc: Global) -> Arg<'a>
-    ensures { IsArgument (any_number (codes "MODULE")) result }
-{
-    Arg::new(alloc, "MODULE")
-        .help("The files of the modules")
-        .num_args(0..)
-}
-
-/// `tree ..` with these, `[--all] NAME [MODULE..]`
-fn tree_command<'a>(alloc: Global) -> Result<Command<'a>, AllocError>
-    ensures { IfOk result (IsCommand tree_app) }
-{
-    command_over_files(
-        alloc,
-        "tree",
-        "Prints the tree diagram of a module",
-        TREE_HELP,
-    )?
-    .arg(all_argument(alloc))?
-    .arg(name_argument(alloc))?
-    .arg(other_modules_argument(alloc))
-}
-
-/// `validate ..` with these, `[--strict] [--config] [--format FORMAT] DATA MODULE..`
-fn validate_command<'a>(alloc: Global) -> Result<Command<'a>, AllocError>
-    ensures { IfOk result (IsCommand validate_app) }
-{
-    command_over_document(
-        alloc,
-        "validate",
-        "Prints the faults of a document under modules",
-        VALIDATE_HELP,
-    )?
-    .arg(document_argument(alloc))?
-    .arg(modules_argument(alloc))
-}
-
-/// The script.
-fn script_argument<'a>(alloc: Global) -> Arg<'a>
-    ensures { IsArgument (wanted (codes "SCRIPT")) result }
-{
-    Arg::new(alloc, "SCRIPT")
-        .help("The file of the edits, one a line; - for standard input")
-        .required(true)
-}
-
-/// `--dump`
-fn dump_argument<'a>(alloc: Global) -> Arg<'a>
-    ensures { IsArgument (flag (codes "dump")) result }
-{
-    Arg::new(alloc, "dump")
-        .long("dump")
-        .action(ArgAction::SetTrue)
-        .help("Prints the edited document in place of its faults")
-}
-
-/// `--output FILE`
-fn output_argument<'a>(alloc: Global) -> Arg<'a>
-    ensures { IsArgument (option (codes "output")) result }
-{
-    Arg::new(alloc, "output")
-        .long("output")
-        .action(ArgAction::Set)
-        .value_name("FILE")
-        .help("Writes the edited document to FILE, once all else is printed")
-}
-
-/// `edit ..` with these, `[--strict] [--config] [--format FORMAT] [--dump] [--output FILE] DATA SCRIPT MODULE..`
-fn edit_command<'a>(alloc: Global) -> Result<Command<'a>, AllocError>
-    ensures { IfOk result (IsCommand edit_app) }
-{
-    command_over_document(
-        alloc,
-        "edit",
-        "Edits a document, and prints its faults then",
-        EDIT_HELP,
-    )?
-    .arg(dump_argument(alloc))?
-    .arg(output_argument(alloc))?
-    .arg(document_argument(alloc))?
-    .arg(script_argument(alloc))?
-    .arg(modules_argument(alloc))
-}
-
-/// The codes that are to be explained.
-fn codes_argument<'a>(alloc: Global) -> Arg<'a>
-    ensures { IsArgument (any_number (codes "CODE")) result }
-{
-    Arg::new(alloc, "CODE")
-        .help("A code as it is printed, such as C5")
-        .num_args(0..)
-}
-
-/// `explain [CODE..]`
-fn explain_command<'a>(alloc: Global) -> Result<Command<'a>, AllocError>
-    ensures { IfOk result (IsCommand explain_app) }
-{
-    Command::new(alloc, "explain")
-        .about("Tells what codes mean and what to do")
-        .after_help(EXPLAIN_HELP)
-        .arg(codes_argument(alloc))
-}
-
-/// The program's commands.
-fn application<'a>(alloc: Global) -> Result<Command<'a>, AllocError>
-    ensures { IfOk result (λ c. app_of c ≡ yanglive) }
-{
-    Command::new(alloc, "yanglive")
-        .about("Compiles and draws YANG modules, and checks and edits JSON documents under them")
-        .version(VERSION)
-        .disable_help_subcommand(true)
-        .subcommand_required(true)
-        .subcommand(compile_command(alloc)?)?
-        .subcommand(tree_command(alloc)?)?
-        .subcommand(validate_command(alloc)?)?
-        .subcommand(edit_command(alloc)?)?
-        .subcommand(explain_command(alloc)?)
 }
 
 /// The modules that were given.
@@ -594,13 +245,40 @@ fn edition_in<'a>(alloc: Global, found: &ArgMatches<'a>) -> Result<Request<'a>, 
     })
 }
 
+/// What the arguments of `session` ask for.
+fn opening_in<'a>(alloc: Global, found: &ArgMatches<'a>) -> Result<Opening<'a>, AllocError>
+    ensures { IfOk result (λ o. opening_view o ≡ opening_of (rows_of (found_of found.now))) }
+{
+    let is_strict = has_flag(found, "strict");
+    let document = found.get_str("DATA").unwrap_or("");
+    let language = language_in(alloc, found)?;
+    let modules = modules_in(alloc, found)?;
+    Ok(Opening {
+        language,
+        is_strict,
+        document,
+        modules,
+    })
+}
+
 /// What a command's arguments ask for.
-fn asked_in<'a>(
+fn asked_in<'a>(alloc: Global, name: &str, found: &ArgMatches<'a>) -> Result<Asked<'a>, AllocError>
+    ensures { IfOk result (λ a. asked_view a ≡ asked_of name.now (rows_of (found_of found.now))) }
+{
+    if name == "session" {
+        Ok(Asked::Session(opening_in(alloc, found)?))
+    } else {
+        Ok(Asked::Report(request_in(alloc, name, found)?))
+    }
+}
+
+/// What the arguments of a command ask for that tells something once.
+fn request_in<'a>(
     alloc: Global,
     name: &str,
     found: &ArgMatches<'a>,
 ) -> Result<Request<'a>, AllocError>
-    ensures { IfOk result (λ r. view r ≡ asked_of name.now (rows_of (found_of found.now))) }
+    ensures { IfOk result (λ r. view r ≡ reported_of name.now (rows_of (found_of found.now))) }
 {
     match name {
         "explain" => explanation_in(alloc, found),
@@ -613,21 +291,21 @@ fn asked_in<'a>(
 
 /// What taken words ask for.
 fn line_in<'a>(alloc: Global, matches: &ArgMatches<'a>) -> Result<CommandLine<'a>, AllocError>
-    ensures request { IfOk result (λ l. view l.request
+    ensures asked { IfOk result (λ l. asked_view l.asked
         ≡ asked_by (subcommand_rows_of matches.now)) }
     ensures reasons { IfOk result (λ l. l.with_reasons
         ≡ explained_by (subcommand_rows_of matches.now)) }
 {
     match matches.subcommand() {
         Some((name, found)) => Ok(CommandLine {
-            request: asked_in(alloc, name, found)?,
+            asked: asked_in(alloc, name, found)?,
             with_reasons: has_flag(found, "explain"),
         }),
         None => Ok(CommandLine {
-            request: Request::Compile {
+            asked: Asked::Report(Request::Compile {
                 language: Language::Core,
                 modules: Vec::new(alloc),
-            },
+            }),
             with_reasons: false,
         }),
     }
@@ -744,6 +422,16 @@ fn reads_input_twice(matches: &ArgMatches<'_>) -> bool
     }
 }
 
+/// Whether standard input, which has the requests of a session, is named for its document.
+fn reads_requests_twice(matches: &ArgMatches<'_>) -> bool
+    ensures { result ≡ spec.reads_requests_twice (subcommand_rows_of matches.now) }
+{
+    match matches.subcommand() {
+        Some((name, found)) => name == "session" && is_input(found, "DATA"),
+        None => false,
+    }
+}
+
 /// Whether an argument names standard input.
 fn is_input(found: &ArgMatches<'_>, argument: &str) -> bool
     ensures { result ≡ spec.is_input (value_of argument.now (rows_of (found_of found.now))) }
@@ -833,12 +521,21 @@ fn input_refusal(alloc: Global) -> NoRequest
     ))
 }
 
+/// The refusal of standard input for the document of a session.
+fn requests_refusal(alloc: Global) -> NoRequest
+    ensures { IsRefusal result }
+{
+    refusal(format!(in alloc;
+        "error: DATA of a session can't be -: standard input has the requests\n\nFor more information, try '--help'.\n"
+    ))
+}
+
 /// The refusal of help for a word that is no command's.
 fn command_refusal(alloc: Global, name: &str) -> NoRequest
     ensures { IsRefusal result }
 {
     refusal(format!(in alloc;
-        "error: no command is called '{name}'; the commands are compile, tree, validate, edit and explain\n\nFor more information, try '--help'.\n"
+        "error: no command is called '{name}'; the commands are compile, tree, validate, edit, session and explain\n\nFor more information, try '--help'.\n"
     ))
 }
 
@@ -890,6 +587,9 @@ fn file_refusal(alloc: Global, matches: &ArgMatches<'_>) -> Option<NoRequest>
     }
     if reads_input_twice(matches) {
         return Some(input_refusal(alloc));
+    }
+    if reads_requests_twice(matches) {
+        return Some(requests_refusal(alloc));
     }
     None
 }
@@ -956,7 +656,10 @@ fn help_for(alloc: Global, words: &[&str]) -> NoRequest
 fn is_command(name: &str) -> bool
     ensures { result ≡ spec.is_command name.now }
 {
-    matches!(name, "explain" | "compile" | "tree" | "validate" | "edit")
+    matches!(
+        name,
+        "explain" | "compile" | "tree" | "validate" | "edit" | "session"
+    )
 }
 
 /// The help for a word behind `help`: that of a command, or a refusal where no command has that name.

@@ -1,7 +1,9 @@
 //! The command line of the program: which words ask for what, by `clap`.
 #![tactic(auto)]
 
+mod arguments;
 mod command;
+mod help;
 mod language;
 
-pub use command::{CommandLine, NoRequest, Options, Request, read_words};
+pub use command::{Asked, CommandLine, NoRequest, Opening, Options, Request, read_words};

@@ -1,6 +1,8 @@
 -- What a session answers a line, as the text of an object of JSON without a line feed.
-use Rattle.std.specs.Prelude.{ℕ, ◌++◌, List, [], ◌∷◌, codes, decimal, Some, None, option_map}
+use Rattle.std.specs.Prelude.{ℕ, ◌++◌, List, [], ◌∷◌, codes, decimal, Option, Some, None}
 use Rattle.std.specs.List.{flat_map}
+use Rattle.serde_json.specs.Data.{string}
+use Rattle.serde_json.specs.Written.{compact_text}
 use Rattle.yspec.specs.text.Text.{Text}
 use Rattle.yspec.specs.schema.Schema.{Schema}
 use Rattle.yspec.specs.document.Document.{Tree}
@@ -8,8 +10,7 @@ use Rattle.yspec.specs.document.Fault.{Fault}
 use Rattle.yspec.specs.document.Writing.{written_text}
 use Rattle.yspec.specs.edit.Editing.{EditRefusal}
 use Rattle.ysay_json.specs.FaultData.{json_line}
-use Rattle.ysay_json.specs.RefusalData.{Refused, refused_text}
-use Rattle.yspec_run.specs.RefusalData.{cause_of, edit_tag}
+use Rattle.yspec_run.specs.RefusalData.{cause_of}
 use Rattle.yspec_run.specs.Script.{telling_code}
 
 -- ---- of edits
@@ -17,21 +18,15 @@ use Rattle.yspec_run.specs.Script.{telling_code}
 abbrev pub changed_text : ℕ → ℕ → Text
 changed_text before after = codes "{\"before\":" ++ (decimal before ++ (codes ",\"after\":" ++ (decimal after ++ codes "}")))
 
--- why an edit is refused, as a refused line of a script is told
-abbrev pub edit_object : EditRefusal → Refused
-edit_object e = record {
-  code = Some (codes "E" ++ decimal e.code);
-  value_code = option_map (λ code. codes "J" ++ decimal code) e.document_code;
-  tag = edit_tag e.code;
-  message = cause_of (telling_code e);
-  file = None;
-  line = None;
-  path = None;
-}
+-- the code of a value that doesn't fit
+abbrev pub document_member : Option ℕ → Text
+document_member None = []
+document_member (Some code) = codes "\"document\":\"J" ++ (decimal code ++ codes "\",")
 
+-- why an edit is refused, by the cause of the code that says most
 abbrev pub edit_refused_text : EditRefusal → Text
-edit_refused_text e =
-    codes "{\"refused\":\"E" ++ (decimal e.code ++ (codes "\",\"error\":" ++ (refused_text (edit_object e) ++ codes "}")))
+edit_refused_text e = codes "{\"refused\":\"E" ++ (decimal e.code ++ (codes "\"," ++ (document_member e.document_code
+    ++ (codes "\"message\":" ++ (compact_text (string (cause_of (telling_code e))) ++ codes "}")))))
 
 -- ---- of faults
 

@@ -1,17 +1,20 @@
 //! What is answered to requests of which there is nothing to tell, and to those that are refused.
 
-ghost use Rattle.std.specs.Prelude.{◌≡◌, ◌++◌, IfOk, Some, None, decimal, option_map, string_bytes};
+ghost use Rattle.std.specs.Prelude.{◌≡◌, ◌++◌, IfOk, decimal, option_map, string_bytes};
+ghost use Rattle.serde_json.specs.Data.{string};
+ghost use Rattle.serde_json.specs.Written.{compact_text};
 ghost use Rattle.yspec_run.specs.RefusalData as run;
-ghost use Rattle.yinst_path.specs.Applying.{edit_number, refusal_view};
-ghost use Rattle.ysay_json.specs.RefusalData as format;
+ghost use Rattle.yspec_run.specs.Script.{telling_code};
+ghost use Rattle.yinst_path.specs.Applying.{refusal_view};
+ghost use Rattle.yinst_tree.specs.Told.{code_number};
 ghost use Rattle.ysay_session.specs.AnswerText as spec;
 
 use itoa::Buffer;
+use serde_json::Value;
 use std::alloc::{AllocError, Global};
 use yinst_path::EditCode;
 use yinst_tree::DocCode;
 use ysay_codes::explain;
-use ysay_json::{Refused, refused_text};
 
 fn code_text(alloc: Global, letter: &str, number: u8) -> Result<String, AllocError>
     ensures { IfOk result (λ text. string_bytes text ≡ letter.now ++ decimal number) }
@@ -30,66 +33,38 @@ fn cause_of(code: &str) -> &'static str
     }
 }
 
-fn edit_tag(code: EditCode) -> &'static str
-    ensures { result.now ≡ run.edit_tag (edit_number code) }
+/// Why a code is told, as a string of JSON.
+fn message_of(alloc: Global, letter: &str, number: u8) -> Result<String, AllocError>
+    ensures { IfOk result (λ text. string_bytes text
+        ≡ compact_text (string (run.cause_of (letter.now ++ decimal number)))) }
 {
-    match code {
-        EditCode::E1 | EditCode::E9 => "malformed-message",
-        EditCode::E2 => "unknown-element",
-        EditCode::E3 => "bad-element",
-        EditCode::E4 | EditCode::E5 | EditCode::E7 => "data-missing",
-        EditCode::E6 => "operation-failed",
-        EditCode::E8 => "data-exists",
-        EditCode::E10 => "invalid-value",
-        EditCode::E11 => "too-big",
+    let code = code_text(alloc, letter, number)?;
+    let cause = String::from_str(alloc, cause_of(code.as_str()))?;
+    Value::String(cause).to_string(alloc)
+}
+
+/// The code of a value that doesn't fit, as a member of an object.
+fn document_member(alloc: Global, doc: Option<DocCode>) -> Result<String, AllocError>
+    ensures { IfOk result (λ text. string_bytes text
+        ≡ spec.document_member (option_map code_number doc)) }
+{
+    match doc {
+        Some(doc) => {
+            let mut digits = Buffer::new();
+            ["\"document\":\"J", digits.format(doc.number()), "\","].concat(alloc)
+        }
+        None => Ok(String::new(alloc)),
     }
 }
 
-/// The object of a refused edit, by its tag, its code, the value's if it has one, and the one that says most.
-fn object_of<'a>(
-    alloc: Global,
-    tag: &'a str,
-    code: &'a str,
-    value_code: Option<&'a str>,
-    telling: &str,
-) -> Result<String, AllocError>
-    ensures { IfOk result (λ text. string_bytes text ≡ format.refused_text (record {
-      code = Some code.entry.now;
-      value_code = option_map (λ t. t.now) value_code.entry;
-      tag = tag.now;
-      message = run.cause_of telling.now;
-      file = None;
-      line = None;
-      path = None;
-    })) }
-{
-    let refused = Refused {
-        code: Some(code),
-        value_code,
-        tag,
-        message: cause_of(telling),
-        file: None,
-        line: None,
-        path: None,
-    };
-    refused_text(alloc, refused)
-}
-
-/// The object of a refused edit, by its code and why the value doesn't fit.
-fn edit_object(alloc: Global, code: EditCode, doc: Option<DocCode>) -> Result<String, AllocError>
+/// The cause of the code that says most of a refused edit: of its value's, where it has one.
+fn edit_message(alloc: Global, code: EditCode, doc: Option<DocCode>) -> Result<String, AllocError>
     ensures { IfOk result (λ text. string_bytes text
-        ≡ format.refused_text (spec.edit_object (refusal_view code doc))) }
+        ≡ compact_text (string (run.cause_of (telling_code (refusal_view code doc))))) }
 {
-    let tag = edit_tag(code);
-    let code = code_text(alloc, "E", code.number())?;
-    let code = code.as_str();
     match doc {
-        Some(doc) => {
-            let value_code = code_text(alloc, "J", doc.number())?;
-            let value_code = value_code.as_str();
-            object_of(alloc, tag, code, Some(value_code), value_code)
-        }
-        None => object_of(alloc, tag, code, None, code),
+        Some(doc) => message_of(alloc, "J", doc.number()),
+        None => message_of(alloc, "E", code.number()),
     }
 }
 
@@ -102,13 +77,16 @@ pub fn edit_refused_text(
     ensures { IfOk result (λ text. string_bytes text
         ≡ spec.edit_refused_text (refusal_view code doc)) }
 {
-    let object = edit_object(alloc, code, doc)?;
+    let document = document_member(alloc, doc)?;
+    let message = edit_message(alloc, code, doc)?;
     let mut digits = Buffer::new();
     [
         "{\"refused\":\"E",
         digits.format(code.number()),
-        "\",\"error\":",
-        object.as_str(),
+        "\",",
+        document.as_str(),
+        "\"message\":",
+        message.as_str(),
         "}",
     ]
     .concat(alloc)

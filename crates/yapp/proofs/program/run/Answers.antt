@@ -1,19 +1,17 @@
-use Rattle.std.proofs.Common.{arith, inl, inr, refl, ap, ◌∙◌, map, string_bytes, false, true}
-use Rattle.yapp_report.specs.Failing.{unsaid}
-use Rattle.yapp.specs.Files.{came_to, said_besides}
-use Rattle.yapp_words.specs.Command.{Declines, asks_reasons, refusals}
+use Rattle.std.proofs.Common.{inl, inr, refl, ap, ◌∙◌, map, string_bytes, false, true}
+use Rattle.yapp_words.specs.Command.{Declines, refusals}
 use Rattle.yapp_words.specs.declared.command.NoRequest.TheVariants as none
-use Rattle.yapp_words.specs.Running.{End, memory_told, refused, shown, without_memory}
+use Rattle.yapp_words.specs.Running.{End, memory_told, refused, shown}
 use Rattle.yapp_words.proofs.CommandLemmas.{asked_help, text_is}
-use Rattle.yapp.proofs.RunningLemmas.{four, memory_either, on_output, on_errors, run_comes}
+use Rattle.yapp.proofs.RunningLemmas.{four, on_errors, on_output}
+use Rattle.yapp.proofs.SessionLemmas.{does_same, does_without}
 use Rattle.yapp.proofs.program.run.Goals as goal
 
 pub returns-in-Ok-clause-taken : goal.returns-in-Ok-clause-taken
-returns-in-Ok-clause-taken g c = λ taken. run_comes _ _ _ _ _ _ _ _ _ _ c.is_json.result (said_besides c.answer.result) (came_to c.answer.result) _
-    c.in-Ok.ensures.1 c.in-Ok.ensures.2 c.is_json.ensures c.answer.ensures.found c.tell.ensures.tells
+returns-in-Ok-clause-taken g c = λ taken. does_same _ _ _ _ _ _ _ _ _ _ _ _ _ c.in-Ok.ensures.1 c.in-Ok.ensures.2 c.do_asked.ensures.does
 
 pub returns-in-Ok-clause-reasons : goal.returns-in-Ok-clause-reasons
-returns-in-Ok-clause-reasons g c = λ taken. inl (c.tell.ensures.reasons ∙ c.in-Ok.ensures.2)
+returns-in-Ok-clause-reasons g c = λ taken. inl (c.do_asked.ensures.reasons ∙ c.in-Ok.ensures.2)
 
 pub returns-in-Err-Help : goal.returns-in-Err-Help
 returns-in-Err-Help g c =
@@ -28,6 +26,7 @@ returns-in-Err-Help g c =
       );
       reasons = λ taken. absurd (asked_help kinds because taken);
       untouched = λ not_taken. refl;
+      unasked = λ not_taken. refl;
     }
 
 pub returns-in-Err-Refused : goal.returns-in-Err-Refused
@@ -44,17 +43,16 @@ returns-in-Err-Refused g c =
       );
       reasons = λ taken. absurd (because.0 taken);
       untouched = λ not_taken. refl;
+      unasked = λ not_taken. refl;
     }
 
 pub returns-in-Err-Memory : goal.returns-in-Err-Memory
-returns-in-Err-Memory g c = record {
-  taken = λ taken. (
-    without_memory,
-    unsaid,
-    inr (inl (record { failures = refl; reads = omega arith }), refl),
-    memory_either unsaid (asks_reasons (map string_bytes c.args.words.now)) _ _ _ _ _ (on_errors _ _ _ memory_told _ _ refl refl c.tell_memory.ensures c.with_status-in-Err-Memory.ensures.end),
-  );
-  words = λ not_taken. (memory_told, inl refl, on_errors _ _ _ memory_told _ _ refl refl c.tell_memory.ensures c.with_status-in-Err-Memory.ensures.end);
-  reasons = λ taken. inr (ap (λ (e : End). e.status) c.with_status-in-Err-Memory.ensures.end ∙ four _ _ _ _ c.tell_memory.ensures);
-  untouched = λ not_taken. refl;
-}
+returns-in-Err-Memory g c =
+    let told = on_errors _ _ _ memory_told _ _ refl refl c.tell_memory.ensures c.with_status-in-Err-Memory.ensures.end in
+    record {
+      taken = λ taken. does_without _ _ _ _ _ _ _ _ _ told;
+      words = λ not_taken. (memory_told, inl refl, told);
+      reasons = λ taken. inr (ap (λ (e : End). e.status) c.with_status-in-Err-Memory.ensures.end ∙ four _ _ _ _ c.tell_memory.ensures);
+      untouched = λ not_taken. refl;
+      unasked = λ not_taken. refl;
+    }

@@ -1,0 +1,102 @@
+//! How sessions end: at a line that can't be read, an answer that can't be told, and a note that can't be said.
+
+use crate::holding::{GOOD, Held, NOTE, SESSION, Talk, held, is_held, talk};
+use std::alloc::Global;
+
+const EDITS: &[&str] = &["create /p:c/note \"a\"", "remove /p:c/note"];
+
+const ANSWER: &str = "{\"before\":0,\"after\":0}\n";
+
+#[test]
+fn unread_lines(rt: HostRuntime) {
+    let alloc = rt.alloc();
+    assert!(rt; ends_unread(alloc, 0, "", "not judged: 1 must\ncannot read -\n") == Some(true));
+    assert!(rt; ends_unread(alloc, 1, ANSWER, "not judged: 1 must\ncannot read -\n") == Some(true));
+}
+
+// Whether a session whose line of a number can't be read tells this.
+fn ends_unread(alloc: Global, number: usize, told: &str, errors: &str) -> Option<bool> {
+    let talk = Talk {
+        unread: Some(number),
+        ..talk(SESSION, GOOD, EDITS)
+    };
+    let held = held(alloc, talk).ok()?;
+    Some(is_held(&held, told, errors, 4))
+}
+
+// Whether the note can't be said, and nobody is asked.
+fn is_silent(alloc: Global) -> Option<bool> {
+    let talk = Talk {
+        unsaid: Some(1),
+        ..talk(SESSION, GOOD, EDITS)
+    };
+    let held = held(alloc, talk).ok()?;
+    Some(is_held(&held, "", "", 4) && held.asked == 0)
+}
+
+#[test]
+fn unsaid_notes(rt: HostRuntime) {
+    assert!(rt; is_silent(rt.alloc()) == Some(true));
+}
+
+// So many times two edits.
+fn many_edits<'a>(alloc: Global, count: usize) -> Option<Vec<&'a str>> {
+    let mut lines = Vec::new(alloc);
+    for _ in 0..count {
+        lines.push("create /p:c/note \"a\"").ok()?;
+        lines.push("remove /p:c/note").ok()?;
+    }
+    Some(lines)
+}
+
+// A session whose call of a number fails where it tells.
+fn held_up_to(alloc: Global, lines: &[&str], call: Option<u64>) -> Option<Held> {
+    let talk = Talk {
+        untold: call,
+        ..talk(SESSION, GOOD, lines)
+    };
+    held(alloc, talk).ok()
+}
+
+// Whether all is told of 2,000 edits.
+fn are_all_told(alloc: Global) -> Option<bool> {
+    let lines = many_edits(alloc, 1000)?;
+    let whole = held_up_to(alloc, &lines, None)?;
+    Some(
+        whole.status == 0 && whole.told.bytes().len() == 2000 * ANSWER.len() && whole.asked == 2000,
+    )
+}
+
+#[test]
+fn many_answers(rt: HostRuntime) {
+    assert!(rt; are_all_told(rt.alloc()) == Some(true));
+}
+
+// Whether a session whose call of a number fails tells the answers before it, and ends there. An answer takes two calls.
+fn is_beginning(alloc: Global, whole: &Held, lines: &[&str], call: u64) -> Option<bool> {
+    let held = held_up_to(alloc, lines, Some(call))?;
+    Some(
+        held.status == 4
+            && held.told.calls() == call
+            && held.told.bytes().len() < whole.told.bytes().len()
+            && whole.told.bytes().starts_with(held.told.bytes())
+            && held.errors.bytes() == NOTE.as_bytes(),
+    )
+}
+
+// Whether that is so of the first calls.
+fn are_beginnings(alloc: Global, calls: u64) -> Option<bool> {
+    let lines = many_edits(alloc, 1000)?;
+    let whole = held_up_to(alloc, &lines, None)?;
+    for call in 1..calls {
+        if !is_beginning(alloc, &whole, &lines, call)? {
+            return Some(false);
+        }
+    }
+    Some(true)
+}
+
+#[test]
+fn untold_answers(rt: HostRuntime) {
+    assert!(rt; are_beginnings(rt.alloc(), 200) == Some(true));
+}

@@ -1,0 +1,191 @@
+//! One session, and what it left.
+
+ghost use Rattle.std.specs.Prelude.{None};
+
+use std::alloc::{AllocError, Global};
+use yapp::{Ended, FileFault, Files, Unreadable, run};
+use ybase_output::write_all;
+use ybase_talk::{Caller, LineFault};
+use ytext::{CallCount, Cut, SinkFault};
+
+pub const MODULE: &str = "module p {
+  yang-version 1.1;
+  namespace \"urn:p\";
+  prefix p;
+  container c {
+    must \"id\";
+    leaf id { type uint8; }
+    leaf note { type string; }
+  }
+}
+";
+
+pub const GOOD: &str = "{\"p:c\":{\"id\":1}}";
+
+/// The words that open a session over the document of the tests.
+pub const SESSION: &str = "yanglive session --profile rfc --unjudged must d.json p.yang";
+
+/// What is said of the module's condition.
+pub const NOTE: &str = "not judged: 1 must\n";
+
+/// The document and the module of a session.
+#[derive(Drop)]
+struct Pair<'a> {
+    alloc: Global,
+    document: &'a str,
+    module: &'a str,
+    reads: CallCount,
+    count: CallCount,
+}
+
+impl<'a> Pair<'a> {
+    /// What the file of a name contains.
+    fn text_of(&self, name: &str) -> Option<&'a str> {
+        match name {
+            "d.json" => Some(self.document),
+            "p.yang" => Some(self.module),
+            _ => None,
+        }
+    }
+}
+
+impl Files for Pair<'_> {
+    ghost contents = { λ _ _. None };
+
+    ghost reads = { λ s. s.reads.calls };
+
+    ghost failures = { λ s. s.count.calls };
+
+    fn read(&mut self, name: &str) -> Result<Vec<u8>, FileFault> {
+        self.reads.rise();
+        let Some(text) = self.text_of(name) else {
+            self.count.rise();
+            return Err(FileFault::Unread(Unreadable::NoFile));
+        };
+        match Vec::from_slice(self.alloc, text.as_bytes()) {
+            Ok(bytes) => Ok(bytes),
+            Err(_) => Err(FileFault::Memory),
+        }
+    }
+}
+
+/// Who asks some lines, of which one may not be readable, and keeps what is told.
+#[derive(Drop)]
+struct Asking<'a> {
+    alloc: Global,
+    lines: &'a [&'a str],
+    next: usize,
+    unread: Option<usize>,
+    told: Cut,
+}
+
+impl Caller for Asking<'_> {
+    ghost events = { λ _. None };
+
+    fn next_line(&mut self) -> Result<Option<Vec<u8>>, LineFault> {
+        if self.unread == Some(self.next) {
+            return Err(LineFault::Unread);
+        }
+        let Some(line) = self.lines.get(self.next) else {
+            return Ok(None);
+        };
+        match Vec::from_slice(self.alloc, line.as_bytes()) {
+            Ok(bytes) => {
+                self.next = self.next.saturating_add(1);
+                Ok(Some(bytes))
+            }
+            Err(_) => Err(LineFault::Memory),
+        }
+    }
+
+    fn tell(&mut self, answer: &[u8]) -> Result<(), SinkFault> {
+        write_all(&mut self.told, answer)?;
+        write_all(&mut self.told, b"\n".as_slice())
+    }
+}
+
+/// What a session is opened by, what it is asked, and what of that fails: lines count from 0, calls from 1.
+#[derive(Clone, Copy)]
+pub struct Talk<'a> {
+    pub words: &'a str,
+    pub document: &'a str,
+    pub lines: &'a [&'a str],
+    pub unread: Option<usize>,
+    pub untold: Option<u64>,
+    pub unsaid: Option<u64>,
+}
+
+/// A talk of which nothing fails.
+pub fn talk<'a>(words: &'a str, document: &'a str, lines: &'a [&'a str]) -> Talk<'a> {
+    Talk {
+        words,
+        document,
+        lines,
+        unread: None,
+        untold: None,
+        unsaid: None,
+    }
+}
+
+/// What a session told who asked, what it wrote on both sides, how many lines it was asked, and its status.
+#[derive(Drop)]
+pub struct Held {
+    pub told: Cut,
+    pub output: Cut,
+    pub errors: Cut,
+    pub asked: usize,
+    pub status: u8,
+}
+
+fn words_of(alloc: Global, line: &str) -> Result<Vec<String>, AllocError> {
+    let mut words = Vec::new(alloc);
+    for word in line.split_whitespace() {
+        words.push(String::from_str(alloc, word)?)?;
+    }
+    Ok(words)
+}
+
+/// Holds a talk.
+pub fn held(alloc: Global, talk: Talk<'_>) -> Result<Held, AllocError> {
+    let words = words_of(alloc, talk.words)?;
+    let mut files = Pair {
+        alloc,
+        document: talk.document,
+        module: MODULE,
+        reads: CallCount::new(),
+        count: CallCount::new(),
+    };
+    let mut caller = Asking {
+        alloc,
+        lines: talk.lines,
+        next: 0,
+        unread: talk.unread,
+        told: Cut::new(alloc, 100_000, 4096, talk.untold)?,
+    };
+    let mut output = Cut::new(alloc, 4096, 4096, None)?;
+    let mut errors = Cut::new(alloc, 4096, 4096, talk.unsaid)?;
+    let Ended { status, .. } = run(
+        alloc,
+        &words,
+        &mut files,
+        &mut caller,
+        &mut output,
+        &mut errors,
+    );
+    let Asking { told, next, .. } = caller;
+    Ok(Held {
+        told,
+        output,
+        errors,
+        asked: next,
+        status,
+    })
+}
+
+/// Whether a session told this, wrote this on the error side alone, and ended with this status.
+pub fn is_held(held: &Held, told: &str, errors: &str, status: u8) -> bool {
+    held.told.bytes() == told.as_bytes()
+        && held.errors.bytes() == errors.as_bytes()
+        && held.output.bytes().is_empty()
+        && held.status == status
+}

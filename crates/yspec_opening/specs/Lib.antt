@@ -1,0 +1,3 @@
+-- The command that opens a session.
+pub mod Opening
+pub mod Closing
