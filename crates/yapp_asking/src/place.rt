@@ -14,8 +14,8 @@ ghost use Rattle.yapp_asking.specs.Asking.{place_view, steps_on};
 
 use std::alloc::{AllocError, Global};
 use yinst::{
-    BoundStep, EditCode, EditFault, NamedStep, Path, Predicate, Spot, Stored, Tree,
-    instance_index, instance_meant, row_at,
+    BoundStep, EditCode, EditFault, NamedStep, Path, Predicate, Spot, Stored, Tree, instance_index,
+    instance_meant, row_at,
 };
 use yinst_path::bind_path;
 use yschema_model::Schema;

@@ -1,5 +1,5 @@
 -- What is answered of the faults of a node.
-use Rattle.std.proofs.Common.{◌≡◌, List, length, Option, Some, None, Result, Ok, Err, sym, ap, ap₂, ◌∙◌}
+use Rattle.std.proofs.Common.{◌≡◌, ℕ, false, List, length, Option, Some, None, Result, Ok, Err, sym, ap, ap₂, subst, ◌∙◌}
 use Rattle.std.specs.Prelude.{option_map}
 use Rattle.std.proofs.lemmas.Option.{same_Some}
 use Rattle.yspec.specs.Results.{Fails}
@@ -10,11 +10,13 @@ use Rattle.yspec.specs.document.Fault.{Fault}
 use Rattle.yspec.specs.edit.EditText.{Path}
 use Rattle.yspec.specs.edit.Editing.{EditRefusal}
 use Rattle.yspec.specs.edit.Live.{Live, faults_in}
+use Rattle.yspec_session.specs.Session as spec
 use Rattle.yspec_session.specs.Session.{below_told, faults_below, place_of}
+use Rattle.yspec_session.specs.Remembering.{Kept}
 use Rattle.ysay_session.specs.AnswerText as text
 use Rattle.yinst_path.specs.Applying.{told_by}
 use Rattle.yinst_path.specs.declared.edit.EditFault.{EditFault}
-use Rattle.yapp_session.specs.Answered.{answer_text, below_text}
+use Rattle.yapp_session.specs.Answered.{Replies, Told, answer_text, below_text}
 
 -- a document with its schema and its faults
 abbrev Seen : Type 0
@@ -39,3 +41,14 @@ module _ (live : Live) (path : Path) (s : Schema) (tree : Tree) (fs : List Fault
       by : (o : Option EditRefusal) → Fails o (place_of s tree path) → option_map text.edit_refused_text o ≡ Some t → t ≡ below_text live path
       by None fails is = absurd cc
       by (Some e) fails is = sym (same_Some (text.edit_refused_text e) t is) ∙ (sym (ap (λ r. answer_text s tree (below_told fs r)) fails) ∙ same_said)
+
+pub below_replied : (limit : ℕ) (live : Live) (k : Kept) (path : Path) (t : Text) → (live.is_stale ≡ false → t ≡ below_text live path)
+    → Replies limit live k (spec.below path) t live k
+below_replied limit live k path t said s h = (said h.fresh ∙ ap (λ (tree : Tree). below_text (record live { tree = tree }) path) h.tree, h)
+
+-- nothing changes with such a question
+pub told_below : (limit : ℕ) (live after : Live) (k l : Kept) (asked : Option spec.Request) (path : Path) (t : Text) → asked ≡ Some (spec.below path)
+    → after ≡ live → l ≡ k → Replies limit live k (spec.below path) t live k → Told limit live k asked t after l
+told_below limit live after k l asked path t is same past replies =
+    subst (λ (o : Option spec.Request). Told limit live k o t after l) (sym is)
+    (subst (λ (after : Live). Replies limit live k (spec.below path) t after l) (sym same) (subst (λ (l : Kept). Replies limit live k (spec.below path) t live l) (sym past) replies))

@@ -1,8 +1,9 @@
 //! What questions are answered.
 
-ghost use Rattle.std.specs.Prelude.{◌≡◌, IfOk, Some, false, length, option_map, string_bytes};
+ghost use Rattle.std.specs.Prelude.{◌≡◌, ℕ, IfOk, Some, false, length, option_map, string_bytes};
 ghost use Rattle.yspec.specs.document.Sorting.{IsSorted};
 ghost use Rattle.yspec_session.specs.Session as spec;
+ghost use Rattle.yspec_session.specs.Remembering.{Kept};
 ghost use Rattle.ysay_session.specs.AnswerText.{document_text, edit_refused_text, listed_text};
 ghost use Rattle.ycheck.specs.View.{views};
 ghost use Rattle.yschema_model.specs.View as schema_view;
@@ -11,7 +12,7 @@ ghost use Rattle.yinst_path.specs.Applying.{told_by};
 ghost use Rattle.yinst_path.specs.EditView.{path_view};
 ghost use Rattle.yinst.specs.Locating.{spots_view};
 ghost use Rattle.ylive.specs.View.{view};
-ghost use Rattle.yapp_session.specs.Answered.{below_text, page_text};
+ghost use Rattle.yapp_session.specs.Answered.{Replies, below_text, page_text};
 
 use crate::parts::{first_items, items_behind};
 use std::alloc::{AllocError, Global};
@@ -19,8 +20,8 @@ use yapp_asking::{keep_below, place_of};
 use ycheck::Fault;
 use yinst::{EditFault, Path, Spot, Tree};
 use ylive::Live;
-use yschema_model::Schema;
 use ysay_session::{document_text, edit_refused_text, listed_text};
+use yschema_model::Schema;
 
 /// The faults behind so many, at most so many where that is said, and how many there are.
 pub(crate) fn page(
@@ -67,6 +68,13 @@ pub(crate) fn document(alloc: Global, live: &Live) -> Result<String, AllocError>
 
 /// The faults of a node and of all below it, and how many there are of all.
 pub(crate) fn below(alloc: Global, live: &Live, path: &Path) -> Result<String, AllocError>
+    ensures { IfOk result (λ text. (limit : ℕ) (k : Kept) → Replies limit (view live.now) k
+        (spec.below (path_view path.now)) (string_bytes text) (view live.now) k) }
+{
+    node_faults(alloc, live, path)
+}
+
+fn node_faults(alloc: Global, live: &Live, path: &Path) -> Result<String, AllocError>
     ensures { IfOk result (λ text. (view live.now).is_stale ≡ false
         → string_bytes text ≡ below_text (view live.now) (path_view path.now)) }
 {

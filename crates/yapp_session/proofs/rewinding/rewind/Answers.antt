@@ -17,8 +17,8 @@ run_from-requires c =
     later_fits (view c.args.live.now).schema c.args.groups (past_view c.args.past.now).later (later_view c.in-Some.later.now)
     (sym (ap (option_map (λ later. later_view later.now)) c.in-Some.is) ∙ c.later_until.ensures) c.requires.1
 
-pub run_from-2-requires : goal.run_from-2-requires
-run_from-2-requires c = subst (Fits (view c.args.live.now).schema) (sym c.base.ensures) c.requires.0
+pub run_from-requires-in-None : goal.run_from-requires-in-None
+run_from-requires-in-None c = subst (Fits (view c.args.live.now).schema) (sym c.base.ensures) c.requires.0
 
 pub returns-in-Some-clause-ok : goal.returns-in-Some-clause-ok
 returns-in-Some-clause-ok c =
