@@ -1,5 +1,5 @@
 -- Faults of which some are kept.
-use Rattle.std.proofs.Common.{◌≡◌, Bool, true, false, List, [], ◌∷◌, map, cond, refl, sym, ap, ◌∙◌}
+use Rattle.std.proofs.Common.{◌≡◌, Bool, true, false, List, [], ◌∷◌, map, cond, refl, ap}
 use Rattle.std.specs.List.{filter}
 
 -- those that pass, as they are seen

@@ -1,6 +1,7 @@
 -- Where a node stands that needn't be stored.
-use Rattle.std.proofs.Common.{◌≡◌, Bool, true, false, ℕ, List, [], ◌∷◌, ◌++◌, Result, Ok, Err, refl, sym, ap, ◌∙◌, append-nil}
-use Rattle.std.specs.Prelude.{if◌then◌else◌}
+use Rattle.std.proofs.Common.{◌≡◌, Bool, true, ℕ, suc, ◌-◌, List, [], ◌∷◌, ◌++◌, Result, Ok, Err, Some, length, refl, sym, ap, ◌∙◌, append-nil, arith}
+use Rattle.std.specs.Prelude.{if◌then◌else◌, slice_get}
+use Rattle.std.proofs.lemmas.Option.{same_Some}
 use Rattle.std.proofs.lemmas.List.{append_assoc}
 use Rattle.yspec.specs.Results.{◌>>=◌}
 use Rattle.yspec.specs.schema.Schema.{Schema}
@@ -8,8 +9,10 @@ use Rattle.yspec.specs.document.Document.{Tree, Step, step_to}
 use Rattle.yspec.specs.edit.Edit.{instance_index}
 use Rattle.yspec.specs.edit.EditText.{Predicate}
 use Rattle.yspec.specs.edit.Editing.{BoundStep, EditRefusal, instance_meant, row_at, says_nothing}
-use Rattle.yspec_session.specs.Session.{step_meant, steps_meant}
+use Rattle.yspec_session.specs.Session.{ends_bare, step_meant, steps_meant}
 use Rattle.yinst_path.specs.Binding.{bound_step, node_of}
+use Rattle.yinst_path.specs.EditView.{predicate_view, steps_view}
+use Rattle.yinst_path.specs.declared.edit.NamedStep.{NamedStep}
 use Rattle.yinst.proofs.LocatingLemmas.{number_is}
 use Rattle.yapp_asking.specs.Asking.{steps_on}
 
@@ -47,7 +50,10 @@ pub bare_meant : (s : Schema) (row : Tree) (i : ℕ) (p : Predicate) → says_no
 unfolding either_meant
 bare_meant s row i p bare = ap (either_meant s row i p) bare ∙ ap (λ n. Ok (step_to n)) (number_is s i)
 
-pub told_meant : (s : Schema) (row : Tree) (i : ℕ) (p : Predicate) → says_nothing p ≡ false
-    → step_meant s row (bound_step s i p) ≡ instance_meant s 4 row (node_of s i) p
-unfolding either_meant
-told_meant s row i p bare = ap (either_meant s row i p) bare
+-- the last step decides
+pub bare_last : (xs : List NamedStep) (x : NamedStep) → Some x ≡ slice_get xs (length xs - 1) → says_nothing (predicate_view x.predicate) ≡ ends_bare (steps_view xs)
+bare_last [] x is = absurd cc
+bare_last (y ∷ []) x is = ap (λ (s : NamedStep). says_nothing (predicate_view s.predicate)) (same_Some x y is)
+bare_last (y ∷ z ∷ zs) x is =
+    let next : length (y ∷ z ∷ zs) - 1 ≡ suc (length (z ∷ zs) - 1) = omega (arith) in
+    bare_last (z ∷ zs) x (is ∙ ap (slice_get (y ∷ z ∷ zs)) next)
