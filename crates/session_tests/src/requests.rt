@@ -1,7 +1,7 @@
 //! What requests are answered. Sessions are parted by lines `==`; the first line of one has its status, and answers stand behind
 //! `> `.
 
-use crate::holding::{GOOD, NOTE, SESSION, held, is_held, talk};
+use crate::holding::{GOOD, NOTE, SESSION, hold, is_held, over};
 use std::alloc::Global;
 
 const TALKS: &str = r#"0
@@ -29,6 +29,16 @@ faults
 > {"faults":[{"error-message":"\"x\" isn't a value of uint8: it takes an integer without quotes in 0..255.","error-path":"/p:c/id","error-tag":"invalid-value","error-type":"application","yanglive:code":"V1","yanglive:path":"/p:c/id"}],"count":1}
 faults 2
 > {"faults":[],"count":1}
+below /p:c
+> {"faults":[{"error-message":"\"x\" isn't a value of uint8: it takes an integer without quotes in 0..255.","error-path":"/p:c/id","error-tag":"invalid-value","error-type":"application","yanglive:code":"V1","yanglive:path":"/p:c/id"}],"count":1}
+below /p:c/id
+> {"faults":[{"error-message":"\"x\" isn't a value of uint8: it takes an integer without quotes in 0..255.","error-path":"/p:c/id","error-tag":"invalid-value","error-type":"application","yanglive:code":"V1","yanglive:path":"/p:c/id"}],"count":1}
+below /p:c/note
+> {"faults":[],"count":1}
+below /p:d
+> {"refused":"E2","message":"A step of the path names no node there, or in the wrong form."}
+value /p:c/id
+> {"refused":"E1","message":"The request isn't served."}
 faults 1 0
 > {"refused":"E1","message":"The line is no request."}
 ==
@@ -108,7 +118,7 @@ fn is_answered(alloc: Global, text: &str) -> Option<bool> {
             None => lines.push(line).ok()?,
         }
     }
-    let held = held(alloc, talk(SESSION, GOOD, &lines)).ok()?;
+    let held = hold(alloc, over(SESSION, GOOD, &lines)).ok()?;
     Some(is_held(&held, told.as_str(), NOTE, status))
 }
 
