@@ -2,6 +2,7 @@
 //! by lines `==`.
 
 use crate::commands::is_shown;
+use crate::rows::assert_right;
 use crate::running::{file, shown_of};
 use std::alloc::Global;
 
@@ -152,7 +153,7 @@ module: a
   augment /m:c/b:x:
     +--rw y?   string
 ";
-    assert_eq!(rt; first_wrong(rt.alloc(), rows), None);
+    assert_right(&rt, first_wrong(rt.alloc(), rows));
 }
 
 // A name bears its module where that isn't the one of the data node above.
@@ -218,5 +219,5 @@ line 1: E2
 --
 {\"m:c\":{\"b:x\":{}}}
 ";
-    assert_eq!(rt; first_wrong(rt.alloc(), rows), None);
+    assert_right(&rt, first_wrong(rt.alloc(), rows));
 }

@@ -2,6 +2,7 @@
 //! large inputs, and codes of live documents alone, stand elsewhere.
 
 use crate::modules::module_of;
+use crate::rows::all_hold;
 use crate::running::{NamedFile, file, shown_of};
 use std::alloc::Global;
 use ysay_codes::explain;
@@ -40,9 +41,7 @@ L5:1/module a b;
 L6:1/module a;}
 L8:1/1module a;
 C4:1/module a { namespace b; prefix c; }";
-    for row in rows.lines() {
-        assert!(rt; is_text_refused(alloc, row) == Some(true), "{row:?}");
-    }
+    all_hold(&rt, alloc, rows, is_text_refused);
 }
 
 // Blocks in one another, so many.
@@ -94,9 +93,7 @@ C13:5/container c; container c;
 C14:5/augment /p:q;
 C16:5/list l { leaf a { type string; } }
 C17:5/leaf a { type leafref { path /p:b; } }";
-    for row in rows.lines() {
-        assert!(rt; is_module_refused(rt.alloc(), row) == Some(true), "{row:?}");
-    }
+    all_hold(&rt, rt.alloc(), rows, is_module_refused);
 }
 
 const MODULE: &str = "module p {
@@ -150,9 +147,7 @@ V8 -> {"p:m":"a","p:x":"b","p:n":[1],"p:e":[{"k":1},{"k":1}]} ->  -> V8 operatio
 V9 -> {"p:m":"a","p:x":"b","p:n":[1],"p:e":[{"k":1,"u":"s"},{"k":2,"u":"s"}]} ->  -> V9 operation-failed data-not-unique /p:e[1] 1|V9 operation-failed data-not-unique /p:e[2] 1|2 faults|
 V10 -> {"p:m":"a","p:x":"b","p:n":[1,1]} ->  -> V10 operation-failed - /p:n[1] -|V10 operation-failed - /p:n[2] -|2 faults|
 V11 -> {"p:m":"a","p:x":"b","p:n":[1],"p:r":7} ->  -> V11 data-missing instance-required /p:r -|1 faults|"#;
-    for row in rows.lines() {
-        assert!(rt; is_printed(rt.alloc(), row) == Some(true), "{row:?}");
-    }
+    all_hold(&rt, rt.alloc(), rows, is_printed);
 }
 
 #[test]
@@ -167,7 +162,5 @@ E7 -> {} -> remove /p:c -> line 1: E7|
 E8 -> {"p:c":{}} -> create /p:c {} -> line 1: E8|
 E9 -> {} -> create /p:c { -> line 1: E9|
 E10 -> {} -> create /p:c {"q":1} -> line 1: E10 J3|"#;
-    for row in rows.lines() {
-        assert!(rt; is_printed(rt.alloc(), row) == Some(true), "{row:?}");
-    }
+    all_hold(&rt, rt.alloc(), rows, is_printed);
 }

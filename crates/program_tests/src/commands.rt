@@ -2,6 +2,7 @@
 //! `==`, and what belongs to one by lines `--`.
 
 use crate::modules::{DEFAULT_CASE, NETWORK};
+use crate::rows::{all_parts_hold, assert_right};
 use crate::running::{MODULE, NamedFile, Shown, file, shown_of};
 use std::alloc::Global;
 
@@ -46,6 +47,14 @@ fn is_shown_of_two(alloc: Global, second: &str, row: &str) -> Option<bool> {
     is_shown(&shown, status, errors, output)
 }
 
+fn is_shown_of_second(alloc: Global, row: &str) -> Option<bool> {
+    is_shown_of_two(alloc, SECOND, row)
+}
+
+fn is_shown_of_refused(alloc: Global, row: &str) -> Option<bool> {
+    is_shown_of_two(alloc, SECOND_REFUSED, row)
+}
+
 #[test]
 fn several_modules(rt: HostRuntime) {
     let rows = "yanglive validate d.json p.yang k.yang
@@ -88,12 +97,7 @@ yanglive edit --dump d.json s.txt p.yang k.yang
 --
 {\"q:n\":7}
 ";
-    for row in rows.split("==\n") {
-        assert!(rt;
-            is_shown_of_two(rt.alloc(), SECOND, row) == Some(true),
-            "{row}"
-        );
-    }
+    all_parts_hold(&rt, rt.alloc(), rows, is_shown_of_second);
     let rows = "yanglive validate d.json p.yang k.yang
 2
 k.yang:5: C16
@@ -114,28 +118,26 @@ yanglive compile p.yang d.json
 d.json:1: L5
 --
 ";
-    for row in rows.split("==\n") {
-        assert!(rt;
-            is_shown_of_two(rt.alloc(), SECOND_REFUSED, row) == Some(true),
-            "{row}"
-        );
-    }
+    all_parts_hold(&rt, rt.alloc(), rows, is_shown_of_refused);
+}
+
+fn is_counted(alloc: Global) -> Option<bool> {
+    let files = [file("m.yang", NETWORK)];
+    let shown = shown_of(alloc, "yanglive compile m.yang", &files).ok()?;
+    is_shown(&shown, "0", "", "12 nodes\n")
 }
 
 #[test]
 fn counts(rt: HostRuntime) {
-    let files = [file("m.yang", NETWORK)];
-    let shown = shown_of(rt.alloc(), "yanglive compile m.yang", &files);
-    let is_counted = shown.map(|shown| is_shown(&shown, "0", "", "12 nodes\n") == Some(true));
-    assert!(rt; is_counted == Ok(true));
+    assert!(rt; is_counted(rt.alloc()) == Some(true));
 }
 
 /// Whether a diagram shows so: the row is the words, the status, what is said on the error side, and the output.
-fn is_drawn(alloc: Global, module: &str, row: &str) -> Option<bool> {
+fn is_drawn(alloc: Global, row: &str) -> Option<bool> {
     let (words, rest) = row.split_once('\n')?;
     let (status, rest) = rest.split_once('\n')?;
     let (errors, output) = rest.split_once("--\n")?;
-    let files = [file("net.yang", module), file("p.yang", MODULE)];
+    let files = [file("net.yang", NETWORK), file("p.yang", MODULE)];
     let shown = shown_of(alloc, words, &files).ok()?;
     is_shown(&shown, status, errors, output)
 }
@@ -202,9 +204,7 @@ module: ex-net
            +--:(fixed)
               +--rw speed?   uint32
 ";
-    for row in rows.split("==\n") {
-        assert!(rt; is_drawn(rt.alloc(), NETWORK, row) == Some(true), "{row}");
-    }
+    all_parts_hold(&rt, rt.alloc(), rows, is_drawn);
 }
 
 /// Whether an edit shows so under a module: the row is the document, the script, the status, what is said on the error
@@ -283,7 +283,7 @@ line 1: E2
 d.json: J4 /
 --
 ";
-    assert_eq!(rt; first_wrong(rt.alloc(), EDIT, MODULE, rows), None);
+    assert_right(&rt, first_wrong(rt.alloc(), EDIT, MODULE, rows));
 }
 
 #[test]
@@ -319,7 +319,7 @@ remove /p:c
 d.json: J4 /
 --
 ";
-    assert_eq!(rt; first_wrong(rt.alloc(), DUMP, MODULE, rows), None);
+    assert_right(&rt, first_wrong(rt.alloc(), DUMP, MODULE, rows));
 }
 
 #[test]
@@ -418,7 +418,7 @@ line 1: E4
 V6 operation-failed too-few-elements /ex-net:net/host -
 1 faults
 "#;
-    assert_eq!(rt; first_wrong(rt.alloc(), EDIT, NETWORK, rows), None);
+    assert_right(&rt, first_wrong(rt.alloc(), EDIT, NETWORK, rows));
     let rows = r#"{"ex-net:net":{"host":[{"name":"a","auto":[null]}]}}
 create /ex-net:net/host[1]/name "b"
 remove /ex-net:net/host[1]--
@@ -433,7 +433,7 @@ replace /ex-net:net/host[2] {"name":"b","speed":7}--
 --
 {"ex-net:net":{"host":[{"auto":[null],"name":"a","uplink":"b"},{"name":"b","speed":7}]}}
 "#;
-    assert_eq!(rt; first_wrong(rt.alloc(), DUMP, NETWORK, rows), None);
+    assert_right(&rt, first_wrong(rt.alloc(), DUMP, NETWORK, rows));
     let rows = "{\"k:want\":3}
 create /k:boost 1--
 1
@@ -449,7 +449,7 @@ remove /k:boost
 --
 0 faults
 ";
-    assert_eq!(rt; first_wrong(rt.alloc(), EDIT, DEFAULT_CASE, rows), None);
+    assert_right(&rt, first_wrong(rt.alloc(), EDIT, DEFAULT_CASE, rows));
 }
 
 /// Whether a script of any bytes shows so of an empty document.

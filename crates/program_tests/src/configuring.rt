@@ -1,7 +1,9 @@
 //! The configuration of documents alone. Rows with lines of their own are parted by lines `==`.
 
 use crate::explaining::prints;
+use crate::rows::all_parts_hold;
 use crate::running::file;
+use std::alloc::Global;
 
 const HOSTS: &str = "module s {
   yang-version 1.1; namespace \"urn:s\"; prefix s;
@@ -66,8 +68,7 @@ line 2: E7
 {\"s:host\":[{\"auto\":[null],\"name\":\"a\",\"up\":true}]}
 ";
 
-#[test]
-fn configuration_alone(rt: HostRuntime) {
+fn is_said_of_configuration_alone(alloc: Global, row: &str) -> Option<bool> {
     let files = [
         file("s.yang", HOSTS),
         file("sent", "{\"s:host\":[{\"name\":\"a\",\"auto\":[null]}]}"),
@@ -84,7 +85,10 @@ fn configuration_alone(rt: HostRuntime) {
             "create /s:host[name='a']/up true\nremove /s:host[1]/seen\n",
         ),
     ];
-    for row in ROWS.split("==\n") {
-        assert!(rt; prints(rt.alloc(), &files, row) == Some(true), "{row}");
-    }
+    prints(alloc, &files, row)
+}
+
+#[test]
+fn configuration_alone(rt: HostRuntime) {
+    all_parts_hold(&rt, rt.alloc(), ROWS, is_said_of_configuration_alone);
 }

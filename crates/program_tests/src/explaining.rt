@@ -1,6 +1,7 @@
 //! What is said of codes: by a command of its own, and below the lines that tell them. Where a row has lines of its own, the
 //! rows are parted by lines `==`.
 
+use crate::rows::all_parts_hold;
 use crate::running::{NamedFile, file, shown_of};
 use std::alloc::Global;
 
@@ -15,10 +16,25 @@ const MODULE: &str = "module p {
 }
 ";
 
-/// Adds a line.
-fn push_line(lines: &mut String, line: &str) -> Option<()> {
-    lines.push_str(line).ok()?;
-    lines.push_str("\n").ok()
+/// How many lines end in some bytes.
+fn line_count(bytes: &[u8]) -> usize {
+    let mut count = 0usize;
+    for byte in bytes {
+        if *byte == b'\n' {
+            count = count.saturating_add(1);
+        }
+    }
+    count
+}
+
+/// Whether a text is what was said and what was printed, the first of so many whole lines.
+fn is_parted(lines: &[u8], count: usize, said: &[u8], printed: &[u8]) -> bool {
+    let is_whole = said.is_empty() || said.ends_with(b"\n");
+    is_whole
+        && line_count(said) == count
+        && lines.len() == said.len().saturating_add(printed.len())
+        && lines.starts_with(said)
+        && lines.ends_with(printed)
 }
 
 /// Whether a run over the files of the tests prints so: its row is the words, the status, how many of the lines behind them
@@ -29,21 +45,9 @@ pub(crate) fn prints(alloc: Global, files: &[NamedFile<'_>], row: &str) -> Optio
     let (status, count) = counts.split_once(' ')?;
     let status = status.parse::<u8>().ok()?;
     let count = count.parse::<usize>().ok()?;
-    let mut errors = String::new(alloc);
-    let mut output = String::new(alloc);
-    let mut number = 0usize;
-    for text in lines.lines() {
-        if number < count {
-            push_line(&mut errors, text)?;
-        } else {
-            push_line(&mut output, text)?;
-        }
-        number = number.saturating_add(1);
-    }
     let shown = shown_of(alloc, line, files).ok()?;
-    let is_output = shown.output.bytes() == output.as_str().as_bytes();
-    let is_error = shown.errors.bytes() == errors.as_str().as_bytes();
-    Some(is_output && is_error && shown.status == status)
+    let (said, printed) = (shown.errors.bytes(), shown.output.bytes());
+    Some(is_parted(lines.as_bytes(), count, said, printed) && shown.status == status)
 }
 
 pub(crate) const NET: &str = "module net {
@@ -423,8 +427,7 @@ create /net:host [{\"name\":\"b\"}]
 remove /net:host\x1b[2J
 ";
 
-#[test]
-fn explained_lines(rt: HostRuntime) {
+fn is_said_of_lines(alloc: Global, row: &str) -> Option<bool> {
     let files = [
         file("n.yang", NET),
         file("good", "{\"net:host\":[{\"name\":\"a\",\"speed\":1}]}"),
@@ -433,9 +436,12 @@ fn explained_lines(rt: HostRuntime) {
             bytes: REFUSED_LINES,
         },
     ];
-    for row in LINES.split("==\n") {
-        assert!(rt; prints(rt.alloc(), &files, row) == Some(true), "{row}");
-    }
+    prints(alloc, &files, row)
+}
+
+#[test]
+fn explained_lines(rt: HostRuntime) {
+    all_parts_hold(&rt, rt.alloc(), LINES, is_said_of_lines);
 }
 
 // Refused documents under the same module, of which what stands there is said of J3, J4 and J5.
@@ -521,8 +527,7 @@ array: J2 /
   The document isn't an object. Put the top nodes into an object: {\"module:name\": ..}.
 ";
 
-#[test]
-fn explained_refusals(rt: HostRuntime) {
+fn is_said_of_refusals(alloc: Global, row: &str) -> Option<bool> {
     let files = [
         file("n.yang", NET),
         file("near", "{\"net:hots\":[]}"),
@@ -539,13 +544,15 @@ fn explained_refusals(rt: HostRuntime) {
         file("array", "[]"),
         file("adding", "create /net:host {\"name\":\"b\",\"speed\":2}"),
     ];
-    for row in REFUSALS.split("==\n") {
-        assert!(rt; prints(rt.alloc(), &files, row) == Some(true), "{row}");
-    }
+    prints(alloc, &files, row)
 }
 
 #[test]
-fn explained_faults(rt: HostRuntime) {
+fn explained_refusals(rt: HostRuntime) {
+    all_parts_hold(&rt, rt.alloc(), REFUSALS, is_said_of_refusals);
+}
+
+fn is_said_of_faults(alloc: Global, row: &str) -> Option<bool> {
     let files = [
         file("n.yang", NET),
         file("unnamed", "{\"net:host\":[{\"speed\":\"x\"}]}"),
@@ -580,9 +587,12 @@ fn explained_faults(rt: HostRuntime) {
             "create /net:host {\"name\":\"b\",\"speed\":2,\"port\":\"7\"}",
         ),
     ];
-    for row in FAULTS.split("==\n") {
-        assert!(rt; prints(rt.alloc(), &files, row) == Some(true), "{row}");
-    }
+    prints(alloc, &files, row)
+}
+
+#[test]
+fn explained_faults(rt: HostRuntime) {
+    all_parts_hold(&rt, rt.alloc(), FAULTS, is_said_of_faults);
 }
 
 // Refused lines of a script under the same module, of which is said which name of their paths isn't known, and what stands in
@@ -658,20 +668,21 @@ create /net:host[1]/tag null
 replace /net:host[1]/speed 1.5
 ";
 
-#[test]
-fn explained_edits(rt: HostRuntime) {
+fn is_said_of_edits(alloc: Global, row: &str) -> Option<bool> {
     let files = [
         file("n.yang", NET),
         file("good", "{\"net:host\":[{\"name\":\"a\",\"speed\":1}]}"),
         file("refused", REFUSED),
     ];
-    for row in EDITS.split("==\n") {
-        assert!(rt; prints(rt.alloc(), &files, row) == Some(true), "{row}");
-    }
+    prints(alloc, &files, row)
 }
 
 #[test]
-fn explained_runs(rt: HostRuntime) {
+fn explained_edits(rt: HostRuntime) {
+    all_parts_hold(&rt, rt.alloc(), EDITS, is_said_of_edits);
+}
+
+fn is_said_of_runs(alloc: Global, row: &str) -> Option<bool> {
     let files = [
         file("p.yang", MODULE),
         file("open.yang", "module \"p"),
@@ -691,7 +702,10 @@ fn explained_runs(rt: HostRuntime) {
         file("-", "{\"p:c\":{\"id\":1}}"),
         file("script", SCRIPT),
     ];
-    for row in ROWS.split("==\n") {
-        assert!(rt; prints(rt.alloc(), &files, row) == Some(true), "{row}");
-    }
+    prints(alloc, &files, row)
+}
+
+#[test]
+fn explained_runs(rt: HostRuntime) {
+    all_parts_hold(&rt, rt.alloc(), ROWS, is_said_of_runs);
 }

@@ -1,20 +1,27 @@
 //! Files that can't be read, and sides that fail or take nothing.
 
+use crate::rows::{all_hold, all_hold_below};
 use crate::running::{
     BOTH_LINES, InMemory, MODULE, Shown, TWO_FAULTS, VALIDATE, WHOLLY, Way, file, shown_by,
 };
 use std::alloc::{AllocError, Global};
+
+/// Whether a run whose read of a number fails tells the name of its file, and prints this.
+fn ends_unread(alloc: Global, line: &str, failing: u64, name: &str, printed: &str) -> Option<bool> {
+    let told = format!(in alloc; "cannot read {name}\n").ok()?;
+    let files = InMemory::new(alloc, &[], Some(failing));
+    let shown = shown_by(alloc, line, files, WHOLLY, WHOLLY).ok()?;
+    let is_told = shown.errors.bytes() == told.as_bytes();
+    let is_printed = shown.output.bytes() == printed.as_bytes();
+    Some(is_told && is_printed && shown.status == 4 && shown.reads == failing)
+}
 
 /// Whether the read of a number ends a run with a line: the row is the words, the number and the file's name.
 fn is_told_unread(alloc: Global, row: &str) -> Option<bool> {
     let (line, rest) = row.split_once('|')?;
     let (failing, name) = rest.split_once('|')?;
     let failing = failing.parse::<u64>().ok()?;
-    let files = InMemory::new(alloc, &[], Some(failing));
-    let shown = shown_by(alloc, line, files, WHOLLY, WHOLLY).ok()?;
-    let told = format!(in alloc; "cannot read {name}\n").ok()?;
-    let is_told = shown.errors.bytes() == told.as_bytes() && shown.output.bytes().is_empty();
-    Some(is_told && shown.status == 4 && shown.reads == failing)
+    ends_unread(alloc, line, failing, name, "")
 }
 
 #[test]
@@ -29,9 +36,7 @@ yanglive edit d.json s.txt net.yang|3|s.txt
 yanglive edit d.json s.txt p.yang k.yang|2|k.yang
 yanglive edit d.json s.txt p.yang k.yang|3|d.json
 yanglive edit --dump d.json s.txt p.yang k.yang|4|s.txt";
-    for row in rows.lines() {
-        assert!(rt; is_told_unread(rt.alloc(), row) == Some(true), "{row}");
-    }
+    all_hold(&rt, rt.alloc(), rows, is_told_unread);
 }
 
 /// Whether the read of a number is told by an object too: the row is the words, the number and the file's name.
@@ -39,15 +44,10 @@ fn is_told_as_json(alloc: Global, row: &str) -> Option<bool> {
     let (line, rest) = row.split_once('|')?;
     let (failing, name) = rest.split_once('|')?;
     let failing = failing.parse::<u64>().ok()?;
-    let files = InMemory::new(alloc, &[], Some(failing));
-    let shown = shown_by(alloc, line, files, WHOLLY, WHOLLY).ok()?;
-    let told = format!(in alloc; "cannot read {name}\n").ok()?;
     let front =
         "{\"error-message\":\"The file can't be read.\",\"error-tag\":\"operation-failed\",\"error-type\":\"application\",\"yanglive:file\":\"";
     let object = [front, name, "\"}\n"].concat(alloc).ok()?;
-    let is_told = shown.errors.bytes() == told.as_bytes()
-        && shown.output.bytes() == object.as_str().as_bytes();
-    Some(is_told && shown.status == 4 && shown.reads == failing)
+    ends_unread(alloc, line, failing, name, object.as_str())
 }
 
 #[test]
@@ -55,9 +55,7 @@ fn failing_reads_as_json(rt: HostRuntime) {
     let rows = "yanglive validate --format json d.json p.yang|1|p.yang
 yanglive validate --format json d.json p.yang|2|d.json
 yanglive edit --dump --format json d.json s.txt p.yang|3|s.txt";
-    for row in rows.lines() {
-        assert!(rt; is_told_as_json(rt.alloc(), row) == Some(true), "{row}");
-    }
+    all_hold(&rt, rt.alloc(), rows, is_told_as_json);
 }
 
 /// A side that takes one byte a call, and fails at the call behind so many.
@@ -95,12 +93,7 @@ fn is_output_whole(alloc: Global) -> Option<bool> {
 
 #[test]
 fn failing_output(rt: HostRuntime) {
-    for written in 0..BOTH_LINES.len() {
-        assert!(rt;
-            is_output_cut(rt.alloc(), written) == Some(true),
-            "{written}"
-        );
-    }
+    all_hold_below(&rt, rt.alloc(), BOTH_LINES.len(), is_output_cut);
     assert!(rt; is_output_whole(rt.alloc()) == Some(true));
 }
 
@@ -121,12 +114,7 @@ fn is_refusal_cut(alloc: Global, written: usize) -> Option<bool> {
 
 #[test]
 fn failing_errors(rt: HostRuntime) {
-    for written in 0..REFUSAL.len() {
-        assert!(rt;
-            is_refusal_cut(rt.alloc(), written) == Some(true),
-            "{written}"
-        );
-    }
+    all_hold_below(&rt, rt.alloc(), REFUSAL.len(), is_refusal_cut);
 }
 
 /// Whether words whose sides take nothing are tried once, on the output or on the error side.
@@ -163,9 +151,7 @@ errors|yanglive edit --dump d.json s.txt p.yang
 output|yanglive edit --dump d.json empty.txt p.yang
 errors|yanglive validate
 output|yanglive -h";
-    for row in rows.lines() {
-        assert!(rt; is_tried_once(rt.alloc(), row) == Some(true), "{row}");
-    }
+    all_hold(&rt, rt.alloc(), rows, is_tried_once);
 }
 
 const SCRIPT: &str = "create /p:c {\"id\":300}
@@ -199,9 +185,8 @@ fn scripted(alloc: Global, line: &str, output: Way, errors: Way) -> Result<Shown
     )
 }
 
-/// Whether nothing is written behind a failure on the output: the row is the words and what is due there.
-fn ends_behind_output(alloc: Global, row: &str, written: usize) -> Option<bool> {
-    let (line, due) = row.split_once('|')?;
+/// Whether nothing is written behind a failure on the output, where this is due.
+fn ends_behind_output(alloc: Global, line: &str, due: &str, written: usize) -> Option<bool> {
     let shown = scripted(alloc, line, failing_behind(written), WHOLLY).ok()?;
     let is_tried_once = shown.output.calls() == calls_with(written);
     let is_beginning = due.as_bytes().get(..written) == Some(shown.output.bytes());
@@ -223,29 +208,14 @@ const DUMP: &str = "yanglive edit --dump d.json s.txt p.yang";
 
 #[test]
 fn failing_edits(rt: HostRuntime) {
-    let alloc = rt.alloc();
-    for written in 0..FAULT_LINES.len() {
-        let row = "yanglive edit d.json s.txt p.yang|V1 invalid-value - /p:c/id -\n1 faults\n";
-        assert!(rt;
-            ends_behind_output(alloc, row, written) == Some(true),
-            "{written}"
-        );
-    }
-    for written in 0..DUMPED.len() {
-        let row = "yanglive edit --dump d.json s.txt p.yang|{\"p:c\":{\"id\":300}}\n";
-        assert!(rt;
-            ends_behind_output(alloc, row, written) == Some(true),
-            "{written}"
-        );
-    }
-    for written in 0..REFUSED_LINES.len() {
-        assert!(rt;
-            ends_behind_errors(alloc, EDIT, written) == Some(true),
-            "{written}"
-        );
-        assert!(rt;
-            ends_behind_errors(alloc, DUMP, written) == Some(true),
-            "{written}"
-        );
-    }
+    all_hold_below(&rt, rt.alloc(), FAULT_LINES.len(), |alloc, written| {
+        ends_behind_output(alloc, EDIT, FAULT_LINES, written)
+    });
+    all_hold_below(&rt, rt.alloc(), DUMPED.len(), |alloc, written| {
+        ends_behind_output(alloc, DUMP, DUMPED, written)
+    });
+    all_hold_below(&rt, rt.alloc(), REFUSED_LINES.len(), |alloc, written| {
+        let is_edit_ended = ends_behind_errors(alloc, EDIT, written)?;
+        Some(is_edit_ended && ends_behind_errors(alloc, DUMP, written)?)
+    });
 }

@@ -1,7 +1,9 @@
 //! Faults and refusals told as JSON. Rows with lines of their own are parted by lines `==`.
 
 use crate::explaining::{NET, prints};
+use crate::rows::all_parts_hold;
 use crate::running::file;
+use std::alloc::Global;
 
 const ROWS: &str = "yanglive validate --format json faulty n.yang
 1 0
@@ -63,8 +65,7 @@ frob.yang:2: C1
 {\"error-message\":\"A statement or a built-in type isn't known, may not stand there, or isn't read by this program.\",\"error-tag\":\"operation-not-supported\",\"error-type\":\"application\",\"yanglive:code\":\"C1\",\"yanglive:file\":\"frob.yang\",\"yanglive:line\":2}
 ";
 
-#[test]
-fn faults_as_json(rt: HostRuntime) {
+fn is_said_of_faults_as_json(alloc: Global, row: &str) -> Option<bool> {
     let files = [
         file("n.yang", NET),
         file(
@@ -91,7 +92,10 @@ fn faults_as_json(rt: HostRuntime) {
             "module p { yang-version 1.1; namespace \"urn:p\"; prefix p;\n  frob x; }",
         ),
     ];
-    for row in ROWS.split("==\n") {
-        assert!(rt; prints(rt.alloc(), &files, row) == Some(true), "{row}");
-    }
+    prints(alloc, &files, row)
+}
+
+#[test]
+fn faults_as_json(rt: HostRuntime) {
+    all_parts_hold(&rt, rt.alloc(), ROWS, is_said_of_faults_as_json);
 }

@@ -3,6 +3,7 @@
 
 use crate::commands::{DUMP, EDIT, first_wrong, is_shown};
 use crate::modules::{is_refused_module, is_told_under, module_of};
+use crate::rows::{all_parts_hold, assert_right};
 use crate::running::{file, shown_of};
 use std::alloc::Global;
 
@@ -96,9 +97,7 @@ yanglive compile u.yang
 u.yang:5: C5
 --
 ";
-    for row in rows.split("==\n") {
-        assert!(rt; is_shown_of_both(rt.alloc(), row) == Some(true), "{row}");
-    }
+    all_parts_hold(&rt, rt.alloc(), rows, is_shown_of_both);
 }
 
 #[test]
@@ -116,9 +115,7 @@ fn refused_modules(rt: HostRuntime) {
   uses g { refine a { default 256; } }
 |p.yang:6: C11
 ";
-    for row in rows.split("==\n") {
-        assert!(rt; is_refused_module(rt.alloc(), row) == Some(true), "{row}");
-    }
+    all_parts_hold(&rt, rt.alloc(), rows, is_refused_module);
 }
 
 /// Whether a diagram shows so: the row is the module's lines from the fifth on, a line `--`, and the diagram.
@@ -153,9 +150,7 @@ module: p
      +--:(z)
         +--rw z?   uint8
 ";
-    for row in rows.split("==\n") {
-        assert!(rt; is_drawn(rt.alloc(), row) == Some(true), "{row}");
-    }
+    all_parts_hold(&rt, rt.alloc(), rows, is_drawn);
 }
 
 #[test]
@@ -259,9 +254,7 @@ V4 data-missing missing-choice / h
 V11 data-missing instance-required /p:r -
 1 faults
 "#;
-    for row in rows.split("==\n") {
-        assert!(rt; is_told_under(rt.alloc(), row) == Some(true), "{row}");
-    }
+    all_parts_hold(&rt, rt.alloc(), rows, is_told_under);
 }
 
 /// A list, a choice and a reference in groupings, in a container.
@@ -321,7 +314,7 @@ line 2: E2
 --
 0 faults
 "#;
-    assert_eq!(rt; first_wrong(rt.alloc(), EDIT, BOX, rows), None);
+    assert_right(&rt, first_wrong(rt.alloc(), EDIT, BOX, rows));
     let rows = r#"{"p:c":{"l":[{"v":6,"k":"x"}],"b":5}}
 create /p:c/l {"k":"y"}
 --
@@ -335,5 +328,5 @@ create /p:c/l {"k":"y"}
 --
 {"p:c":{"b":3}}
 "#;
-    assert_eq!(rt; first_wrong(rt.alloc(), DUMP, BOX, rows), None);
+    assert_right(&rt, first_wrong(rt.alloc(), DUMP, BOX, rows));
 }

@@ -2,6 +2,7 @@
 //! lines `==`.
 
 use crate::commands::is_shown;
+use crate::rows::all_parts_hold;
 use crate::running::{file, shown_of};
 use std::alloc::Global;
 
@@ -153,7 +154,5 @@ V9 operation-failed data-not-unique /j:m[1] 1
 V9 operation-failed data-not-unique /j:m[2] 1
 2 faults
 ";
-    for row in rows.split("==\n") {
-        assert!(rt; is_told_of_both(rt.alloc(), row) == Some(true), "{row}");
-    }
+    all_parts_hold(&rt, rt.alloc(), rows, is_told_of_both);
 }

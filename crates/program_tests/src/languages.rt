@@ -2,6 +2,7 @@
 //! one by lines `--`.
 
 use crate::commands::is_shown;
+use crate::rows::all_parts_hold;
 use crate::running::{file, shown_of};
 use std::alloc::Global;
 
@@ -76,9 +77,7 @@ module: a
   +--rw x    string
   +--rw y?   string
 ";
-    for row in rows.split("==\n") {
-        assert!(rt; is_shown_so(rt.alloc(), row) == Some(true), "{row}");
-    }
+    all_parts_hold(&rt, rt.alloc(), rows, is_shown_so);
 }
 
 #[test]
@@ -129,9 +128,7 @@ yanglive edit --dump --profile rfc --features a: d.json s.txt a.yang
 --
 {\"a:y\":\"v\"}
 ";
-    for row in rows.split("==\n") {
-        assert!(rt; is_shown_so(rt.alloc(), row) == Some(true), "{row}");
-    }
+    all_parts_hold(&rt, rt.alloc(), rows, is_shown_so);
 }
 
 #[test]
@@ -183,9 +180,7 @@ yanglive validate --profile rfc --unjudged must,when --features a: d.json a.yang
 --
 0 faults
 ";
-    for row in rows.split("==\n") {
-        assert!(rt; is_shown_so(rt.alloc(), row) == Some(true), "{row}");
-    }
+    all_parts_hold(&rt, rt.alloc(), rows, is_shown_so);
 }
 
 #[test]
@@ -234,7 +229,5 @@ error: the profile core has no features: '--features' stands with '--profile rfc
 For more information, try '--help'.
 --
 ";
-    for row in rows.split("==\n") {
-        assert!(rt; is_shown_so(rt.alloc(), row) == Some(true), "{row}");
-    }
+    all_parts_hold(&rt, rt.alloc(), rows, is_shown_so);
 }

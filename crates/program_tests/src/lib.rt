@@ -28,6 +28,8 @@ mod memory;
 #[cfg(test)]
 mod modules;
 #[cfg(test)]
+mod rows;
+#[cfg(test)]
 mod running;
 #[cfg(test)]
 mod saving;

@@ -1,6 +1,7 @@
 //! Modules of every kind of node: what is printed of documents under them, and which are refused. Rows are parted by
 //! lines `==`.
 
+use crate::rows::{all_hold, all_parts_hold, assert_right};
 use crate::telling::{is_refused_pair, is_told};
 use std::alloc::{AllocError, Global};
 
@@ -135,7 +136,7 @@ V8 operation-failed - /ex-net:net/host[2] -
 V7 operation-failed too-many-elements /ex-net:net/host -
 1 faults
 "#;
-    assert_eq!(rt; first_wrong(rt.alloc(), NETWORK, rows), None);
+    assert_right(&rt, first_wrong(rt.alloc(), NETWORK, rows));
 }
 
 #[test]
@@ -182,7 +183,7 @@ V11 data-missing instance-required /ex-net:net/host[1]/use-port -
 V11 data-missing instance-required /ex-net:net/host[1]/uplink -
 1 faults
 "#;
-    assert_eq!(rt; first_wrong(rt.alloc(), NETWORK, rows), None);
+    assert_right(&rt, first_wrong(rt.alloc(), NETWORK, rows));
 }
 
 #[test]
@@ -196,7 +197,7 @@ fn default_cases(rt: HostRuntime) {
 V11 data-missing instance-required /k:want -
 1 faults
 ";
-    assert_eq!(rt; first_wrong(rt.alloc(), DEFAULT_CASE, rows), None);
+    assert_right(&rt, first_wrong(rt.alloc(), DEFAULT_CASE, rows));
 }
 
 #[test]
@@ -210,14 +211,14 @@ V10 operation-failed - /v:e[2]/m[3] -
 V2 missing-element - /v:e[3]/id -
 5 faults
 "#;
-    assert_eq!(rt; first_wrong(rt.alloc(), ENTRIES, rows), None);
+    assert_right(&rt, first_wrong(rt.alloc(), ENTRIES, rows));
     let rows = r#"{"y:z":[5,"5",5]}
 1
 V10 operation-failed - /y:z[1] -
 V10 operation-failed - /y:z[3] -
 2 faults
 "#;
-    assert_eq!(rt; first_wrong(rt.alloc(), UNION, rows), None);
+    assert_right(&rt, first_wrong(rt.alloc(), UNION, rows));
 }
 
 #[test]
@@ -231,7 +232,7 @@ fn state_and_fractions(rt: HostRuntime) {
 V3 data-missing - /w:log[1]/at -
 1 faults
 "#;
-    assert_eq!(rt; first_wrong(rt.alloc(), STATE, rows), None);
+    assert_right(&rt, first_wrong(rt.alloc(), STATE, rows));
     let rows = r#"{"t:d":"9.223372036854775807"}
 0
 0 faults
@@ -241,7 +242,7 @@ V3 data-missing - /w:log[1]/at -
 V1 invalid-value - /t:d -
 1 faults
 "#;
-    assert_eq!(rt; first_wrong(rt.alloc(), FRACTION, rows), None);
+    assert_right(&rt, first_wrong(rt.alloc(), FRACTION, rows));
 }
 
 /// Whether a document under the module of lists and choices is refused so: the row is the document, and what is said.
@@ -264,9 +265,7 @@ fn refused_documents(rt: HostRuntime) {
 ==
 {"ex-net:nat":1}|d.json: J3 /
 "#;
-    for row in rows.split("==\n") {
-        assert!(rt; is_refused_document(rt.alloc(), row) == Some(true), "{row}");
-    }
+    all_parts_hold(&rt, rt.alloc(), rows, is_refused_document);
 }
 
 /// A module of these lines, the first of which is its fifth.
@@ -312,9 +311,7 @@ fn refused_modules(rt: HostRuntime) {
   typedef b { type a; }
 |p.yang:5: C9
 ";
-    for row in rows.split("==\n") {
-        assert!(rt; is_refused_module(rt.alloc(), row) == Some(true), "{row}");
-    }
+    all_parts_hold(&rt, rt.alloc(), rows, is_refused_module);
 }
 
 /// Whether an empty document has no fault under a module of these lines.
@@ -329,9 +326,7 @@ fn accepted_modules(rt: HostRuntime) {
 choice c { leaf a { type string; } }
 leaf a { type uint8; default 0x1F; }
 leaf a { type uint8 { range 1..5; } }";
-    for row in rows.lines() {
-        assert!(rt; is_accepted_module(rt.alloc(), row) == Some(true), "{row}");
-    }
+    all_hold(&rt, rt.alloc(), rows, is_accepted_module);
 }
 
 /// Whether a document prints so under a module: the row is the module's lines, a line `--`, and the document's row.
@@ -398,9 +393,7 @@ V3 data-missing - /p:u -
 V1 invalid-value a_b_c /p:a -
 1 faults
 "#;
-    for row in rows.split("==\n") {
-        assert!(rt; is_told_under(rt.alloc(), row) == Some(true), "{row}");
-    }
+    all_parts_hold(&rt, rt.alloc(), rows, is_told_under);
 }
 
 #[test]
@@ -450,7 +443,5 @@ V11 data-missing instance-required /p:b -
 0
 0 faults
 "#;
-    for row in rows.split("==\n") {
-        assert!(rt; is_told_under(rt.alloc(), row) == Some(true), "{row}");
-    }
+    all_parts_hold(&rt, rt.alloc(), rows, is_told_under);
 }

@@ -2,6 +2,7 @@
 
 ghost use Rattle.std.specs.Prelude.{None};
 
+use crate::rows::all_parts_hold;
 use crate::running::{InMemory, MODULE, Shown, WHOLLY, Way, file, shown_by};
 use std::alloc::{AllocError, Global};
 use yapp::{Ended, SavedFile, Shelf, Unsaved, save, tell_unwritten};
@@ -63,9 +64,7 @@ yanglive edit --output o.json bad.json s.txt p.yang|2|-||==
 yanglive edit --output o.json d.json s.txt d.json|2|-||==
 yanglive validate --output o.json d.json p.yang|3|-||==
 yanglive edit --output|3|-||";
-    for row in rows.split("==\n") {
-        assert!(rt; ends_so(rt.alloc(), row) == Some(true), "{row}");
-    }
+    all_parts_hold(&rt, rt.alloc(), rows, ends_so);
 }
 
 /// Whether no file is due once the call of a number failed on a side.
@@ -137,6 +136,27 @@ fn cause_of(word: &str) -> Option<Unsaved> {
     }
 }
 
+/// A file to write, where the word says so.
+fn saved_file(alloc: Global, word: &str) -> Result<Option<SavedFile>, AllocError> {
+    if word != "file" {
+        return Ok(None);
+    }
+    let name = String::from_str(alloc, "o.json")?;
+    let text = String::from_str(alloc, "{}")?;
+    Ok(Some(SavedFile { name, text }))
+}
+
+/// The status with which a run ends that says this; 255 where it says something else.
+fn ends_with(alloc: Global, ended: &Ended, shelf: &mut Last, said: &str) -> Option<u8> {
+    let mut errors = Cut::new(alloc, 200, 7, None).ok()?;
+    let status = save(ended, shelf, &mut errors);
+    Some(if errors.bytes() == said.as_bytes() {
+        status
+    } else {
+        255
+    })
+}
+
 /// Whether a run that ends with a status and perhaps with a file comes to that: the row is the status, whether there is a
 /// file, the cause for which it can't be written, whether reasons are wanted, the status then, what is kept, and what is said.
 fn is_saved(alloc: Global, row: &str) -> Option<bool> {
@@ -146,6 +166,12 @@ fn is_saved(alloc: Global, row: &str) -> Option<bool> {
     let (wanted, rest) = rest.split_once('|')?;
     let (after, rest) = rest.split_once('|')?;
     let (kept, said) = rest.split_once('|')?;
+    let (before, after) = (before.parse::<u8>().ok()?, after.parse::<u8>().ok()?);
+    let ended = Ended {
+        status: before,
+        saved: saved_file(alloc, is_there).ok()?,
+        with_reasons: wanted == "reasons",
+    };
     let mut shelf = Last {
         alloc,
         failing: cause_of(failing),
@@ -153,19 +179,7 @@ fn is_saved(alloc: Global, row: &str) -> Option<bool> {
         count: CallCount::new(),
         cause: None,
     };
-    let file = SavedFile {
-        name: String::from_str(alloc, "o.json").ok()?,
-        text: String::from_str(alloc, "{}").ok()?,
-    };
-    let ended = Ended {
-        status: before.parse::<u8>().ok()?,
-        saved: if is_there == "file" { Some(file) } else { None },
-        with_reasons: wanted == "reasons",
-    };
-    let mut errors = Cut::new(alloc, 200, 7, None).ok()?;
-    let status = save(&ended, &mut shelf, &mut errors);
-    let is_told = errors.bytes() == said.as_bytes();
-    Some(is_told && status == after.parse::<u8>().ok()? && shelf.text.as_str() == kept)
+    Some(ends_with(alloc, &ended, &mut shelf, said)? == after && shelf.text.as_str() == kept)
 }
 
 /// Whether that the output couldn't be written out is said where reasons are wanted alone.
@@ -220,7 +234,5 @@ fn files_in_their_place(rt: HostRuntime) {
 ==
 1|file|memory|reasons|4||memory
 ";
-    for row in rows.split("==\n") {
-        assert!(rt; is_saved(rt.alloc(), row) == Some(true), "{row}");
-    }
+    all_parts_hold(&rt, rt.alloc(), rows, is_saved);
 }

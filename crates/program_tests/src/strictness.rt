@@ -1,6 +1,7 @@
 //! Members that are given twice: refused with `--strict`, taken without it. Rows are parted by lines `==`.
 
 use crate::commands::is_shown;
+use crate::rows::all_parts_hold;
 use crate::running::{MODULE, file, shown_of};
 use std::alloc::Global;
 
@@ -65,7 +66,5 @@ yanglive edit --explain --strict --dump d.json s.txt p.yang~{"p:c":{"id":1}}~rep
   A member is given twice in one object, which --strict refuses; without it the last one counts. Take one of them out.
 ~{"p:c":{"id":1}}
 "#;
-    for row in rows.split("==\n") {
-        assert!(rt; is_shown_so(rt.alloc(), row) == Some(true), "{row}");
-    }
+    all_parts_hold(&rt, rt.alloc(), rows, is_shown_so);
 }

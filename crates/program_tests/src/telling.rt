@@ -1,5 +1,6 @@
 //! What the program prints. Where a row has lines of its own, the rows are parted by lines `==`.
 
+use crate::rows::all_parts_hold;
 use crate::running::{BOTH_LINES, MODULE, TWO_FAULTS, file, shown_of, validated};
 use std::alloc::Global;
 use ytext::Cut;
@@ -24,6 +25,10 @@ pub fn is_told(alloc: Global, module: &str, row: &str) -> Option<bool> {
     let shown = validated(alloc, module.as_bytes(), document.as_bytes()).ok()?;
     let is_silent = shown.errors.bytes().is_empty();
     Some(is_silent && shown.status == status && shown.output.bytes() == output.as_bytes())
+}
+
+fn is_told_of_module(alloc: Global, row: &str) -> Option<bool> {
+    is_told(alloc, MODULE, row)
 }
 
 #[test]
@@ -57,9 +62,7 @@ V1 invalid-value - /p:c/note -
 0
 0 faults
 ";
-    for row in rows.split("==\n") {
-        assert!(rt; is_told(rt.alloc(), MODULE, row) == Some(true), "{row}");
-    }
+    all_parts_hold(&rt, rt.alloc(), rows, is_told_of_module);
 }
 
 /// Whether a document or its module is refused with these lines, and nothing is printed.
@@ -106,9 +109,7 @@ module a { prefix \"x|{}|p.yang:1: L3
 ==
 module a {|[]|p.yang:1: L6
 ";
-    for row in rows.split("==\n") {
-        assert!(rt; is_refused(rt.alloc(), row) == Some(true), "{row}");
-    }
+    all_parts_hold(&rt, rt.alloc(), rows, is_refused);
     let found = is_refused_pair(rt.alloc(), b"module a {\n\xFF", "{}", "p.yang:2: L1\n");
     assert!(rt; found == Some(true), "a byte that is no text");
 }
@@ -178,7 +179,7 @@ Example: yanglive edit
 ==
 yanglive help check
 errors 3
-error: no command is called 'check'; the commands are compile, tree, validate, edit and explain
+error: no command is called 'check'; the commands are compile, tree, validate, edit, session and explain
 ==
 yanglive edit - - p.yang
 errors 3
