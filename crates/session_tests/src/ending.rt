@@ -1,6 +1,6 @@
 //! How sessions end: at a line that can't be read, an answer that can't be told, and a note that can't be said.
 
-use crate::holding::{GOOD, Held, NOTE, SESSION, Talk, held, is_held, talk};
+use crate::holding::{GOOD, Held, NOTE, SESSION, Talk, hold, is_held, over};
 use std::alloc::Global;
 
 const EDITS: &[&str] = &["create /p:c/note \"a\"", "remove /p:c/note"];
@@ -18,9 +18,9 @@ fn unread_lines(rt: HostRuntime) {
 fn ends_unread(alloc: Global, number: usize, told: &str, errors: &str) -> Option<bool> {
     let talk = Talk {
         unread: Some(number),
-        ..talk(SESSION, GOOD, EDITS)
+        ..over(SESSION, GOOD, EDITS)
     };
-    let held = held(alloc, talk).ok()?;
+    let held = hold(alloc, talk).ok()?;
     Some(is_held(&held, told, errors, 4))
 }
 
@@ -28,9 +28,9 @@ fn ends_unread(alloc: Global, number: usize, told: &str, errors: &str) -> Option
 fn is_silent(alloc: Global) -> Option<bool> {
     let talk = Talk {
         unsaid: Some(1),
-        ..talk(SESSION, GOOD, EDITS)
+        ..over(SESSION, GOOD, EDITS)
     };
-    let held = held(alloc, talk).ok()?;
+    let held = hold(alloc, talk).ok()?;
     Some(is_held(&held, "", "", 4) && held.asked == 0)
 }
 
@@ -53,9 +53,9 @@ fn many_edits<'a>(alloc: Global, count: usize) -> Option<Vec<&'a str>> {
 fn held_up_to(alloc: Global, lines: &[&str], call: Option<u64>) -> Option<Held> {
     let talk = Talk {
         untold: call,
-        ..talk(SESSION, GOOD, lines)
+        ..over(SESSION, GOOD, lines)
     };
-    held(alloc, talk).ok()
+    hold(alloc, talk).ok()
 }
 
 // Whether all is told of 2,000 edits.

@@ -116,7 +116,7 @@ pub struct Talk<'a> {
 }
 
 /// A talk of which nothing fails.
-pub fn talk<'a>(words: &'a str, document: &'a str, lines: &'a [&'a str]) -> Talk<'a> {
+pub fn over<'a>(words: &'a str, document: &'a str, lines: &'a [&'a str]) -> Talk<'a> {
     Talk {
         words,
         document,
@@ -146,7 +146,7 @@ fn words_of(alloc: Global, line: &str) -> Result<Vec<String>, AllocError> {
 }
 
 /// Holds a talk.
-pub fn held(alloc: Global, talk: Talk<'_>) -> Result<Held, AllocError> {
+pub fn hold(alloc: Global, talk: Talk<'_>) -> Result<Held, AllocError> {
     let words = words_of(alloc, talk.words)?;
     let mut files = Pair {
         alloc,

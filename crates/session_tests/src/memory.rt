@@ -1,7 +1,7 @@
 //! One request for memory, whichever, may be refused: that is told in place of what isn't done, and what is done is answered as
 //! ever. `tools/refuse-memory` refuses each request in turn.
 
-use crate::holding::{GOOD, Held, NOTE, SESSION, held, talk};
+use crate::holding::{GOOD, Held, NOTE, SESSION, hold, over};
 use std::alloc::Global;
 
 const LINES: &[&str] = &[
@@ -38,7 +38,7 @@ fn is_whole_or_short(held: &Held) -> bool {
 }
 
 fn is_told(alloc: Global) -> Option<bool> {
-    let held = held(alloc, talk(SESSION, GOOD, LINES)).ok()?;
+    let held = hold(alloc, over(SESSION, GOOD, LINES)).ok()?;
     Some(is_ended_or_short(&held))
 }
 

@@ -1,12 +1,12 @@
 //! Sessions that aren't opened: who would ask isn't asked. Rows of words are followed by the status and what the error side is
 //! told.
 
-use crate::holding::{GOOD, held, is_held, talk};
+use crate::holding::{GOOD, hold, is_held, over};
 use std::alloc::Global;
 
 // Whether words over a document come to this, and nobody is asked.
 fn comes_to(alloc: Global, words: &str, document: &str, status: u8, errors: &str) -> Option<bool> {
-    let held = held(alloc, talk(words, document, &["document"])).ok()?;
+    let held = hold(alloc, over(words, document, &["document"])).ok()?;
     Some(is_held(&held, "", errors, status) && held.asked == 0)
 }
 
@@ -64,7 +64,7 @@ fn refused_files(rt: HostRuntime) {
 
 // Whether words are refused with this status and a sentence, and nobody is asked.
 fn is_misused(alloc: Global, words: &str, sentence: &str) -> Option<bool> {
-    let held = held(alloc, talk(words, GOOD, &["document"])).ok()?;
+    let held = hold(alloc, over(words, GOOD, &["document"])).ok()?;
     Some(
         held.status == 3 && held.asked == 0 && held.errors.bytes().starts_with(sentence.as_bytes()),
     )

@@ -1,7 +1,7 @@
 //! What requests are answered. Sessions are parted by lines `==`; the first line of one has its status, and answers stand behind
 //! `> `.
 
-use crate::holding::{GOOD, NOTE, SESSION, held, is_held, talk};
+use crate::holding::{GOOD, NOTE, SESSION, hold, is_held, over};
 use std::alloc::Global;
 
 const TALKS: &str = r#"0
@@ -108,7 +108,7 @@ fn is_answered(alloc: Global, text: &str) -> Option<bool> {
             None => lines.push(line).ok()?,
         }
     }
-    let held = held(alloc, talk(SESSION, GOOD, &lines)).ok()?;
+    let held = hold(alloc, over(SESSION, GOOD, &lines)).ok()?;
     Some(is_held(&held, told.as_str(), NOTE, status))
 }
 
