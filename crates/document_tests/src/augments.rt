@@ -2,6 +2,7 @@
 
 use crate::building::{schema_of, with_line_feeds};
 use crate::compiling::comes_of;
+use crate::rows::all_hold;
 use crate::telling::number_of;
 use std::alloc::{AllocError, Global};
 use yschema_model::Schema;
@@ -49,9 +50,7 @@ fn compiled(rt: HostRuntime) {
 2 nodes!!container c;|augment /c { leaf y { type string; mandatory true; } }
 5 nodes!choice h { container k; }!augment /m:h { leaf y { type string; mandatory true; } }
 2 nodes!container c;!grouping g { leaf v { type uint8; } }|augment /m:c { uses g { refine v { default 7; } } }";
-    for row in rows.lines() {
-        assert!(rt; is_told(rt.alloc(), row) == Some(true), "{row:?}");
-    }
+    all_hold(&rt, rt.alloc(), rows, is_told);
 }
 
 #[test]
@@ -74,9 +73,7 @@ C15:3!container c;!augment /m:c { leaf x { type string; mandatory true; } }
 C15:3!container c;!augment /m:c { container x; }|augment /m:c/a:x { leaf y { type string; mandatory true; } }
 C15:3!container c;!augment /m:c { leaf-list x { type string; min-elements 1; } }
 C16:3!container c;!augment /m:c { list x { leaf y { type string; } } }";
-    for row in rows.lines() {
-        assert!(rt; is_told(rt.alloc(), row) == Some(true), "{row:?}");
-    }
+    all_hold(&rt, rt.alloc(), rows, is_told);
 }
 
 // Whether the augment at a place of a module adds so many nodes below the node of a number, and which is the first.
@@ -124,7 +121,5 @@ fn augments_of_modules(rt: HostRuntime) {
 1 2 4 0 -
 1 3 -
 2 0 -";
-    for row in rows.lines() {
-        assert!(rt; holds(rt.alloc(), row) == Some(true), "{row:?}");
-    }
+    all_hold(&rt, rt.alloc(), rows, holds);
 }

@@ -5,15 +5,20 @@ use yschema::compile;
 use yschema_model::Schema;
 use ytext::{Module, TextFault, parse};
 
+// Puts a module behind others, unless its text is refused. Nothing for want of memory.
+fn push_module(alloc: Global, modules: &mut Vec<Module>, text: &str) -> Option<()> {
+    match parse(alloc, text.as_bytes()) {
+        Ok(module) => modules.push(module).ok(),
+        Err(TextFault::Memory) => None,
+        Err(_) => Some(()),
+    }
+}
+
 /// The modules of texts, without those that are refused. Nothing for want of memory.
 pub(crate) fn modules_of(alloc: Global, texts: &[&str]) -> Option<Vec<Module>> {
     let mut modules = Vec::new(alloc);
     for text in texts {
-        match parse(alloc, text.as_bytes()) {
-            Ok(module) => modules.push(module).ok()?,
-            Err(TextFault::Memory) => return None,
-            Err(_) => {}
-        }
+        push_module(alloc, &mut modules, text)?;
     }
     Some(modules)
 }
@@ -26,10 +31,16 @@ pub(crate) fn schema_of(alloc: Global, texts: &[&str]) -> Option<Schema> {
 /// A text of a row: `|` stands for a line feed.
 pub(crate) fn with_line_feeds(alloc: Global, text: &str) -> Result<String, AllocError> {
     let mut whole = String::new(alloc);
+    push_with_line_feeds(&mut whole, text)?;
+    Ok(whole)
+}
+
+/// The same behind another text.
+pub(crate) fn push_with_line_feeds(whole: &mut String, text: &str) -> Result<(), AllocError> {
     for letter in text.chars() {
         whole.push(if letter == '|' { '\n' } else { letter })?;
     }
-    Ok(whole)
+    Ok(())
 }
 
 pub(crate) fn push_times(text: &mut String, part: &str, times: u32) -> Result<(), AllocError> {

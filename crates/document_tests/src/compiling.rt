@@ -1,6 +1,7 @@
 //! Which sets of modules are compiled, and how the others are refused.
 
-use crate::building::{module_text, modules_of, push_times, with_line_feeds};
+use crate::building::{module_text, modules_of, push_times, push_with_line_feeds, with_line_feeds};
+use crate::rows::all_hold;
 use crate::telling::{is_refusal_of_modules, number_of};
 use std::alloc::{AllocError, Global};
 use test_modules::{DEFAULT_CASE, ENTRIES, FIRST, NETWORK, SECOND};
@@ -31,12 +32,17 @@ fn is_told(alloc: Global, row: &str) -> Option<bool> {
     is_compiled(alloc, statements.as_str(), told)
 }
 
+// Statements behind a version.
+fn behind_version(alloc: Global, statements: &str) -> Result<String, AllocError> {
+    let mut text = String::from_str(alloc, " yang-version 1.1;\n")?;
+    push_with_line_feeds(&mut text, statements)?;
+    Ok(text)
+}
+
 /// The same of statements behind a version, from the fourth line on.
 pub(crate) fn is_told_of(alloc: Global, row: &str) -> Option<bool> {
     let (told, statements) = row.split_once('/')?;
-    let mut text = String::from_str(alloc, " yang-version 1.1;\n").ok()?;
-    let statements = with_line_feeds(alloc, statements).ok()?;
-    text.push_str(statements.as_str()).ok()?;
+    let text = behind_version(alloc, statements).ok()?;
     is_compiled(alloc, text.as_str(), told)
 }
 
@@ -46,9 +52,7 @@ fn versions(rt: HostRuntime) {
 C4:1/
 C4:1/ yang-version 1;
 0 nodes/ yang-version 1.1;";
-    for row in rows.lines() {
-        assert!(rt; is_told(rt.alloc(), row) == Some(true), "{row:?}");
-    }
+    all_hold(&rt, rt.alloc(), rows, is_told);
 }
 
 #[test]
@@ -68,9 +72,7 @@ fn compiled(rt: HostRuntime) {
 2 nodes/list l { key p:k; leaf k { type enumeration { enum a; enum b { value 5; } } } }
 1 nodes/leaf a { type union { type uint8; type string { length 1..3; } } default 256; }
 1 nodes/leaf a { type decimal64 { fraction-digits 2; range 'min..1.5'; } default +1.50; }";
-    for row in rows.lines() {
-        assert!(rt; is_told_of(rt.alloc(), row) == Some(true), "{row:?}");
-    }
+    all_hold(&rt, rt.alloc(), rows, is_told_of);
 }
 
 #[test]
@@ -95,9 +97,7 @@ C6:5/list l {| key q:k; leaf k { type string; } }
 C6:6/list l {| key k; leaf k { type string; }| unique q:k; }
 C8:5/leaf l {| type word; }
 C8:4/leaf l { type p:word; }";
-    for row in rows.lines() {
-        assert!(rt; is_told_of(rt.alloc(), row) == Some(true), "{row:?}");
-    }
+    all_hold(&rt, rt.alloc(), rows, is_told_of);
 }
 
 #[test]
@@ -117,9 +117,7 @@ C10:4/leaf l { type leafref; }
 C10:4/leaf l { type union; }
 C10:5/leaf l { type union {| type leafref { path /l; } } }
 C10:4/leaf l { type boolean { require-instance true; } }";
-    for row in rows.lines() {
-        assert!(rt; is_told_of(rt.alloc(), row) == Some(true), "{row:?}");
-    }
+    all_hold(&rt, rt.alloc(), rows, is_told_of);
 }
 
 #[test]
@@ -139,9 +137,7 @@ fn typedefs(rt: HostRuntime) {
 1 nodes/typedef t { type uint8; default 300; } leaf-list a { type t; min-elements 1; }
 1 nodes/typedef t { type uint8; default 300; } leaf a { type t; default 3; }
 2 nodes/typedef t { type uint8; default 300; } list l { key k; leaf k { type t; } }";
-    for row in rows.lines() {
-        assert!(rt; is_told_of(rt.alloc(), row) == Some(true), "{row:?}");
-    }
+    all_hold(&rt, rt.alloc(), rows, is_told_of);
 }
 
 #[test]
@@ -169,27 +165,25 @@ C10:6/grouping g { list l { key k;| typedef t { type uint8 { range 1..5; } }| le
 C11:5/typedef t { type uint8; default 7; }|leaf a { type t { range 1..6; } }
 C11:5/typedef t { type uint8; default x; }|leaf-list a { type t; }
 C17:5/typedef r { type leafref { path /b; } }|leaf a { type r; }";
-    for row in rows.lines() {
-        assert!(rt; is_told_of(rt.alloc(), row) == Some(true), "{row:?}");
-    }
+    all_hold(&rt, rt.alloc(), rows, is_told_of);
+}
+
+// A typedef of the one before.
+fn push_typedef(alloc: Global, text: &mut String, before: u32) -> Result<(), AllocError> {
+    let number = before.saturating_add(1);
+    let typedef = format!(in alloc; "typedef t{number} {{ type t{before}; }}")?;
+    text.push_str(typedef.as_str())
 }
 
 // A typedef of numbers up to 100, as many more as are asked for, each of the one before, and a leaf of the last.
 fn chained(alloc: Global, typedefs: u32, default: &str) -> Result<String, AllocError> {
-    let mut text = String::from_str(alloc, " yang-version 1.1;\n")?;
-    text.push_str("typedef t0 { type uint8 { range 0..100; } }")?;
+    let start = " yang-version 1.1;\ntypedef t0 { type uint8 { range 0..100; } }";
+    let mut text = String::from_str(alloc, start)?;
     for before in 0..typedefs {
-        text.push_str("typedef t")?;
-        text.push_str(format!(in alloc; "{}", before + 1)?.as_str())?;
-        text.push_str(" { type t")?;
-        text.push_str(format!(in alloc; "{before}")?.as_str())?;
-        text.push_str("; }")?;
+        push_typedef(alloc, &mut text, before)?;
     }
-    text.push_str("\nleaf a { type t")?;
-    text.push_str(format!(in alloc; "{typedefs}")?.as_str())?;
-    text.push_str("; default ")?;
-    text.push_str(default)?;
-    text.push_str("; }")?;
+    let leaf = format!(in alloc; "\nleaf a {{ type t{typedefs}; default {default}; }}")?;
+    text.push_str(leaf.as_str())?;
     Ok(text)
 }
 
@@ -205,9 +199,7 @@ fn may_chain(alloc: Global, row: &str) -> Option<bool> {
 fn chains_of_typedefs(rt: HostRuntime) {
     let rows = "1 nodes/100/100
 C11:5/100/101";
-    for row in rows.lines() {
-        assert!(rt; may_chain(rt.alloc(), row) == Some(true), "{row:?}");
-    }
+    all_hold(&rt, rt.alloc(), rows, may_chain);
 }
 
 #[test]
@@ -225,9 +217,7 @@ C11:4/choice c { default a; case a { container b { list l { min-elements 1; conf
 C16:4/list l { leaf a { type string; } }
 C16:5/container c;| list l;
 C16:5/container c { config false;| leaf a { config true; type string; } }";
-    for row in rows.lines() {
-        assert!(rt; is_told_of(rt.alloc(), row) == Some(true), "{row:?}");
-    }
+    all_hold(&rt, rt.alloc(), rows, is_told_of);
 }
 
 #[test]
@@ -250,9 +240,7 @@ C17:5/container c;| leaf a { type leafref { path /p:c; } }
 C17:4/leaf a { type leafref { path /p:a; } }
 C17:4/leaf a { type leafref { path /b; } }| leaf b { config false; type string; }
 C17:4/leaf a { type leafref { path /c/b; } }| choice c { leaf b { type string; } }";
-    for row in rows.lines() {
-        assert!(rt; is_told_of(rt.alloc(), row) == Some(true), "{row:?}");
-    }
+    all_hold(&rt, rt.alloc(), rows, is_told_of);
 }
 
 // A code is told only where no earlier phase has one, and within a phase the first line's.
@@ -265,9 +253,7 @@ C10:4/leaf a { type uint8 { range 5..1; } }| leaf b { type string; }| leaf b { t
 C13:6/leaf a { type uint8; default 256; }| leaf b { type string; }| leaf b { type string; }
 C16:4/list l;| leaf a { type uint8; default 256; }
 C11:4/leaf a { type uint8; default 256; }| list l;";
-    for row in rows.lines() {
-        assert!(rt; is_told_of(rt.alloc(), row) == Some(true), "{row:?}");
-    }
+    all_hold(&rt, rt.alloc(), rows, is_told_of);
 }
 
 // `CODE:LINE/module`, of a second module, which begins in its second line.
@@ -287,9 +273,7 @@ C12:3/|module b { yang-version 1.1; namespace 'urn:b'; prefix pb;| list l { key 
 C17:3/|module b { yang-version 1.1; namespace 'urn:b'; prefix pb;| leaf l { type leafref { path /c/x; } } }
 7 nodes/|module b { yang-version 1.1; namespace 'urn:b'; prefix pb; container c { leaf x { type string; } } }
 5 nodes/|module A { yang-version 1.1; namespace 'urn:a'; prefix pa; }";
-    for row in rows.lines() {
-        assert!(rt; is_second_told(rt.alloc(), row) == Some(true), "{row:?}");
-    }
+    all_hold(&rt, rt.alloc(), rows, is_second_told);
     let is_told = comes_of(rt.alloc(), &[FIRST, SECOND, FIRST], 2, "C7:1");
     assert!(rt; is_told == Some(true), "a module given twice");
 }
@@ -307,13 +291,16 @@ fn numbers_of_kinds(rt: HostRuntime) {
     assert!(rt; are_compiled(rt.alloc()) == Some(true));
 }
 
-// The same of statements behind a version, from the fourth line on, before and behind the first module.
+// A module of statements behind a version, from the fourth line on.
+fn versioned(alloc: Global, statements: &str) -> Result<String, AllocError> {
+    let statements = behind_version(alloc, statements)?;
+    module_text(alloc, statements.as_str())
+}
+
+// What comes of it before and behind the first module.
 fn is_told_beside(alloc: Global, row: &str) -> Option<bool> {
     let (told, statements) = row.split_once('/')?;
-    let mut lines = String::from_str(alloc, " yang-version 1.1;\n").ok()?;
-    let statements = with_line_feeds(alloc, statements).ok()?;
-    lines.push_str(statements.as_str()).ok()?;
-    let text = module_text(alloc, lines.as_str()).ok()?;
+    let text = versioned(alloc, statements).ok()?;
     let is_before = comes_of(alloc, &[text.as_str(), FIRST], 0, told)?;
     Some(is_before && comes_of(alloc, &[FIRST, text.as_str()], 1, told)?)
 }
@@ -331,9 +318,7 @@ C6:5/import a { prefix q; }|import a { prefix q; }
 C6:5/import zz { prefix q; }|leaf b { type zz:t; }
 C8:5/import a { prefix q; }|leaf b { type q:t; }
 C9:4/import m { prefix q; }";
-    for row in rows.lines() {
-        assert!(rt; is_told_beside(rt.alloc(), row) == Some(true), "{row:?}");
-    }
+    all_hold(&rt, rt.alloc(), rows, is_told_beside);
 }
 
 // Of three modules that import one another in a circle, and one that leads to them.
@@ -368,9 +353,7 @@ C9:5/0/cabd
 C9:5/1/dcba
 C9:3/1/dabc
 C5:2/0/dcb";
-    for row in rows.lines() {
-        assert!(rt; is_told_in_order(rt.alloc(), row) == Some(true), "{row:?}");
-    }
+    all_hold(&rt, rt.alloc(), rows, is_told_in_order);
 }
 
 const TYPES: &str = "module t {
@@ -383,10 +366,7 @@ const TYPES: &str = "module t {
 // Whether this comes of a module beside another that defines types.
 fn is_told_of_types(alloc: Global, row: &str) -> Option<bool> {
     let (told, statements) = row.split_once('/')?;
-    let mut text = String::from_str(alloc, " yang-version 1.1;\n").ok()?;
-    let statements = with_line_feeds(alloc, statements).ok()?;
-    text.push_str(statements.as_str()).ok()?;
-    let text = module_text(alloc, text.as_str()).ok()?;
+    let text = versioned(alloc, statements).ok()?;
     comes_of(alloc, &[TYPES, text.as_str()], 1, told)
 }
 
@@ -399,9 +379,7 @@ C8:5/import t { prefix q; }|leaf b { type t; }
 C10:5/import t { prefix q; }|leaf b { type q:t { range 0..9; } }
 C11:5/import t { prefix q; }|leaf b { type q:t; default 10; }
 C11:5/import t { prefix q; }|leaf b { type q:t { range 5..9; } }";
-    for row in rows.lines() {
-        assert!(rt; is_told_of_types(rt.alloc(), row) == Some(true), "{row:?}");
-    }
+    all_hold(&rt, rt.alloc(), rows, is_told_of_types);
 }
 
 const EARLIER: &str = "module b {
@@ -414,11 +392,8 @@ const EARLIER: &str = "module b {
 // Whether this comes of a module that imports one of several revisions, which imports the first module.
 fn is_told_of_revisions(alloc: Global, row: &str) -> Option<bool> {
     let (told, date) = row.split_once('/')?;
-    let mut lines = String::from_str(alloc, " yang-version 1.1;\n").ok()?;
-    lines.push_str("import b { prefix b; revision-date ").ok()?;
-    lines.push_str(date).ok()?;
-    lines.push_str("; }").ok()?;
-    let text = module_text(alloc, lines.as_str()).ok()?;
+    let import = format!(in alloc; "import b {{ prefix b; revision-date {date}; }}").ok()?;
+    let text = versioned(alloc, import.as_str()).ok()?;
     comes_of(alloc, &[EARLIER, text.as_str(), FIRST], 1, told)
 }
 
@@ -428,12 +403,7 @@ fn revisions(rt: HostRuntime) {
 C5:4/2020-01-02
 C5:4/2020-01-01
 C5:4/2020-01-04";
-    for row in rows.lines() {
-        assert!(rt;
-            is_told_of_revisions(rt.alloc(), row) == Some(true),
-            "{row:?}"
-        );
-    }
+    all_hold(&rt, rt.alloc(), rows, is_told_of_revisions);
 }
 
 #[test]
@@ -465,9 +435,7 @@ fn levels(rt: HostRuntime) {
 C18:1/61/
 60 nodes/57/choice d { leaf a { type string; } }
 C18:1/58/choice d { leaf a { type string; } }";
-    for row in rows.lines() {
-        assert!(rt; may_nest(rt.alloc(), row) == Some(true), "{row}");
-    }
+    all_hold(&rt, rt.alloc(), rows, may_nest);
 }
 
 // Whether the limit of levels is told at the last module, in its line.
@@ -490,18 +458,20 @@ fn push_types(alloc: Global, text: &mut String, count: u32) -> Result<(), AllocE
     Ok(())
 }
 
+// A typedef that doubles the one below.
+fn push_twice(alloc: Global, text: &mut String, number: u32, below: u32) -> Result<(), AllocError> {
+    let typedef = format!(in alloc;
+        "typedef t{number} {{ type union {{ type t{below}; type t{below}; }} }}\n"
+    )?;
+    text.push_str(typedef.as_str())
+}
+
 // Sixteen typedefs that double, the last of 32,768 members, in lines 4 to 19, and a leaf whose type stands in line 21: a
 // union of all of them and of these members.
 fn doubling(alloc: Global, more: &str) -> Result<String, AllocError> {
     let mut text = String::from_str(alloc, " yang-version 1.1;\ntypedef t0 { type int8; }\n")?;
-    let mut below = 0;
-    for number in 1..16 {
-        let twice = format!(in alloc; "type t{below}; type t{below};")?;
-        text.push_str(format!(in alloc; "typedef t{number} ")?.as_str())?;
-        text.push_str("{ type union { ")?;
-        text.push_str(twice.as_str())?;
-        text.push_str(" } }\n")?;
-        below = number;
+    for number in 1..16u32 {
+        push_twice(alloc, &mut text, number, number - 1)?;
     }
     text.push_str("leaf a {\ntype union { ")?;
     push_types(alloc, &mut text, 16)?;
@@ -526,9 +496,7 @@ C18:21/type int8;
 C18:21/type t15;
 C18:21/type union { type union { type t15; type t15; } }
 C10:22/|type int8 { length 1; }";
-    for row in rows.lines() {
-        assert!(rt; may_join(rt.alloc(), row) == Some(true), "{row}");
-    }
+    all_hold(&rt, rt.alloc(), rows, may_join);
 }
 
 // Whether this comes of so many containers beside each other, all of one name.
@@ -542,9 +510,8 @@ fn may_stand(alloc: Global, nodes: u32, told: &str) -> Option<bool> {
 fn leafs(alloc: Global, nodes: u32) -> Result<String, AllocError> {
     let mut text = String::from_str(alloc, " yang-version 1.1;\n")?;
     for number in 0..nodes {
-        let name = format!(in alloc; "leaf l{number}")?;
-        text.push_str(name.as_str())?;
-        text.push_str(" { type empty; }\n")?;
+        let leaf = format!(in alloc; "leaf l{number} {{ type empty; }}\n")?;
+        text.push_str(leaf.as_str())?;
     }
     Ok(text)
 }

@@ -147,8 +147,6 @@ fn right_beginnings(alloc: Global) -> Option<usize> {
 #[test]
 fn beginnings_of_edits(rt: HostRuntime) {
     assert!(rt; is_text(String::from_str(rt.alloc(), told_at(1)), "E1") == Some(true));
-    assert_eq!(rt;
-        right_beginnings(rt.alloc()),
-        Some(REPLACEMENT.len().saturating_add(1))
-    );
+    let count = right_beginnings(rt.alloc()).unwrap_or(0);
+    assert!(rt; count == REPLACEMENT.len().saturating_add(1), "{count}");
 }

@@ -1,6 +1,7 @@
 //! Documents: the text that is written for each.
 
 use crate::building::schema_of;
+use crate::rows::all_hold;
 use crate::telling::is_text;
 use std::alloc::Global;
 use test_modules::{MODULE, NETWORK};
@@ -47,8 +48,6 @@ fn written_documents(rt: HostRuntime) {
 { "p:c": {"note": "x\n", "id": 7} } => {"p:c":{"id":7,"note":"x\n"}}
 {"p:c":{"id":-9223372036854775808}} => {"p:c":{"id":-9223372036854775808}}
 {"p:c":{"id":[null],"note":true}} => {"p:c":{"id":[null],"note":true}}"#;
-    for row in rows.lines() {
-        assert!(rt; is_written(rt.alloc(), row) == Some(true), "{row:?}");
-    }
+    all_hold(&rt, rt.alloc(), rows, is_written);
     assert!(rt; is_network_rewritten(rt.alloc()) == Some(true));
 }

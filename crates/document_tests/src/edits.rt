@@ -1,5 +1,6 @@
 //! Paths and edits as their texts spell them.
 
+use crate::rows::all_hold;
 use crate::telling::{is_refusal, is_text};
 use std::alloc::{AllocError, Global};
 use yinst::{Edit, Key, NamedStep, Path, Predicate};
@@ -97,9 +98,7 @@ p:c => E1
 /p:c[] => E1
 /1c => E1
 /p:q:c => E1";
-    for row in rows.lines() {
-        assert!(rt; is_path(rt.alloc(), row) == Some(true), "{row:?}");
-    }
+    all_hold(&rt, rt.alloc(), rows, is_path);
 }
 
 // `text => told`: the edit once more with its value or position in brackets, `passed over`, or the code of its refusal.
@@ -141,8 +140,6 @@ Remove /p:c => E1
  => passed over
 # => passed over
 # remove /p:c => passed over";
-    for row in rows.lines() {
-        assert!(rt; is_edit(rt.alloc(), row) == Some(true), "{row:?}");
-    }
+    all_hold(&rt, rt.alloc(), rows, is_edit);
     assert!(rt; is_edit(rt.alloc(), "remove /p:c\n => E1") == Some(true));
 }

@@ -3,6 +3,7 @@
 use crate::building::{module_text, with_line_feeds};
 use crate::compiling::{comes_of, is_compiled, is_told_of};
 use crate::kinds::has_nodes;
+use crate::rows::{all_hold, all_parts_hold};
 use crate::telling::number_of;
 use std::alloc::{AllocError, Global};
 
@@ -27,9 +28,7 @@ fn used(rt: HostRuntime) {
 2 nodes/grouping g { leaf r { type leafref { path /a; } } }|uses g { refine r { config false; } }|leaf a { config false; type string; }
 1 nodes/grouping g { leaf a { type uint8; default 256; }| leaf a { type string; } }|leaf b { type string; }
 1 nodes/grouping g { leaf a { type uint8; } }|grouping h { uses g { refine b; } }|leaf c { type string; }";
-    for row in rows.lines() {
-        assert!(rt; is_told_of(rt.alloc(), row) == Some(true), "{row:?}");
-    }
+    all_hold(&rt, rt.alloc(), rows, is_told_of);
 }
 
 // Up to their types all groupings are judged, used or not.
@@ -55,9 +54,7 @@ C9:6/container c;|grouping g {| uses g; }|uses g;
 C9:4/grouping g { grouping h { uses g; } uses h; }
 C10:5/grouping g {| leaf a { type uint8 { range 5..1; } } }
 C10:6/grouping g { leaf a { type uint8; } }|uses g { refine b; }|leaf b { type uint8 { range 5..1; } }";
-    for row in rows.lines() {
-        assert!(rt; is_told_of(rt.alloc(), row) == Some(true), "{row:?}");
-    }
+    all_hold(&rt, rt.alloc(), rows, is_told_of);
 }
 
 // Behind that the nodes are judged that stand there, refined, and what they break is told at their statements.
@@ -85,9 +82,7 @@ C16:5/grouping g {| leaf a { type string; } }|container c { config false; uses g
 C16:5/grouping g {| list l { leaf a { type string; } } }|uses g;
 C17:5/grouping g {| leaf r { type leafref { path /a; } } }|container c { leaf a { type string; } uses g; }
 C17:5/grouping g {| leaf r { type leafref { path /a; } } }|uses g;|leaf a { config false; type string; }";
-    for row in rows.lines() {
-        assert!(rt; is_told_of(rt.alloc(), row) == Some(true), "{row:?}");
-    }
+    all_hold(&rt, rt.alloc(), rows, is_told_of);
 }
 
 // A refine needs a node of its grouping at its path that may bear all that it gives. It is told before names are judged,
@@ -112,9 +107,7 @@ C14:6/grouping g { leaf a { type uint8; } }|grouping h {| container c { uses g {
 C14:5/grouping g { leaf a { type uint8; } }|grouping h { uses g { refine b; } }|container c { uses g { refine d; } }|uses h;
 C14:6/grouping g { leaf a { type uint8; }| leaf a { type uint8; } }|uses g { refine b { default 7; } }
 C13:5/grouping g { leaf a { type uint8; }| leaf a { type string; } }|uses g { refine a { default 300; } }";
-    for row in rows.lines() {
-        assert!(rt; is_told_of(rt.alloc(), row) == Some(true), "{row:?}");
-    }
+    all_hold(&rt, rt.alloc(), rows, is_told_of);
 }
 
 // Statements of a module from the fourth line on, a line `--`, and a line for each node that they make.
@@ -184,9 +177,7 @@ list /1 unique /2 0 on l
 key k
 leaf else 7 v
 ";
-    for row in rows.split("==\n") {
-        assert!(rt; is_made(rt.alloc(), row) == Some(true), "{row}");
-    }
+    all_parts_hold(&rt, rt.alloc(), rows, is_made);
 }
 
 // Of one `uses` the later refine holds, and of several the outer one's.
@@ -234,9 +225,7 @@ container d
 container c
 leaf else 2 a
 ";
-    for row in rows.split("==\n") {
-        assert!(rt; is_made(rt.alloc(), row) == Some(true), "{row}");
-    }
+    all_parts_hold(&rt, rt.alloc(), rows, is_made);
 }
 
 // A module of a name, which is its prefix too, with what it imports, and these lines from the third on.
@@ -395,9 +384,7 @@ grouping g { leaf k { type string; } }
 --
 list l { key u:k; uses s:g; }
 ";
-    for row in rows.split("==\n") {
-        assert!(rt; is_told_of_both(rt.alloc(), row) == Some(true), "{row}");
-    }
+    all_parts_hold(&rt, rt.alloc(), rows, is_told_of_both);
 }
 
 // A text in which `#` stands for the name of the grouping of a number.
@@ -469,9 +456,7 @@ C14:46//40/uses #; uses #;/grouping h {| uses #; uses # { refine x; } }|uses h;
 C18:1//61/container c { uses #; }/uses #;
 60 nodes/container c;/59/container c { uses # { refine c { presence x; } } }/uses #;
 2 nodes/container c;/40/uses #; container d { uses #; }/container e { leaf f { type string; } }";
-    for row in rows.lines() {
-        assert!(rt; may_chain(rt.alloc(), row) == Some(true), "{row}");
-    }
+    all_hold(&rt, rt.alloc(), rows, may_chain);
 }
 
 /// Whether groupings, refined one within the other, are compiled to so many nodes, and a refine that isn't fit is told.

@@ -1,6 +1,7 @@
 //! The halves of an edit apart: what its path means, and what its value denotes.
 
 use crate::building::schema_of;
+use crate::rows::all_hold;
 use crate::telling::{is_refusal, is_text, number_of};
 use std::alloc::{AllocError, Global};
 use test_modules::{MODULE, NETWORK};
@@ -27,8 +28,13 @@ fn is_bound(alloc: Global, schema: &Schema, row: &str) -> Option<bool> {
     }
 }
 
-fn binds(alloc: Global, module: &str, row: &str) -> Option<bool> {
-    let schema = schema_of(alloc, &[module])?;
+fn binds(alloc: Global, row: &str) -> Option<bool> {
+    let schema = schema_of(alloc, &[MODULE])?;
+    is_bound(alloc, &schema, row)
+}
+
+fn binds_of_hosts(alloc: Global, row: &str) -> Option<bool> {
+    let schema = schema_of(alloc, &[NETWORK])?;
     is_bound(alloc, &schema, row)
 }
 
@@ -48,9 +54,7 @@ move /p:c/note 1 => E3
 move /p:c 1 => E3
 move /p:c[1] 1 => E3
 move /p:c[1]/zz 1 => E2";
-    for row in rows.lines() {
-        assert!(rt; binds(rt.alloc(), MODULE, row) == Some(true), "{row:?}");
-    }
+    all_hold(&rt, rt.alloc(), rows, binds);
 }
 
 #[test]
@@ -62,9 +66,7 @@ move /ex-net:net/host[addr='a'] 1 => E3
 move /ex-net:net/host[9]/name 1 => E3
 move /ex-net:net/host/name 1 => E3
 move /ex-net:net 1 => E3";
-    for row in rows.lines() {
-        assert!(rt; binds(rt.alloc(), NETWORK, row) == Some(true), "{row:?}");
-    }
+    all_hold(&rt, rt.alloc(), rows, binds_of_hosts);
 }
 
 // `node text => told`: how many nodes stand below what the text denotes at a schema node, or the code of its refusal.
@@ -95,7 +97,5 @@ fn values_of_edits(rt: HostRuntime) {
 0 {\"zz\":1} => E10 J3
 0 {\"p:id\":1} => E10 J4
 7 1 => E2";
-    for row in rows.lines() {
-        assert!(rt; denotes(rt.alloc(), row) == Some(true), "{row:?}");
-    }
+    all_hold(&rt, rt.alloc(), rows, denotes);
 }

@@ -3,6 +3,7 @@
 use crate::building::{schema_of, with_line_feeds};
 use crate::compiling::comes_of;
 use crate::kinds::are_nodes;
+use crate::rows::all_hold;
 use crate::telling::number_of;
 use std::alloc::Global;
 
@@ -145,7 +146,5 @@ fn refused_defaults_that_name_identities(rt: HostRuntime) {
 0 6 nodes/leaf-list k { config false; type p:kind; default eth; default j:eth; }
 0 6 nodes/leaf-list k { type union { type p:kind; type string; } default p:eth; default i:eth; }
 0 7 nodes/list l { key k; leaf k { type p:kind; default fast; } }";
-    for row in rows.lines() {
-        assert!(rt; is_told_of_both(rt.alloc(), row) == Some(true), "{row:?}");
-    }
+    all_hold(&rt, rt.alloc(), rows, is_told_of_both);
 }

@@ -28,6 +28,8 @@ mod linking;
 #[cfg(test)]
 mod memory;
 #[cfg(test)]
+mod rows;
+#[cfg(test)]
 mod schemas;
 #[cfg(test)]
 mod telling;

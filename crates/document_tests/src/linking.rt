@@ -1,6 +1,7 @@
 //! What the names and types of linked statements mean.
 
 use crate::building::{module_text, modules_of};
+use crate::rows::all_hold;
 use crate::telling::{is_refusal_of_modules, is_text, number_of};
 use std::alloc::Global;
 use ylink::{Linked, Statements, StmtId, link};
@@ -110,29 +111,40 @@ fn is_typed(alloc: Global, linked: &Linked<'_>, row: &str) -> Option<bool> {
     }
 }
 
-// What a row asks.
-#[derive(Clone, Copy)]
-enum Question {
-    Statement,
-    Module,
-    Meaning,
-    Row,
-    Prefix,
-    Typed,
-}
-
-// Whether a row holds of the two modules.
-fn holds(alloc: Global, question: Question, row: &str) -> Option<bool> {
+fn holds_statement(alloc: Global, row: &str) -> Option<bool> {
     let modules = modules_of(alloc, &[USING, USED])?;
     let linked = link(alloc, &modules).ok()?;
-    match question {
-        Question::Statement => is_statement(alloc, &linked, row),
-        Question::Module => is_module(&linked, row),
-        Question::Meaning => is_meaning(&linked, row),
-        Question::Row => is_row(alloc, &linked, row),
-        Question::Prefix => is_prefix(&linked, row),
-        Question::Typed => is_typed(alloc, &linked, row),
-    }
+    is_statement(alloc, &linked, row)
+}
+
+fn holds_module(alloc: Global, row: &str) -> Option<bool> {
+    let modules = modules_of(alloc, &[USING, USED])?;
+    let linked = link(alloc, &modules).ok()?;
+    is_module(&linked, row)
+}
+
+fn holds_meaning(alloc: Global, row: &str) -> Option<bool> {
+    let modules = modules_of(alloc, &[USING, USED])?;
+    let linked = link(alloc, &modules).ok()?;
+    is_meaning(&linked, row)
+}
+
+fn holds_row(alloc: Global, row: &str) -> Option<bool> {
+    let modules = modules_of(alloc, &[USING, USED])?;
+    let linked = link(alloc, &modules).ok()?;
+    is_row(alloc, &linked, row)
+}
+
+fn holds_prefix(alloc: Global, row: &str) -> Option<bool> {
+    let modules = modules_of(alloc, &[USING, USED])?;
+    let linked = link(alloc, &modules).ok()?;
+    is_prefix(&linked, row)
+}
+
+fn holds_typed(alloc: Global, row: &str) -> Option<bool> {
+    let modules = modules_of(alloc, &[USING, USED])?;
+    let linked = link(alloc, &modules).ok()?;
+    is_typed(alloc, &linked, row)
 }
 
 #[test]
@@ -146,10 +158,7 @@ fn statements_by_number(rt: HostRuntime) {
 33 leaf k
 34 type v
 35 -";
-    for row in rows.lines() {
-        let right = holds(rt.alloc(), Question::Statement, row);
-        assert!(rt; right == Some(true), "{row:?}");
-    }
+    all_hold(&rt, rt.alloc(), rows, holds_statement);
 }
 
 #[test]
@@ -159,10 +168,7 @@ fn modules_of_statements(rt: HostRuntime) {
 22 1
 34 1
 35 -";
-    for row in rows.lines() {
-        let right = holds(rt.alloc(), Question::Module, row);
-        assert!(rt; right == Some(true), "{row:?}");
-    }
+    all_hold(&rt, rt.alloc(), rows, holds_module);
 }
 
 #[test]
@@ -178,10 +184,7 @@ fn meanings(rt: HostRuntime) {
 31 26
 34 30
 35 -";
-    for row in rows.lines() {
-        let right = holds(rt.alloc(), Question::Meaning, row);
-        assert!(rt; right == Some(true), "{row:?}");
-    }
+    all_hold(&rt, rt.alloc(), rows, holds_meaning);
 }
 
 #[test]
@@ -195,10 +198,7 @@ fn rows_of_statements(rt: HostRuntime) {
 29:30,33,
 33:34,
 35:";
-    for row in rows.lines() {
-        let right = holds(rt.alloc(), Question::Row, row);
-        assert!(rt; right == Some(true), "{row:?}");
-    }
+    all_hold(&rt, rt.alloc(), rows, holds_row);
 }
 
 // Whether the modules of these texts have these statements.
@@ -229,10 +229,7 @@ fn prefixes(rt: HostRuntime) {
 1 b 1
 1 x -
 2 b -";
-    for row in rows.lines() {
-        let right = holds(rt.alloc(), Question::Prefix, row);
-        assert!(rt; right == Some(true), "{row:?}");
-    }
+    all_hold(&rt, rt.alloc(), rows, holds_prefix);
 }
 
 #[test]
@@ -254,10 +251,7 @@ fn types_of_statements(rt: HostRuntime) {
 34 3 yes
 34 4 no
 35 3 -";
-    for row in rows.lines() {
-        let right = holds(rt.alloc(), Question::Typed, row);
-        assert!(rt; right == Some(true), "{row:?}");
-    }
+    all_hold(&rt, rt.alloc(), rows, holds_typed);
 }
 
 fn is_refused(alloc: Global, text: &str, told: &str) -> Option<bool> {
@@ -291,7 +285,5 @@ C10:3/ yang-version 1.1; leaf l { type union; }
 -/ yang-version 1.1; leaf l { type string; } leaf l { type string; }
 -/ yang-version 1.1; leaf l { type leafref { path /p:x; } }
 -/ yang-version 1.1; list l { leaf k { type string; default 'x'; mandatory true; } }";
-    for row in rows.lines() {
-        assert!(rt; is_linked(rt.alloc(), row) == Some(true), "{row:?}");
-    }
+    all_hold(&rt, rt.alloc(), rows, is_linked);
 }

@@ -5,6 +5,7 @@ use crate::compiling::{are_compiled, comes_of};
 use crate::documents::{is_network_rewritten, is_rewritten};
 use crate::groupings::are_replaced;
 use crate::kinds::are_asked;
+use crate::rows::all_hold;
 use crate::schemas::is_outlined;
 use crate::telling::{is_refusal, is_text};
 use std::alloc::Global;
@@ -72,8 +73,6 @@ fn edits_or_memory(rt: HostRuntime) {
 
 #[test]
 fn edits_with_memory(rt: HostRuntime) {
-    for row in APPLIED.lines() {
-        assert!(rt; is_applied(rt.alloc(), row) == Some(true), "{row}");
-    }
+    all_hold(&rt, rt.alloc(), APPLIED, is_applied);
     assert!(rt; comes_of(rt.alloc(), &AUGMENTED, 0, "3 nodes") == Some(true));
 }

@@ -1,6 +1,7 @@
 //! Schemas: what is asked of one.
 
 use crate::building::schema_of;
+use crate::rows::all_hold;
 use crate::telling::number_of;
 use std::alloc::Global;
 use test_modules::{FIRST, SECOND};
@@ -55,9 +56,7 @@ fn children_by_name(rt: HostRuntime) {
 0/x/1
 0/a:x/-
 5/x/6";
-    for row in rows.lines() {
-        assert!(rt; holds(rt.alloc(), row) == Some(true), "{row:?}");
-    }
+    all_hold(&rt, rt.alloc(), rows, holds);
 }
 
 fn kind_name(kind: &Kind) -> &'static str {

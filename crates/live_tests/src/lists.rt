@@ -1,6 +1,7 @@
 //! Live documents under modules with lists and choices: edits one after the other.
 
 use crate::lives::{are_checked_under, first_wrong, runs_under};
+use crate::telling::assert_right;
 use std::alloc::Global;
 use test_modules::{DEFAULT_CASE, ENTRIES, NETWORK, STATE};
 
@@ -29,14 +30,14 @@ fn defaults_in_use(rt: HostRuntime) {
 # opened => passed over => {"ex-net:net":{"host":[{"auto":[null],"name":"a","use-port":80}]}} => none
 create /ex-net:net/host[1]/port 22 => 0 to 1 => {"ex-net:net":{"host":[{"auto":[null],"name":"a","port":22,"use-port":80}]}} => V11 data-missing instance-required /ex-net:net/host[1]/use-port -|
 remove /ex-net:net/host[1]/port => 1 to 0 => {"ex-net:net":{"host":[{"auto":[null],"name":"a","use-port":80}]}} => none"#;
-    assert_eq!(rt; first_wrong_history(rt.alloc(), NETWORK, histories), None);
+    assert_right(&rt, first_wrong_history(rt.alloc(), NETWORK, histories));
     let histories = r#"{"k:want":3}
 # opened => passed over => {"k:want":3} => none
 create /k:boost 1 => 0 to 1 => {"k:boost":1,"k:want":3} => V11 data-missing instance-required /k:want -|
 remove /k:boost => 1 to 0 => {"k:want":3} => none"#;
-    assert_eq!(rt;
+    assert_right(
+        &rt,
         first_wrong_history(rt.alloc(), DEFAULT_CASE, histories),
-        None
     );
 }
 
@@ -49,7 +50,7 @@ remove /ex-net:net/host[name='b'] => 0 to 1 => {"ex-net:net":{"host":[{"auto":[n
 ==
 {"ex-net:net":{"host":[{"name":"a","auto":[null],"uplink":"b"},{"name":"b","auto":[null]}]}}
 replace /ex-net:net/host[2] {"name":"b","speed":7} => 0 to 0 => {"ex-net:net":{"host":[{"auto":[null],"name":"a","uplink":"b"},{"name":"b","speed":7}]}} => none"#;
-    assert_eq!(rt; first_wrong_history(rt.alloc(), NETWORK, histories), None);
+    assert_right(&rt, first_wrong_history(rt.alloc(), NETWORK, histories));
 }
 
 #[test]
@@ -67,7 +68,7 @@ remove /ex-net:net/host[2] => 2 to 0 => {"ex-net:net":{"host":[{"auto":[null],"n
 {"ex-net:net":{"host":[{"name":"a","auto":[null]},{"name":"b","auto":[null]},{"name":"c","auto":[null]},{"name":"d","auto":[null]}]}}
 # opened => passed over => {"ex-net:net":{"host":[{"auto":[null],"name":"a"},{"auto":[null],"name":"b"},{"auto":[null],"name":"c"},{"auto":[null],"name":"d"}]}} => V7 operation-failed too-many-elements /ex-net:net/host -|
 remove /ex-net:net/host[4] => 1 to 0 => {"ex-net:net":{"host":[{"auto":[null],"name":"a"},{"auto":[null],"name":"b"},{"auto":[null],"name":"c"}]}} => none"#;
-    assert_eq!(rt; first_wrong_history(rt.alloc(), NETWORK, histories), None);
+    assert_right(&rt, first_wrong_history(rt.alloc(), NETWORK, histories));
 }
 
 #[test]
@@ -95,7 +96,7 @@ create /ex-net:net/host {"name":"z","auto":[null]} => E4 => {} => V6 operation-f
 ==
 {"ex-net:net": {"host": [{"name":"a","auto":[null]}]}}
 # opened => passed over => {"ex-net:net":{"host":[{"auto":[null],"name":"a"}]}} => none"#;
-    assert_eq!(rt; first_wrong_history(rt.alloc(), NETWORK, histories), None);
+    assert_right(&rt, first_wrong_history(rt.alloc(), NETWORK, histories));
 }
 
 #[test]
@@ -105,7 +106,7 @@ create /w:c/tag "a" => E4 => {} => none
 create /w:c {} => 0 to 0 => {"w:c":{}} => none
 create /w:c/tag "a" => 0 to 0 => {"w:c":{"tag":["a"]}} => none
 remove /w:c/tag[1] => 0 to 0 => {"w:c":{}} => none"#;
-    assert_eq!(rt; first_wrong_history(rt.alloc(), STATE, histories), None);
+    assert_right(&rt, first_wrong_history(rt.alloc(), STATE, histories));
 }
 
 #[test]
@@ -120,7 +121,7 @@ remove /v:e[1] => 5 to 3 => {"v:e":[{"id":2,"in":{"x":"p"},"m":[4,5,4]},{"in":{}
 ==
 {"v:e":[{"id":1,"in":{"x":"p"}},{"id":2,"in":{"x":"p"},"m":[4,5,4]},{"in":{}}]}
 create /v:e[3]/id 2 => 5 to 6 => {"v:e":[{"id":1,"in":{"x":"p"}},{"id":2,"in":{"x":"p"},"m":[4,5,4]},{"id":2,"in":{}}]} => V9 operation-failed data-not-unique /v:e[1] 1|V8 operation-failed - /v:e[2] -|V9 operation-failed data-not-unique /v:e[2] 1|V10 operation-failed - /v:e[2]/m[1] -|V10 operation-failed - /v:e[2]/m[3] -|V8 operation-failed - /v:e[3] -|"#;
-    assert_eq!(rt; first_wrong_history(rt.alloc(), ENTRIES, histories), None);
+    assert_right(&rt, first_wrong_history(rt.alloc(), ENTRIES, histories));
 }
 
 // Identities as keys, values of tuples and targets of references, by either spelling.
@@ -152,10 +153,7 @@ remove /m:l[1] => 4 to 0 => {"m:l":[{"k":"a","x":"m:b"}],"m:t":"m:a"} => none
 replace /m:t "r" => 0 to 1 => {"m:l":[{"k":"a","x":"m:b"}],"m:t":"r"} => V1 invalid-value - /m:t -|
 replace /m:t "b" => 1 to 1 => {"m:l":[{"k":"a","x":"m:b"}],"m:t":"b"} => V11 data-missing instance-required /m:t -|
 create /m:l {"k":"m:b"} => 1 to 0 => {"m:l":[{"k":"a","x":"m:b"},{"k":"m:b"}],"m:t":"b"} => none"#;
-    assert_eq!(rt;
-        first_wrong_history(rt.alloc(), IDENTITIES, histories),
-        None
-    );
+    assert_right(&rt, first_wrong_history(rt.alloc(), IDENTITIES, histories));
 }
 
 // No entry stands at a position of a list without any.
@@ -165,7 +163,7 @@ fn absent_lists(rt: HostRuntime) {
 remove /v:e[1] => E5 => {} => none
 create /v:e[1]/id 1 => E5 => {} => none
 replace /v:e[1]/m[1] 1 => E5 => {} => none"#;
-    assert_eq!(rt; first_wrong_history(rt.alloc(), ENTRIES, histories), None);
+    assert_right(&rt, first_wrong_history(rt.alloc(), ENTRIES, histories));
 }
 
 // Whether edits of two entries of one key are decided so, and leave one of them.

@@ -1,7 +1,7 @@
 //! Live documents: edits one after the other, lists of edits, and what is refused before any edit.
 
 use crate::building::{live_of, live_under, modules_of};
-use crate::telling::{have_lines, is_refusal, is_text, number_of};
+use crate::telling::{assert_right, have_lines, is_refusal, is_text, number_of};
 use std::alloc::Global;
 use test_modules::MODULE;
 use ycheck::Fault;
@@ -173,12 +173,12 @@ pub(crate) fn go(alloc: Global, document: &str, rows: &str) -> Option<bool> {
 
 #[test]
 fn replacements(rt: HostRuntime) {
-    assert_eq!(rt; first_wrong(rt.alloc(), MODULE, FAULTY, REPLACEMENTS), None);
+    assert_right(&rt, first_wrong(rt.alloc(), MODULE, FAULTY, REPLACEMENTS));
 }
 
 #[test]
 fn creations(rt: HostRuntime) {
-    assert_eq!(rt; first_wrong(rt.alloc(), MODULE, "{}", CREATIONS), None);
+    assert_right(&rt, first_wrong(rt.alloc(), MODULE, "{}", CREATIONS));
 }
 
 // An edit that removes what a path of one step leads to, which bears a position.

@@ -3,7 +3,7 @@
 use crate::building::live_under;
 use crate::lists::first_wrong_history;
 use crate::lives::{is_answer, stands};
-use crate::telling::number_of;
+use crate::telling::{assert_right, number_of};
 use std::alloc::Global;
 use test_modules::{DEFAULT_CASE, ENTRIES, NETWORK, STATE};
 use yinst::{Edit, NamedStep, Path, Predicate};
@@ -50,7 +50,7 @@ remove /ex-net:net/host[1] => 2 to 0 => {"ex-net:net":{"host":[{"auto":[null],"n
 # opened => passed over => {"ex-net:net":{"host":[{"auto":[null],"name":"a","uplink":"q"},{"auto":[null],"name":"b","uplink":"a"}]}} => V11 data-missing instance-required /ex-net:net/host[1]/uplink -|
 move /ex-net:net/host[1] 2 => 1 to 1 => {"ex-net:net":{"host":[{"auto":[null],"name":"b","uplink":"a"},{"auto":[null],"name":"a","uplink":"q"}]}} => V11 data-missing instance-required /ex-net:net/host[2]/uplink -|
 replace /ex-net:net/host[2]/name "q" => 1 to 1 => {"ex-net:net":{"host":[{"auto":[null],"name":"b","uplink":"a"},{"auto":[null],"name":"q","uplink":"q"}]}} => V11 data-missing instance-required /ex-net:net/host[1]/uplink -|"#;
-    assert_eq!(rt; first_wrong(rt.alloc(), NETWORK, histories), None);
+    assert_right(&rt, first_wrong(rt.alloc(), NETWORK, histories));
 }
 
 #[test]
@@ -64,14 +64,14 @@ move /v:e[id='2']/m[3] 2 => 4 to 4 => {"v:e":[{"id":2,"in":{"x":"p"},"m":[4,5,4]
 move /v:e[1]/m[1] 3 => 4 to 4 => {"v:e":[{"id":2,"in":{"x":"p"},"m":[5,4,4]},{"id":1,"in":{"x":"p"}},{"id":3,"in":{"x":"q"}}]} => V9 operation-failed data-not-unique /v:e[1] 1|V10 operation-failed - /v:e[1]/m[2] -|V10 operation-failed - /v:e[1]/m[3] -|V9 operation-failed data-not-unique /v:e[2] 1|
 move /v:e[1]/m[1] 4 => E5 => {"v:e":[{"id":2,"in":{"x":"p"},"m":[5,4,4]},{"id":1,"in":{"x":"p"}},{"id":3,"in":{"x":"q"}}]} => V9 operation-failed data-not-unique /v:e[1] 1|V10 operation-failed - /v:e[1]/m[2] -|V10 operation-failed - /v:e[1]/m[3] -|V9 operation-failed data-not-unique /v:e[2] 1|
 remove /v:e[1]/m[3] => 4 to 2 => {"v:e":[{"id":2,"in":{"x":"p"},"m":[5,4]},{"id":1,"in":{"x":"p"}},{"id":3,"in":{"x":"q"}}]} => V9 operation-failed data-not-unique /v:e[1] 1|V9 operation-failed data-not-unique /v:e[2] 1|"#;
-    assert_eq!(rt; first_wrong(rt.alloc(), ENTRIES, histories), None);
+    assert_right(&rt, first_wrong(rt.alloc(), ENTRIES, histories));
     let histories = r#"{"w:c":{"tag":["b","a"]},"w:log":[{},{"at":"1"},{}]}
 # opened => passed over => {"w:c":{"tag":["b","a"]},"w:log":[{},{"at":"1"},{}]} => V3 data-missing - /w:log[1]/at -|V3 data-missing - /w:log[3]/at -|
 move /w:log[2] 1 => 2 to 2 => {"w:c":{"tag":["b","a"]},"w:log":[{"at":"1"},{},{}]} => V3 data-missing - /w:log[2]/at -|V3 data-missing - /w:log[3]/at -|
 move /w:log[1] 3 => 2 to 2 => {"w:c":{"tag":["b","a"]},"w:log":[{},{},{"at":"1"}]} => V3 data-missing - /w:log[1]/at -|V3 data-missing - /w:log[2]/at -|
 move /w:c/tag[2] 1 => 2 to 2 => {"w:c":{"tag":["a","b"]},"w:log":[{},{},{"at":"1"}]} => V3 data-missing - /w:log[1]/at -|V3 data-missing - /w:log[2]/at -|
 move /w:c/tag[1] 3 => E5 => {"w:c":{"tag":["a","b"]},"w:log":[{},{},{"at":"1"}]} => V3 data-missing - /w:log[1]/at -|V3 data-missing - /w:log[2]/at -|"#;
-    assert_eq!(rt; first_wrong(rt.alloc(), STATE, histories), None);
+    assert_right(&rt, first_wrong(rt.alloc(), STATE, histories));
 }
 
 #[test]
@@ -100,11 +100,11 @@ move /v:e[2]/m[1] 2 => E5 => {"v:e":[{"id":1,"in":{"x":"p"}},{"id":2,"m":[4]}]} 
 {}
 move /v:e[1] 1 => E5 => {} => none
 move /v:e[id='1'] 1 => E7 => {} => none"#;
-    assert_eq!(rt; first_wrong(rt.alloc(), ENTRIES, histories), None);
+    assert_right(&rt, first_wrong(rt.alloc(), ENTRIES, histories));
     let histories = r#"{"k:boost":1}
 move /k:boost 1 => E3 => {"k:boost":1} => none
 move /k:rate 1 => E3 => {"k:boost":1} => none"#;
-    assert_eq!(rt; first_wrong(rt.alloc(), DEFAULT_CASE, histories), None);
+    assert_right(&rt, first_wrong(rt.alloc(), DEFAULT_CASE, histories));
 }
 
 // An edit that moves what a path of one step leads to, which bears a position.
@@ -185,7 +185,7 @@ move /r:a[3]/b[x='2'][y='2'] 1 => E7 => {"r:a":[{"k":3},{"c":[5],"k":2},{"b":[{"
 remove /r:a[1] => 0 to 1 => {"r:a":[{"c":[5],"k":2},{"b":[{"x":1,"y":2},{"x":2,"y":1},{"x":1,"y":1}],"c":[7,9,8],"k":1,"to":3}],"r:d":["q","r","p"],"r:e":[{"k":"t"},{"k":"s"}]} => V11 data-missing instance-required /r:a[2]/to -|
 move /r:d[3] 1 => 1 to 1 => {"r:a":[{"c":[5],"k":2},{"b":[{"x":1,"y":2},{"x":2,"y":1},{"x":1,"y":1}],"c":[7,9,8],"k":1,"to":3}],"r:d":["p","q","r"],"r:e":[{"k":"t"},{"k":"s"}]} => V11 data-missing instance-required /r:a[2]/to -|
 move /r:a[2]/c[1] 4 => E5 => {"r:a":[{"c":[5],"k":2},{"b":[{"x":1,"y":2},{"x":2,"y":1},{"x":1,"y":1}],"c":[7,9,8],"k":1,"to":3}],"r:d":["p","q","r"],"r:e":[{"k":"t"},{"k":"s"}]} => V11 data-missing instance-required /r:a[2]/to -|"#;
-    assert_eq!(rt; first_wrong(rt.alloc(), SEVERAL, histories), None);
+    assert_right(&rt, first_wrong(rt.alloc(), SEVERAL, histories));
 }
 
 #[test]
@@ -196,5 +196,5 @@ fn entries_with_faults_of_all_kinds(rt: HostRuntime) {
 move /ex-net:net/host[2] 4 => 5 to 5 => {"ex-net:net":{"host":[{"auto":[null],"name":"a"},{"addr":"x","auto":[null],"name":"c","port":7},{"addr":"x","name":"d","port":7},{"auto":[null],"name":"b","uplink":"z","use-port":7}]}} => V7 operation-failed too-many-elements /ex-net:net/host -|V9 operation-failed data-not-unique /ex-net:net/host[2] 1|V9 operation-failed data-not-unique /ex-net:net/host[3] 1|V4 data-missing missing-choice /ex-net:net/host[3] mode|V11 data-missing instance-required /ex-net:net/host[4]/uplink -|
 move /ex-net:net/host[name='d'] 1 => 5 to 5 => {"ex-net:net":{"host":[{"addr":"x","name":"d","port":7},{"auto":[null],"name":"a"},{"addr":"x","auto":[null],"name":"c","port":7},{"auto":[null],"name":"b","uplink":"z","use-port":7}]}} => V7 operation-failed too-many-elements /ex-net:net/host -|V9 operation-failed data-not-unique /ex-net:net/host[1] 1|V4 data-missing missing-choice /ex-net:net/host[1] mode|V9 operation-failed data-not-unique /ex-net:net/host[3] 1|V11 data-missing instance-required /ex-net:net/host[4]/uplink -|
 remove /ex-net:net/host[3] => 5 to 2 => {"ex-net:net":{"host":[{"addr":"x","name":"d","port":7},{"auto":[null],"name":"a"},{"auto":[null],"name":"b","uplink":"z","use-port":7}]}} => V4 data-missing missing-choice /ex-net:net/host[1] mode|V11 data-missing instance-required /ex-net:net/host[3]/uplink -|"#;
-    assert_eq!(rt; first_wrong(rt.alloc(), NETWORK, histories), None);
+    assert_right(&rt, first_wrong(rt.alloc(), NETWORK, histories));
 }

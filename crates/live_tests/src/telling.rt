@@ -1,10 +1,17 @@
 //! Codes, counts and lines of faults, as the rows of the tables spell them.
 
 use std::alloc::{AllocError, Global};
+use std::process::Abort;
 use ycheck::{Fault, write_line};
 use yinst::EditFault;
 use yschema_model::Schema;
 use ytext::Cut;
+
+/// Asserts that no row is wrong.
+pub(crate) fn assert_right(rt: &impl Abort, wrong: Option<&str>) {
+    let row = wrong.unwrap_or("");
+    assert!(rt; wrong.is_none(), "{row}");
+}
 
 pub(crate) fn number_of(digits: &str) -> Option<u32> {
     digits.parse::<u32>().ok()

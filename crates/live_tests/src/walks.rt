@@ -1,5 +1,6 @@
 //! Walks over the faults of documents, beside the lists of them.
 
+use crate::telling::assert_right;
 use std::alloc::Global;
 use test_modules::{DEFAULT_CASE, ENTRIES, MODULE, NETWORK, STATE};
 use ycheck::{Fault, Info, LentInfo};
@@ -133,7 +134,7 @@ fn plain_documents(rt: HostRuntime) {
 {"p:c":{"id":7}} => none
 {"p:c":{"id":256,"note":"x"}} => V1
 {"p:c":{"note":5}} => V3 V1"#;
-    assert_eq!(rt; first_wrong(rt.alloc(), MODULE, rows), None);
+    assert_right(&rt, first_wrong(rt.alloc(), MODULE, rows));
 }
 
 #[test]
@@ -143,7 +144,7 @@ fn hosts(rt: HostRuntime) {
 {"ex-net:net":{"host":[{"auto":[null],"name":"a","uplink":"c"},{"addr":"x","name":"b","use-port":81}]}} => V11 V11 V4
 {"ex-net:net":{"host":[{"auto":[null],"name":"a","addr":"x","port":7},{"speed":"u","name":"a","addr":"x","port":7},{"speed":1,"name":"b","addr":"y"}]}} => V8 V9 V8 V9 V1
 {"ex-net:net":{"host":[{"auto":[null],"port":5000,"speed":1},{"auto":[null],"name":"123456789"},{"auto":[null]},{"auto":[null]}]}} => V7 V2 V1 V5 V1 V2 V2"#;
-    assert_eq!(rt; first_wrong(rt.alloc(), NETWORK, rows), None);
+    assert_right(&rt, first_wrong(rt.alloc(), NETWORK, rows));
 }
 
 #[test]
@@ -151,7 +152,7 @@ fn choices(rt: HostRuntime) {
     let rows = r#"{} => none
 {"k:boost":1,"k:want":3} => V11
 {"k:boost":1,"k:rate":2,"k:want":3} => V5 V11"#;
-    assert_eq!(rt; first_wrong(rt.alloc(), DEFAULT_CASE, rows), None);
+    assert_right(&rt, first_wrong(rt.alloc(), DEFAULT_CASE, rows));
 }
 
 #[test]
@@ -160,9 +161,9 @@ fn entries_and_items(rt: HostRuntime) {
         r#"{"v:e":[{"id":1,"in":{"x":"p"}},{"id":2,"in":{"x":"p"},"m":[4,5,4]},{"in":{}}]} => V9 V9 V10 V10 V2
 {"v:e":[{"id":1,"in":{"x":"p"}},{"id":2,"in":{"x":"p"},"m":[4,5,4]},{"id":2,"in":{}}]} => V9 V8 V9 V10 V10 V8
 {"v:e":[{"id":2,"in":{"x":"a"},"m":[1,1,300]},{"id":1}]} => V10 V10 V1"#;
-    assert_eq!(rt; first_wrong(rt.alloc(), ENTRIES, rows), None);
+    assert_right(&rt, first_wrong(rt.alloc(), ENTRIES, rows));
     let rows = r#"{"w:c":{"tag":["b","a"]},"w:log":[{},{"at":"1"},{}]} => V3 V3"#;
-    assert_eq!(rt; first_wrong(rt.alloc(), STATE, rows), None);
+    assert_right(&rt, first_wrong(rt.alloc(), STATE, rows));
 }
 
 #[test]
@@ -171,13 +172,13 @@ fn moved_entries_and_items(rt: HostRuntime) {
         r#"{"ex-net:net":{"host":[{"auto":[null],"name":"a","uplink":"c"},{"addr":"x","name":"b","use-port":81}]}} => move /ex-net:net/host[2] 1 => V11 V4 V11
 {"ex-net:net":{"host":[{"auto":[null],"name":"a","addr":"x","port":7},{"speed":"u","name":"a","addr":"x","port":7},{"speed":1,"name":"b","addr":"y"}]}} => move /ex-net:net/host[1] 3|move /ex-net:net/host[name='b'] 1 => V8 V9 V1 V8 V9
 {"ex-net:net":{"host":[{"auto":[null],"port":5000,"speed":1},{"auto":[null],"name":"123456789"},{"auto":[null]},{"auto":[null]}]}} => move /ex-net:net/host[1] 4 => V7 V1 V2 V2 V2 V1 V5"#;
-    assert_eq!(rt; first_wrong_after(rt.alloc(), NETWORK, rows), None);
+    assert_right(&rt, first_wrong_after(rt.alloc(), NETWORK, rows));
     let rows =
         r#"{"v:e":[{"id":1,"in":{"x":"p"}},{"id":2,"in":{"x":"p"},"m":[4,5,4]},{"in":{}}]} => move /v:e[3] 2|move /v:e[id='2']/m[1] 2 => V9 V2 V9 V10 V10
 {"v:e":[{"id":1,"in":{"x":"p"}},{"id":2,"in":{"x":"p"},"m":[4,5,4]},{"id":2,"in":{}}]} => move /v:e[1] 3 => V8 V9 V10 V10 V8 V9
 {"v:e":[{"id":2,"in":{"x":"a"},"m":[1,1,300]},{"id":1}]} => move /v:e[1]/m[3] 1|move /v:e[id='1'] 1 => V1 V10 V10"#;
-    assert_eq!(rt; first_wrong_after(rt.alloc(), ENTRIES, rows), None);
+    assert_right(&rt, first_wrong_after(rt.alloc(), ENTRIES, rows));
     let rows =
         r#"{"w:c":{"tag":["b","a","b"]},"w:log":[{},{"at":"1"},{"at":"x"}]} => move /w:log[3] 1|move /w:c/tag[2] 3 => V10 V10 V1 V3"#;
-    assert_eq!(rt; first_wrong_after(rt.alloc(), STATE, rows), None);
+    assert_right(&rt, first_wrong_after(rt.alloc(), STATE, rows));
 }

@@ -29,6 +29,16 @@ faults
 > {"faults":[{"error-message":"\"x\" isn't a value of uint8: it takes an integer without quotes in 0..255.","error-path":"/p:c/id","error-tag":"invalid-value","error-type":"application","yanglive:code":"V1","yanglive:path":"/p:c/id"}],"count":1}
 faults 2
 > {"faults":[],"count":1}
+below /p:c
+> {"faults":[{"error-message":"\"x\" isn't a value of uint8: it takes an integer without quotes in 0..255.","error-path":"/p:c/id","error-tag":"invalid-value","error-type":"application","yanglive:code":"V1","yanglive:path":"/p:c/id"}],"count":1}
+below /p:c/id
+> {"faults":[{"error-message":"\"x\" isn't a value of uint8: it takes an integer without quotes in 0..255.","error-path":"/p:c/id","error-tag":"invalid-value","error-type":"application","yanglive:code":"V1","yanglive:path":"/p:c/id"}],"count":1}
+below /p:c/note
+> {"faults":[],"count":1}
+below /p:d
+> {"refused":"E2","message":"A step of the path names no node there, or in the wrong form."}
+value /p:c/id
+> {"refused":"E1","message":"The request isn't served."}
 faults 1 0
 > {"refused":"E1","message":"The line is no request."}
 ==

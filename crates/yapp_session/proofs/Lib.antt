@@ -1,7 +1,9 @@
 mod LineLemmas
 mod ListLemmas
 mod PastLemmas
+mod QuestionLemmas
 mod ReplyLemmas
 mod RequestLemmas
 mod RewindLemmas
+mod SettleLemmas
 mod TextLemmas

@@ -1,18 +1,18 @@
 -- What lines are answered, by what their requests are.
-use Rattle.std.proofs.Common.{◌≡◌, ℕ, Bool, true, false, Option, Some, None, refl, sym, subst, inl}
-use Rattle.std.specs.Prelude.{if◌then◌else◌}
+use Rattle.std.proofs.Common.{◌≡◌, ℕ, Bool, true, false, List, [], ◌∷◌, length, Option, Some, None, refl, sym, ap, subst, ◌∙◌, inl, inr}
+use Rattle.std.specs.Prelude.{if◌then◌else◌, take}
 use Rattle.yspec.specs.text.Text.{Text}
 use Rattle.yspec.specs.edit.Live.{Live}
 use Rattle.yspec_session.specs.Session as spec
 use Rattle.yspec_session.specs.Session.{Session}
-use Rattle.yspec_session.specs.Remembering.{Kept}
+use Rattle.yspec_session.specs.Remembering.{Kept, behind_groups}
 use Rattle.yspec_session.specs.Requests.{request_of}
-use Rattle.ysay_session.specs.AnswerText.{unserved_text}
+use Rattle.ysay_session.specs.AnswerText.{short_text, unserved_text}
 use Rattle.ylive.specs.View.{view}
 use Rattle.yapp_session.specs.Kept.{Parts}
 use Rattle.yapp_session.specs.View.{past_view}
 use Rattle.yapp_session.specs.Asked.{AsksAs, is_unserved, request_view}
-use Rattle.yapp_session.specs.Answered.{AnswersLine, Holds, Says, Told, asked_answered, line_answered}
+use Rattle.yapp_session.specs.Answered.{AnswersLine, Holds, IsPlaced, Says, Told, asked_answered, line_answered}
 use Rattle.yapp_session.specs.declared.request.Request.{Request}
 use Rattle.yapp_session.specs.declared.request.Request.TheVariants as rust
 
@@ -35,6 +35,7 @@ module _ (limit : ℕ) (before : Live) (k : Kept) (t : Text) (after : Live) (l :
       → Says limit before k asked t after l
   said (rust.Change edit) asked is told = served asked _ refl is told
   said (rust.Faults behind count) asked is told = served asked _ refl is told
+  said (rust.Below path) asked is told = served asked _ refl is told
   said rust.Undo asked is told = served asked _ refl is told
   said rust.Document asked is told = served asked _ refl is told
   said rust.Begin asked is told = served asked _ refl is told
@@ -42,7 +43,33 @@ module _ (limit : ℕ) (before : Live) (k : Kept) (t : Text) (after : Live) (l :
   said rust.Back asked is told = served asked _ refl is told
   said rust.Unserved asked is told = unserved asked is told
 
-pub line_said : (inside self after : Parts) (line t : Text) → inside ≡ self → after.limit ≡ inside.limit → (view after.live).schema ≡ (view inside.live).schema
-    → Says inside.limit (view inside.live) (past_view inside.past) (request_of line) t (view after.live) (past_view after.past) → AnswersLine self line t after
-line_said inside self after line t is limit schema says = subst (λ (self : Parts). AnswersLine self line t after) is
-    (record { limit = limit; schema = schema; says = λ s h. inl (says s h) })
+pub line_said : (inside self after : Parts) (line t : Text) (l : Kept) → inside ≡ self → after.limit ≡ inside.limit → (view after.live).schema ≡ (view inside.live).schema
+    → Says inside.limit (view inside.live) (past_view inside.past) (request_of line) t (view after.live) l
+    → ((s : Session) → Holds (view after.live) l s → Holds (view after.live) (past_view after.past) s) → AnswersLine self line t after
+line_said inside self after line t l is limit schema says settled = subst (λ (self : Parts). AnswersLine self line t after) is
+    (record { limit = limit; schema = schema; says = λ s h. let p = says s h in inl (p.0, settled _ p.1) })
+
+all_taken : {A : Type 0} (xs : List A) → take (length xs) xs ≡ xs
+all_taken [] = refl
+all_taken (x ∷ xs) = ap (λ ys. x ∷ ys) (all_taken xs)
+
+-- where memory ran out the live document is put to where the past leads
+pub mended : (inside self after : Parts) (line t : Text) → inside ≡ self → after.limit ≡ inside.limit → (view after.live).schema ≡ (view inside.live).schema
+    → t ≡ short_text → past_view after.past ≡ past_view inside.past
+    → IsPlaced (view inside.live).schema (past_view inside.past) (length (past_view inside.past).groups) (view after.live) → AnswersLine self line t after
+mended inside self after line t is limit schema short past placed = subst (λ (self : Parts). AnswersLine self line t after) is (record {
+  limit = limit;
+  schema = schema;
+  says = λ s h. inr (short, subst (λ (k : Kept). Holds (view after.live) k s) (sym past) (there s h));
+})
+  where
+    k : Kept
+    k = past_view inside.past
+
+    there : (s : Session) → Holds (view inside.live) k s → Holds (view after.live) k s
+    there s h = let place = placed h.remembers.later in
+        subst (λ (live : Live). Holds live k s) (sym place) (record {
+          fresh = refl;
+          tree = ap (behind_groups (view inside.live).schema k.base) (all_taken k.groups) ∙ sym h.remembers.tree;
+          remembers = h.remembers;
+        })

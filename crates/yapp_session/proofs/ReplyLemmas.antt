@@ -1,20 +1,24 @@
 -- What requests are answered over a live document and the edits since another.
-use Rattle.std.proofs.Common.{◌≡◌, ◌≢◌, ℕ, zero, suc, ◌-◌, ◌++◌, true, false, List, [], ◌∷◌, length, Option, Some, None, Ok, Err, refl, sym, ap, ap₂, subst, ◌∙◌, ◌<◌, arith}
+use Rattle.std.proofs.Common.{◌≡◌, ◌≢◌, ℕ, zero, suc, ◌-◌, ◌++◌, true, false, List, [], ◌∷◌, length, Option, Some, None, Ok, refl, sym, ap, ap₂, subst, ◌∙◌, ◌<◌, arith}
 use Rattle.std.specs.Prelude.{take, is_some}
+use Rattle.std.proofs.lemmas.List.{length-take-le}
 use Rattle.yspec.specs.text.Text.{Text}
 use Rattle.yspec.specs.schema.Schema.{Schema}
 use Rattle.yspec.specs.document.Document.{Tree}
 use Rattle.yspec.specs.document.Faults.{faults_of}
+use Rattle.yspec.specs.document.Fitting.{Fits}
 use Rattle.yspec.specs.edit.EditText.{Edit}
-use Rattle.yspec.specs.edit.Editing.{EditRefusal, applied}
+use Rattle.yspec.specs.edit.Editing.{applied}
 use Rattle.yspec.specs.edit.Live.{Live, fault_count, with_tree}
 use Rattle.yspec_session.specs.Session as spec
-use Rattle.yspec_session.specs.Session.{Session, Begun, Earlier, answered, change_answered, undone, begun_with, committed, fallen, turns_of}
-use Rattle.yspec_session.specs.Remembering.{Since, Kept, Remembers, back_to, behind_groups, begun_here, joined, with_group}
-use Rattle.yspec_session.proofs.RememberingLemmas.{TakenBack, back_tree, begins, begun_in_both, changes, commits, falls, nothing_left, takes_back}
+use Rattle.yspec_session.specs.Session.{Session, Begun, change_answered, undone, committed, fallen, turns_of}
+use Rattle.yspec_session.specs.Remembering.{Since, Kept, Remembers, back_to, behind_groups, joined, until, with_group}
+use Rattle.yspec_session.proofs.RememberingLemmas.{TakenBack, back_tree, begun_in_both, changes, commits, falls, takes_back}
 use Rattle.ysay_session.specs.AnswerText as text
 use Rattle.yapp_session.specs.View.{less_one}
-use Rattle.yapp_session.specs.Answered.{Holds, Replies, answer_text, page_text, place_at}
+use Rattle.yapp_session.specs.Kept.{AreFit, LaterFits}
+use Rattle.yapp_session.specs.Answered.{Holds, IsPlaced, Replies, Stays, answer_text, place_at}
+use Rattle.yapp_session.proofs.RewindLemmas.{until_fits}
 
 -- the answer and the session are those of a pair that is equal
 answers_as : (schema : Schema) (t : Text) (live : Live) (k : Kept) (a b : spec.Answer × Session) → b ≡ a
@@ -29,6 +33,14 @@ replies_as limit before after k l m r t u text past holds =
 
 counted_in : (schema : Schema) (t u : Tree) → t ≡ u → length (faults_of schema t) ≡ length (faults_of schema u)
 counted_in schema t u is = ap (λ (t : Tree). length (faults_of schema t)) is
+
+-- the documents of a past fit as those of another do
+pub stays_as : (before after : Live) (k l m : Kept) → after.schema ≡ before.schema → l ≡ m → (AreFit before.schema k → AreFit before.schema m) → Stays before k after l
+stays_as before after k l m schema past fit = record { schema = schema; fit = λ f. subst (AreFit before.schema) (sym past) (fit f) }
+
+-- with the later document where no more than the first groups stay
+pub fit_until : (s : Schema) (n : ℕ) (k : Kept) → AreFit s k → Fits s k.base × LaterFits s (until n k.later)
+fit_until s n k fit = (fit.0, until_fits s n k.later fit.1)
 
 -- ---- edits
 
@@ -53,19 +65,7 @@ accepted limit before after k e m n fresh answer left counts counts_after =
     subst (λ (live : Live). Replies limit before k (spec.change e) (text.changed_text m n) live (with_group limit (e ∷ []) k)) (sym left)
     (accepted_so limit before k e m n after.tree fresh answer counts (counts_after ∙ ap fault_count left))
 
-pub refused : (limit : ℕ) (before after : Live) (k : Kept) (e : Edit) (r : EditRefusal) → applied before.schema before.tree e ≡ Err r → after ≡ before
-    → Replies limit before k (spec.change e) (text.edit_refused_text r) after k
-refused limit before after k e r answer left s h =
-    answers_as before.schema (text.edit_refused_text r) after k (change_answered before.schema limit s (turns_of before.schema s.tree e) (Err r)) _
-    (ap (λ t. change_answered before.schema limit s (turns_of before.schema s.tree e) (applied before.schema t e)) (sym h.tree)
-    ∙ ap (change_answered before.schema limit s (turns_of before.schema s.tree e)) answer)
-    (refl, subst (λ (live : Live). Holds live k s) (sym left) h)
-
 -- ---- taking back
-
-pub none_to_undo : (limit : ℕ) (before : Live) (k : Kept) → k.kept ≡ 0 → Replies limit before k spec.undo text.nothing_text before k
-none_to_undo limit before k none s h =
-    answers_as before.schema text.nothing_text before k (undone before.schema s []) _ (ap (undone before.schema s) (nothing_left before.schema k s h.remembers none)) (refl, h)
 
 -- a list with a last item
 record Ends {A : Type 0} (xs : List A) : Type 0 where
@@ -88,9 +88,9 @@ some_kept zero some = absurd (some refl)
 some_kept (suc n) some = (n, refl)
 
 pub one_to_undo : (limit : ℕ) (before after : Live) (k : Kept) (m n count : ℕ) → k.kept ≢ 0 → count ≡ length k.groups - 1 → before.is_stale ≡ false
-    → after ≡ place_at before.schema k count → m ≡ fault_count before → n ≡ fault_count after
+    → IsPlaced before.schema k count after → m ≡ fault_count before → n ≡ fault_count after
     → Replies limit before k spec.undo (text.changed_text m n) after (less_one count k)
-one_to_undo limit before after k m n count some at fresh place counts counts_after s h =
+one_to_undo limit before after k m n count some at fresh placed counts counts_after s h =
     answers_as before.schema (text.changed_text m n) after (less_one count k) (undone before.schema s (back.earlier ∷ back.others)) _
     (ap (undone before.schema s) back.remembered) (
       ap₂ text.changed_text (counts ∙ counted_in before.schema before.tree s.tree h.tree)
@@ -99,10 +99,13 @@ one_to_undo limit before after k m n count some at fresh place counts counts_aft
         fresh = ap (λ (live : Live). live.is_stale) place;
         tree = ap (λ (live : Live). live.tree) place ∙ sym back.tree;
         remembers = subst (λ (schema : Schema). Remembers schema (less_one count k) (undone before.schema s (back.earlier ∷ back.others)).1)
-            (sym (ap (λ (live : Live). live.schema) place)) back.held;
+            (sym (ap (λ (live : Live). live.schema) place)) held;
       },
     )
   where
+    place : after ≡ place_at before.schema k count
+    place = placed h.remembers.later
+
     more : (m : ℕ) × (k.kept ≡ suc m)
     more = some_kept k.kept some
 
@@ -113,6 +116,10 @@ one_to_undo limit before after k m n count some at fresh place counts counts_aft
     back = takes_back before.schema k (take count k.groups) end.last s h.remembers
         (end.is ∙ ap (λ n. take n k.groups ++ end.last ∷ []) (sym at)) more.0 more.1
 
+    held : Remembers before.schema (less_one count k) (undone before.schema s (back.earlier ∷ back.others)).1
+    held = subst (λ n. Remembers before.schema (record k { groups = take count k.groups; kept = k.kept - 1; later = until n k.later }) (undone before.schema s (back.earlier ∷ back.others)).1)
+        (length-take-le count k.groups (omega (arith, at))) back.held
+
 -- ---- edits together
 
 -- edits together that have begun
@@ -120,42 +127,18 @@ begun_there : (o : Option Begun) → is_some o ≡ true → (b : Begun) × (o �
 begun_there None is = absurd cc
 begun_there (Some b) is = (b, refl)
 
-not_there : (o : Option Begun) → is_some o ≡ false → o ≡ None
-not_there None is = refl
-not_there (Some b) is = absurd cc
-
 module _ (limit : ℕ) (before : Live) (k : Kept) where
   some_begun : (s : Session) → Holds before k s → (since : Since) → k.begun ≡ Some since → (b : Begun) × (s.begun ≡ Some b)
   some_begun s h since is = begun_there s.begun (begun_in_both before.schema k s h.remembers ∙ ap is_some is)
-
-  none_begun : (s : Session) → Holds before k s → k.begun ≡ None → s.begun ≡ None
-  none_begun s h is = not_there s.begun (begun_in_both before.schema k s h.remembers ∙ ap is_some is)
-
-  pub has_begun : (since : Since) → k.begun ≡ Some since → Replies limit before k spec.begin text.begun_text before k
-  has_begun since is s h = let b = some_begun s h since is in
-      answers_as before.schema text.begun_text before k (begun_with s (Some b.0)) _ (ap (begun_with s) b.1) (refl, h)
-
-  pub begins_now : k.begun ≡ None → Replies limit before k spec.begin text.done_text before (begun_here k)
-  begins_now is s h = let none = none_begun s h is in
-      answers_as before.schema text.done_text before (begun_here k) (begun_with s None) _ (ap (begun_with s) none)
-      (refl, record { fresh = h.fresh; tree = h.tree; remembers = begins before.schema k s h.remembers none })
-
-  pub nothing_to_commit : k.begun ≡ None → Replies limit before k spec.commit text.not_begun_text before k
-  nothing_to_commit is s h =
-      answers_as before.schema text.not_begun_text before k (committed limit s None) _ (ap (committed limit s) (none_begun s h is)) (refl, h)
 
   pub commits_now : (since : Since) → k.begun ≡ Some since → Replies limit before k spec.commit text.done_text before (joined limit since k)
   commits_now since is s h = let b = some_begun s h since is in
       answers_as before.schema text.done_text before (joined limit since k) (committed limit s (Some b.0)) _ (ap (committed limit s) b.1)
       (refl, record { fresh = h.fresh; tree = h.tree; remembers = commits before.schema limit k s b.0 since h.remembers b.1 is })
 
-  pub nothing_to_fall : k.begun ≡ None → Replies limit before k spec.back text.not_begun_text before k
-  nothing_to_fall is s h =
-      answers_as before.schema text.not_begun_text before k (fallen before.schema s None) _ (ap (fallen before.schema s) (none_begun s h is)) (refl, h)
-
-  pub falls_now : (after : Live) (m n : ℕ) (since : Since) → k.begun ≡ Some since → after ≡ place_at before.schema k since.groups
+  pub falls_now : (after : Live) (m n : ℕ) (since : Since) → k.begun ≡ Some since → IsPlaced before.schema k since.groups after
       → m ≡ fault_count before → n ≡ fault_count after → Replies limit before k spec.back (text.changed_text m n) after (back_to since k)
-  falls_now after m n since is place counts counts_after s h =
+  falls_now after m n since is placed counts counts_after s h =
       answers_as before.schema (text.changed_text m n) after (back_to since k) (fallen before.schema s (Some b.0)) _ (ap (fallen before.schema s) b.1) (
         ap₂ text.changed_text (counts ∙ counted_in before.schema before.tree s.tree h.tree)
             (counts_after ∙ (ap fault_count place ∙ counted_in before.schema _ (b.0).tree (sym there))),
@@ -170,17 +153,8 @@ module _ (limit : ℕ) (before : Live) (k : Kept) where
       b : (b : Begun) × (s.begun ≡ Some b)
       b = some_begun s h since is
 
+      place : after ≡ place_at before.schema k since.groups
+      place = placed h.remembers.later
+
       there : (b.0).tree ≡ behind_groups before.schema k.base (take since.groups k.groups)
       there = back_tree before.schema k s b.0 since h.remembers b.1 is
-
-  -- ---- questions
-
-  pub page_told : (behind : ℕ) (count : Option ℕ) (t : Text) → t ≡ page_text before behind count
-      → Replies limit before k (spec.faults behind count) t before k
-  page_told behind count t is s h = (
-    is ∙ ap (λ (tree : Tree). page_text (record before { tree = tree }) behind count) h.tree,
-    h,
-  )
-
-  pub document_told : (t : Text) → t ≡ text.document_text before.schema before.tree → Replies limit before k spec.document t before k
-  document_told t is s h = (is ∙ ap (text.document_text before.schema) h.tree, h)

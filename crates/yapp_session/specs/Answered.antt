@@ -3,15 +3,16 @@ use Rattle.std.specs.Prelude.{◌≡◌, ◌⊎◌, ℕ, false, Option, Some, No
 use Rattle.yspec.specs.text.Text.{Text}
 use Rattle.yspec.specs.schema.Schema.{Schema}
 use Rattle.yspec.specs.document.Document.{Tree}
+use Rattle.yspec.specs.edit.EditText.{Path}
 use Rattle.yspec.specs.edit.Live.{Live, faults_in, opened}
-use Rattle.yspec_session.specs.Session.{Session, Request, Answer, Why, answered, changed, listed, stored, whole, saved, done, refused, not_understood, edit_refused, nothing_remembered, has_begun, not_begun, page}
-use Rattle.yspec_session.specs.Remembering.{Kept, Remembers, behind_groups}
+use Rattle.yspec_session.specs.Session.{Session, Request, Answer, Why, answered, changed, listed, stored, whole, saved, done, refused, not_understood, edit_refused, nothing_remembered, has_begun, not_begun, page, place_of, below_told}
+use Rattle.yspec_session.specs.Remembering.{Kept, Leads, Remembers, behind_groups}
 use Rattle.yspec_session.specs.Requests.{request_of}
 use Rattle.ysay_session.specs.AnswerText as text
 use Rattle.ylive.specs.View.{view}
 use Rattle.yapp_session.specs.Asked.{is_unserved}
 use Rattle.yapp_session.specs.View.{past_view}
-use Rattle.yapp_session.specs.Kept.{Parts}
+use Rattle.yapp_session.specs.Kept.{AreFit, Parts}
 
 -- the document is there and the past leads to it
 pub record Holds (live : Live) (k : Kept) (s : Session) : Type 0 where
@@ -43,11 +44,19 @@ abbrev pub page_text : Live → ℕ → Option ℕ → Text
 page_text live behind count =
     text.listed_text live.schema live.tree (page behind count (faults_in live)) (length (faults_in live))
 
+-- the faults of a node of it
+abbrev pub below_text : Live → Path → Text
+below_text live path = answer_text live.schema live.tree (below_told (faults_in live) (place_of live.schema live.tree path))
+
 -- ---- places of the past
 
 -- the document behind the first groups of edits
 abbrev pub place_at : Schema → Kept → ℕ → Live
 place_at schema k n = opened schema (behind_groups schema k.base (take n k.groups))
+
+-- where its later document is one to which the past leads, the live document is put there
+abbrev pub IsPlaced : Schema → Kept → ℕ → Live → Type 0
+IsPlaced schema k n live = Leads schema k.base k.groups k.later → live ≡ place_at schema k n
 
 -- ---- answers
 
@@ -59,10 +68,10 @@ Answers schema limit s r t live k = let a = answered schema limit s r in (t ≡ 
 abbrev pub Replies : ℕ → Live → Kept → Request → Text → Live → Kept → Type 0
 Replies limit before k r t after l = (s : Session) → Holds before k s → Answers before.schema limit s r t after l
 
--- the schema stays, and the document from which the past is counted
+-- the schema stays, and the documents of the past fit it as before
 pub record Stays (before : Live) (k : Kept) (after : Live) (l : Kept) : Type 0 where
   pub schema : after.schema ≡ before.schema
-  pub base : l.base ≡ k.base
+  pub fit : AreFit before.schema k → AreFit before.schema l
 
 -- a request is answered so; one that isn't served leaves all as it was
 abbrev pub Told : ℕ → Live → Kept → Option Request → Text → Live → Kept → Type 0

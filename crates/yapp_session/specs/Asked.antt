@@ -1,15 +1,14 @@
 -- What a line asks for, as requests have it.
-use Rattle.std.specs.Prelude.{◌≡◌, ℕ, ◌-◌, Bool, true, false, [], ◌∷◌, Option, Some, None, is_some, option_map}
+use Rattle.std.specs.Prelude.{◌≡◌, ℕ, ◌-◌, Bool, true, false, [], ◌∷◌, Option, Some, None, option_map}
 use Rattle.yspec.specs.text.Text.{Text}
-use Rattle.yspec.specs.edit.EditText.{Path, position_alone}
+use Rattle.yspec.specs.edit.EditText.{position_alone}
 use Rattle.yspec_session.specs.Session as spec
-use Rattle.yinst_path.specs.EditView.{edit_view}
+use Rattle.yinst_path.specs.EditView.{edit_view, path_view}
 use Rattle.yapp_session.specs.declared.request.Request.{Request}
 use Rattle.yapp_session.specs.declared.request.Request.TheVariants as rust
 
--- what isn't served: a question about a node, and to save
+-- what isn't served: what is stored at a node, and to save
 abbrev pub is_unserved : Option spec.Request → Bool
-is_unserved (Some (spec.below path)) = true
 is_unserved (Some (spec.value path)) = true
 is_unserved (Some (spec.save file)) = true
 is_unserved _ = false
@@ -18,6 +17,7 @@ is_unserved _ = false
 abbrev pub request_view : Request → Option spec.Request
 request_view (rust.Change edit) = Some (spec.change (edit_view edit))
 request_view (rust.Faults behind count) = Some (spec.faults behind count)
+request_view (rust.Below path) = Some (spec.below (path_view path))
 request_view rust.Undo = Some spec.undo
 request_view rust.Document = Some spec.document
 request_view rust.Begin = Some spec.begin
@@ -32,12 +32,6 @@ AsksAs (Some r) asked = asked ≡ Some r
 abbrev pub Asks : Option Request → Option spec.Request → Type 0
 Asks None asked = asked ≡ None
 Asks (Some r) asked = AsksAs (request_view r) asked
-
--- a question about a node, by its path
-abbrev pub AsksNode : Option Request → Option Path → Type 0
-AsksNode None path = path ≡ None
-AsksNode (Some rust.Unserved) path = is_some path ≡ true
-AsksNode (Some _) path = ⊥
 
 -- a page of faults from the one of a number on, and perhaps how many
 abbrev pub page_from : ℕ → Text → Option spec.Request

@@ -1,6 +1,8 @@
 -- What a session keeps.
-use Rattle.std.specs.Prelude.{ℕ}
+use Rattle.std.specs.Prelude.{ℕ, Option, Some, None}
+use Rattle.yspec.specs.schema.Schema.{Schema}
 use Rattle.yspec.specs.document.Fitting.{Fits}
+use Rattle.yspec_session.specs.Remembering.{Kept, Later}
 use Rattle.ylive.specs.Kept as live
 use Rattle.ylive.specs.View.{view}
 use Rattle.yapp_session.specs.View.{past_view}
@@ -11,6 +13,13 @@ pub record Parts : Type 0 where
   pub past : Past
   pub limit : ℕ
 
--- the document from which the past is counted fits the schema
+abbrev pub LaterFits : Schema → Option Later → Type 0
+LaterFits schema None = Unit {0}
+LaterFits schema (Some l) = Fits schema l.tree
+
+-- the document from which the past is counted fits the schema, and the later one
+abbrev pub AreFit : Schema → Kept → Type 0
+AreFit schema k = Fits schema k.base × LaterFits schema k.later
+
 abbrev pub IsKept : live.Parts → Past → Type 0
-IsKept live past = Fits (view live).schema (past_view past).base
+IsKept live past = AreFit (view live).schema (past_view past)

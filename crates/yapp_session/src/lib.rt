@@ -4,11 +4,12 @@
 mod copying;
 mod parts;
 mod past;
+mod questions;
 mod replying;
 mod request;
 mod rewinding;
 mod session;
 
-pub use past::{Past, Since};
+pub use past::{Later, Past, Since};
 pub use request::{Request, request_of};
 pub use session::Session;

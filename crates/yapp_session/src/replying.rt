@@ -1,26 +1,22 @@
-//! What each request is answered.
+//! What requests are answered that change a session.
 
 ghost use Rattle.std.specs.Prelude.{◌≡◌, IfOk, OnErr, false, string_bytes};
-ghost use Rattle.yspec.specs.document.Fitting.{Fits};
 ghost use Rattle.yspec.specs.edit.Live.{fault_count};
 ghost use Rattle.yspec_session.specs.Session as spec;
-ghost use Rattle.ysay_session.specs.AnswerText.{changed_text, document_text};
-ghost use Rattle.ycheck.specs.View.{views};
+ghost use Rattle.ysay_session.specs.AnswerText.{changed_text};
 ghost use Rattle.yinst_path.specs.EditView.{edit_view};
 ghost use Rattle.ylive.specs.View.{view};
 ghost use Rattle.yapp_session.specs.View.{past_view};
-ghost use Rattle.yapp_session.specs.Answered.{Replies, Stays, page_text, place_at};
+ghost use Rattle.yapp_session.specs.Kept.{AreFit};
+ghost use Rattle.yapp_session.specs.Answered.{IsPlaced, Replies, Stays};
 
-use crate::parts::{first_items, items_behind};
 use crate::past::Past;
 use crate::rewinding::rewind;
 use std::alloc::{AllocError, Global};
-use ycheck::Fault;
 use yinst::{Edit, EditFault};
 use ylive::{Live, Refused};
 use ysay_session::{
-    begun_text, changed_text, document_text, done_text, edit_refused_text, listed_text,
-    not_begun_text, nothing_text,
+    begun_text, changed_text, done_text, edit_refused_text, not_begun_text, nothing_text,
 };
 
 /// Applies an edit and remembers it.
@@ -58,10 +54,10 @@ fn count_of(live: &Live) -> usize
 
 /// Puts a live document to where it was behind the first groups of edits, and tells how many faults there were and are.
 fn go_back(alloc: Global, live: &mut Live, past: &Past, groups: usize) -> Result<String, AllocError>
-    requires { Fits (view live.old).schema (past_view past.now).base }
+    requires { AreFit (view live.old).schema (past_view past.now) }
     ensures text { IfOk result (λ text. (view live.old).is_stale ≡ false
         → string_bytes text ≡ changed_text (fault_count (view live.old)) (fault_count (view live.new))) }
-    ensures live { IfOk result (λ text. view live.new ≡ place_at (view live.old).schema (past_view past.now) groups) }
+    ensures live { IfOk result (λ text. IsPlaced (view live.old).schema (past_view past.now) groups (view live.new)) }
     ensures schema { (view live.new).schema ≡ (view live.old).schema }
 {
     let before = count_of(live);
@@ -76,7 +72,7 @@ pub(crate) fn undo(
     past: &mut Past,
     limit: usize,
 ) -> Result<String, AllocError>
-    requires { Fits (view live.old).schema (past_view past.old).base }
+    requires { AreFit (view live.old).schema (past_view past.old) }
     ensures answer { IfOk result (λ text. Replies limit (view live.old) (past_view past.old)
         spec.undo (string_bytes text) (view live.new) (past_view past.new)) }
     ensures stays { Stays (view live.old) (past_view past.old) (view live.new) (past_view past.new) }
@@ -138,7 +134,7 @@ pub(crate) fn back(
     past: &mut Past,
     limit: usize,
 ) -> Result<String, AllocError>
-    requires { Fits (view live.old).schema (past_view past.old).base }
+    requires { AreFit (view live.old).schema (past_view past.old) }
     ensures answer { IfOk result (λ text. Replies limit (view live.old) (past_view past.old)
         spec.back (string_bytes text) (view live.new) (past_view past.new)) }
     ensures stays { Stays (view live.old) (past_view past.old) (view live.new) (past_view past.new) }
@@ -150,47 +146,4 @@ pub(crate) fn back(
     let text = go_back(alloc, live, past, since.groups)?;
     past.back(since);
     Ok(text)
-}
-
-/// The faults behind so many, at most so many where that is said, and how many there are.
-pub(crate) fn page(
-    alloc: Global,
-    live: &Live,
-    behind: usize,
-    count: Option<usize>,
-) -> Result<String, AllocError>
-    ensures { IfOk result (λ text. (view live.now).is_stale ≡ false
-        → string_bytes text ≡ page_text (view live.now) behind count) }
-{
-    let Ok(faults) = live.list() else {
-        return Err(AllocError);
-    };
-    let tree = live.tree()?;
-    listed_text(
-        alloc,
-        live.schema(),
-        &tree,
-        page_of(&faults, behind, count),
-        faults.len(),
-    )
-}
-
-/// Those behind so many, at most so many where that is said.
-fn page_of(faults: &[Fault], behind: usize, count: Option<usize>) -> &[Fault]
-    ensures { views result.now ≡ spec.page behind count (views faults.now) }
-{
-    let rest = items_behind(faults, behind);
-    match count {
-        Some(count) => first_items(rest, count),
-        None => rest,
-    }
-}
-
-/// The document.
-pub(crate) fn document(alloc: Global, live: &Live) -> Result<String, AllocError>
-    ensures { IfOk result (λ text. string_bytes text
-        ≡ document_text (view live.now).schema (view live.now).tree) }
-{
-    let tree = live.tree()?;
-    document_text(alloc, live.schema(), &tree)
 }

@@ -1,11 +1,12 @@
 //! What a line asks for.
 
-ghost use Rattle.std.specs.Prelude.{IfOk, option_map};
+ghost use Rattle.std.specs.Prelude.{◌≡◌, IfOk, option_map};
 ghost use Rattle.yspec.specs.edit.EditText.{operands};
 ghost use Rattle.yspec.specs.edit.Editing.{edit_asked};
-ghost use Rattle.yspec_session.specs.Session.{change};
+ghost use Rattle.yspec_session.specs.Session.{below, change, value};
 ghost use Rattle.yspec_session.specs.Requests as spec;
-ghost use Rattle.yapp_session.specs.Asked.{Asks, AsksNode, page_from};
+ghost use Rattle.yinst_path.specs.EditView.{path_view};
+ghost use Rattle.yapp_session.specs.Asked.{Asks, page_from};
 
 use std::alloc::{AllocError, Global};
 use yinst::{Edit, EditFault, Path};
@@ -17,12 +18,14 @@ pub enum Request {
     Change(Edit),
     /// Faults behind so many, at most so many where that is said.
     Faults { behind: usize, count: Option<usize> },
+    /// The faults of a node and of all below it.
+    Below(Path),
     Undo,
     Document,
     Begin,
     Commit,
     Back,
-    /// A question about a node, or to save.
+    /// What is stored at a node, or to save.
     Unserved,
 }
 
@@ -79,7 +82,8 @@ fn request_with(
 {
     match verb {
         "faults" => Ok(page_asked(rest)),
-        "below" | "value" => node_asked(alloc, rest),
+        "below" => below_asked(alloc, rest),
+        "value" => value_asked(alloc, rest),
         "save" => Ok(file_asked(rest)),
         _ => change_asked(alloc, text),
     }
@@ -111,16 +115,36 @@ fn page_from(first: u32, count: &str) -> Option<Request>
     })
 }
 
-/// A question about a node.
-fn node_asked(alloc: Global, text: &str) -> Result<Option<Request>, AllocError>
-    ensures { IfOk result (λ asked. AsksNode asked (spec.path_alone (operands text.now))) }
+/// The faults of a node.
+fn below_asked(alloc: Global, text: &str) -> Result<Option<Request>, AllocError>
+    ensures { IfOk result (λ asked. Asks asked (option_map below (spec.path_alone (operands text.now)))) }
+{
+    match path_alone(alloc, text)? {
+        Some(path) => Ok(Some(Request::Below(path))),
+        None => Ok(None),
+    }
+}
+
+/// What is stored at a node.
+fn value_asked(alloc: Global, text: &str) -> Result<Option<Request>, AllocError>
+    ensures { IfOk result (λ asked. Asks asked (option_map value (spec.path_alone (operands text.now)))) }
+{
+    match path_alone(alloc, text)? {
+        Some(_) => Ok(Some(Request::Unserved)),
+        None => Ok(None),
+    }
+}
+
+/// The path that a text spells, and nothing else.
+fn path_alone(alloc: Global, text: &str) -> Result<Option<Path>, AllocError>
+    ensures { IfOk result (λ path. option_map path_view path ≡ spec.path_alone (operands text.now)) }
 {
     let (path, more) = operands(text);
     if !more.is_empty() {
         return Ok(None);
     }
     match Path::parse(alloc, path) {
-        Ok(_) => Ok(Some(Request::Unserved)),
+        Ok(path) => Ok(Some(path)),
         Err(EditFault::Refused { .. }) => Ok(None),
         Err(EditFault::Memory) => Err(AllocError),
     }

@@ -1,16 +1,18 @@
 //! A session over a live document.
 
 ghost use Rattle.std.specs.Prelude.{◌≡◌, IfOk, OnErr, length, string_bytes};
-ghost use Rattle.yspec.specs.document.Fitting.{Fits};
 ghost use Rattle.ylive.specs.View.{view};
 ghost use Rattle.yapp_session.specs.View.{past_view};
+ghost use Rattle.yspec_session.specs.Session as sessions;
 ghost use Rattle.yspec_session.specs.Requests.{request_of};
 ghost use Rattle.ysay_session.specs.AnswerText.{short_text};
 ghost use Rattle.yapp_session.specs.Asked.{request_view};
-ghost use Rattle.yapp_session.specs.Answered.{Says, Stays, Told, place_at};
+ghost use Rattle.yapp_session.specs.Kept.{AreFit};
+ghost use Rattle.yapp_session.specs.Answered.{Holds, IsPlaced, Says, Stays, Told};
 
 use crate::past::Past;
-use crate::replying::{back, begin, change, commit, document, page, undo};
+use crate::questions::{below, document, page};
+use crate::replying::{back, begin, change, commit, undo};
 use crate::request::{Request, request_of};
 use crate::rewinding::rewind;
 use std::alloc::{AllocError, Global};
@@ -85,7 +87,10 @@ impl Answerer for Session {
     fn answer(&mut self, line: &[u8]) -> Result<String, AllocError> {
         let alloc = self.alloc;
         match answer_line(alloc, &mut self.live, &mut self.past, self.limit, line) {
-            Ok(text) => Ok(text),
+            Ok(text) => {
+                settle(&self.live, &mut self.past, self.limit);
+                Ok(text)
+            }
             Err(_) => mend(alloc, &mut self.live, &self.past),
         }
     }
@@ -99,7 +104,7 @@ fn answer_line(
     limit: usize,
     line: &[u8],
 ) -> Result<String, AllocError>
-    requires { Fits (view live.old).schema (past_view past.old).base }
+    requires { AreFit (view live.old).schema (past_view past.old) }
     ensures answer { IfOk result (λ text. Says limit (view live.old) (past_view past.old)
         (request_of line.now) (string_bytes text) (view live.new) (past_view past.new)) }
     ensures stays { Stays (view live.old) (past_view past.old) (view live.new) (past_view past.new) }
@@ -111,12 +116,30 @@ fn answer_line(
     }
 }
 
+/// Forgets what leads to places that can't come back, from time to time: counts from a later document, or keeps a copy to count
+/// from later, if there is memory for it.
+fn settle(live: &Live, past: &mut Past, limit: usize)
+    ensures holds { (s : sessions.Session) → Holds (view live.now) (past_view past.old) s
+        → Holds (view live.now) (past_view past.new) s }
+    ensures fit { AreFit (view live.now).schema (past_view past.old)
+        → AreFit (view live.now).schema (past_view past.new) }
+{
+    past.settle();
+    if !past.is_due(limit) {
+        return;
+    }
+    let Ok(tree) = live.tree() else {
+        return;
+    };
+    past.mark(tree);
+}
+
 /// Puts a live document to where its past leads, and says that memory ran out.
 fn mend(alloc: Global, live: &mut Live, past: &Past) -> Result<String, AllocError>
-    requires { Fits (view live.old).schema (past_view past.now).base }
+    requires { AreFit (view live.old).schema (past_view past.now) }
     ensures text { IfOk result (λ text. string_bytes text ≡ short_text) }
-    ensures live { IfOk result (λ text. view live.new
-        ≡ place_at (view live.old).schema (past_view past.now) (length (past_view past.now).groups)) }
+    ensures live { IfOk result (λ text. IsPlaced (view live.old).schema (past_view past.now)
+        (length (past_view past.now).groups) (view live.new)) }
     ensures schema { (view live.new).schema ≡ (view live.old).schema }
 {
     rewind(live, past, past.groups().len())?;
@@ -131,7 +154,7 @@ fn reply(
     limit: usize,
     request: Request,
 ) -> Result<String, AllocError>
-    requires { Fits (view live.old).schema (past_view past.old).base }
+    requires { AreFit (view live.old).schema (past_view past.old) }
     ensures answer { IfOk result (λ text. Told limit (view live.old) (past_view past.old)
         (request_view request) (string_bytes text) (view live.new) (past_view past.new)) }
     ensures stays { Stays (view live.old) (past_view past.old) (view live.new) (past_view past.new) }
@@ -140,6 +163,7 @@ fn reply(
     match request {
         Request::Change(edit) => change(alloc, live, past, limit, edit),
         Request::Faults { behind, count } => page(alloc, live, behind, count),
+        Request::Below(path) => below(alloc, live, &path),
         Request::Undo => undo(alloc, live, past, limit),
         Request::Document => document(alloc, live),
         Request::Begin => begin(alloc, live, past, limit),

@@ -76,6 +76,7 @@ pub(crate) const SESSION_HELP: &str =
 
 A request is an edit, as `edit` has it, or one of these:
   faults [FROM [COUNT]]  The faults of the document, from the one of a number on
+  below PATH             Those of a node and of all below it
   undo                   Takes the last edit back; 1000 can be taken back
   document               The document
   begin                  Begins edits that stand or fall together

@@ -1,8 +1,8 @@
 -- What becomes of a session that is kept by the edits since a document.
-use Rattle.std.proofs.Common.{◌≡◌, ℕ, zero, suc, ◌+◌, ◌-◌, ◌++◌, Bool, true, false, List, [], ◌∷◌, length, Option, Some, None, Ok, map, refl, sym, ap, ap₂, ◌∙◌, ◌≤◌, ◌<◌, arith}
-use Rattle.std.specs.Prelude.{if◌then◌else◌, take, drop, nat_lt, option_map, is_some, unwrap_or}
+use Rattle.std.proofs.Common.{◌≡◌, ◌&&◌, append_assoc, append-nil, subst, ℕ, zero, suc, ◌+◌, ◌-◌, ◌++◌, Bool, true, false, List, [], ◌∷◌, length, Option, Some, None, Ok, map, refl, sym, ap, ap₂, ◌∙◌, ◌≤◌, ◌<◌, arith}
+use Rattle.std.specs.Prelude.{if◌then◌else◌, take, drop, nat_lt, nat_le, option_map, is_some, unwrap_or}
 use Rattle.std.specs.List.{flat_map}
-use Rattle.std.proofs.lemmas.Bool.{ltb-true, ltb-false}
+use Rattle.std.proofs.lemmas.Bool.{ltb-true, ltb-false, leb-true}
 use Rattle.std.proofs.lemmas.List.{take-append-le, take-append-drop, length-append, length-take-le}
 use Rattle.yspec.specs.schema.Schema.{Schema}
 use Rattle.yspec.specs.document.Document.{Tree}
@@ -10,7 +10,7 @@ use Rattle.yspec.specs.edit.EditText.{Edit}
 use Rattle.yspec.specs.edit.Editing.{applied, tree_or, after}
 use Rattle.yspec_session.specs.Carrying.{Turn}
 use Rattle.yspec_session.specs.Session.{Earlier, Begun, Session, with_turns, without_turns, with_remembered, undone, begun_with, committed, fallen}
-use Rattle.yspec_session.specs.Remembering.{Since, Kept, kept_from, behind_groups, befores, one_more, with_group, begun_here, joined, back_to, trees_of, ground, ground_at, groups_since, kept_since, Remembers}
+use Rattle.yspec_session.specs.Remembering.{Since, Kept, kept_from, behind_groups, befores, one_more, with_group, begun_here, joined, back_to, began_behind, stands_behind, less_groups, counted_from, settled_by, settled, way_from, way_to, Later, until, marked, Leads, trees_of, ground, ground_at, groups_since, kept_since, Remembers}
 
 -- ---- lists
 
@@ -105,10 +105,37 @@ without_ground : (o : Option Begun) → option_map ground (option_map without_tu
 without_ground None = refl
 without_ground (Some b) = refl
 
+-- ---- the later document
+
+-- with groups behind it
+leads_more : (schema : Schema) (base : Tree) (gs more : List (List Edit)) (o : Option Later) → Leads schema base gs o → Leads schema base (gs ++ more) o
+leads_more schema base gs more None leads = tt
+leads_more schema base gs more (Some l) leads = (
+  omega (arith, leads.0, length-append gs more),
+  leads.1 ∙ sym (ap (behind_groups schema base) (take-append-le l.groups gs more leads.0)),
+)
+
+-- where no more than the first groups stay, whatever stands behind them
+leads_until : (schema : Schema) (base : Tree) (gs more : List (List Edit)) (n : ℕ) (o : Option Later) → n ≤ length gs → Leads schema base gs o
+    → Leads schema base (take n gs ++ more) (until n o)
+leads_until schema base gs more n None within leads = tt
+leads_until schema base gs more n (Some l) within leads = by (nat_le l.groups n) refl
+  where
+    by : (b : Bool) → nat_le l.groups n ≡ b → Leads schema base (take n gs ++ more) (if b then Some l else None)
+    by true e = let few : l.groups ≤ n = leb-true l.groups n e in (
+      omega (arith, few, length-append (take n gs) more, length-take-le n gs within),
+      leads.1 ∙ sym (ap (behind_groups schema base) (take-append-le l.groups (take n gs) more (omega (arith, few, length-take-le n gs within)) ∙ fewer_taken l.groups n gs few)),
+    )
+    by false e = tt
+
+leads_first : (schema : Schema) (base : Tree) (gs : List (List Edit)) (n : ℕ) (o : Option Later) → n ≤ length gs → Leads schema base gs o
+    → Leads schema base (take n gs) (until n o)
+leads_first schema base gs n o within leads = subst (λ hs. Leads schema base hs (until n o)) (append-nil (take n gs)) (leads_until schema base gs [] n o within leads)
+
 -- ---- what becomes of it
 
 pub starts : (schema : Schema) (tree : Tree) → Remembers schema (kept_from tree) (record { tree = tree; remembered = []; begun = None })
-starts schema tree = record { tree = refl; earlier = refl; begun = refl; room = omega (arith); inner = omega (arith) }
+starts schema tree = record { tree = refl; earlier = refl; begun = refl; room = omega (arith); inner = omega (arith); later = tt }
 
 pub changes : (schema : Schema) (limit : ℕ) (k : Kept) (s : Session) (e : Edit) (later : Tree) (turns : List Turn) → Remembers schema k s
     → applied schema s.tree e ≡ Ok later → Remembers schema (with_group limit (e ∷ []) k) (with_remembered limit turns later s)
@@ -121,6 +148,7 @@ changes schema limit k s e later turns r is = record {
   begun = with_ground turns s.begun ∙ (r.begun ∙ sym (ground_more schema k.base k.groups ((e ∷ []) ∷ []) k.begun (omega (arith, r.room))));
   room = omega (arith, r.room, one_more_le limit k.kept, length-append k.groups ((e ∷ []) ∷ []));
   inner = r.inner;
+  later = leads_more schema k.base k.groups ((e ∷ []) ∷ []) k.later r.later;
 }
   where
     here : Tree
@@ -139,7 +167,7 @@ pub record TakenBack (schema : Schema) (k : Kept) (gs : List (List Edit)) (s : S
   pub others : List Earlier
   pub remembered : s.remembered ≡ earlier ∷ others
   pub tree : earlier.tree ≡ behind_groups schema k.base gs
-  pub held : Remembers schema (record k { groups = gs; kept = k.kept - 1 }) (undone schema s (earlier ∷ others)).1
+  pub held : Remembers schema (record k { groups = gs; kept = k.kept - 1; later = until (length gs) k.later }) (undone schema s (earlier ∷ others)).1
 
 pub takes_back : (schema : Schema) (k : Kept) (gs : List (List Edit)) (g : List Edit) (s : Session) → Remembers schema k s
     → k.groups ≡ gs ++ g ∷ [] → (n : ℕ) → k.kept ≡ suc n → TakenBack schema k gs s
@@ -164,6 +192,11 @@ takes_back schema k gs g s r is n more = by s.remembered refl
     begun = without_ground s.begun ∙ (r.begun ∙ (ap (λ (hs : List (List Edit)). option_map (ground_at schema k.base hs) k.begun) is
         ∙ ground_more schema k.base gs (g ∷ []) k.begun within))
 
+    leads : Leads schema k.base gs (until (length gs) k.later)
+    leads = subst (λ hs. Leads schema k.base hs (until (length gs) k.later)) (take-append-le (length gs) gs (g ∷ []) (omega arith) ∙ all_taken gs)
+        (leads_first schema k.base (gs ++ g ∷ []) (length gs) k.later (omega (arith, length-append gs (g ∷ [])))
+        (subst (λ hs. Leads schema k.base hs k.later) is r.later))
+
     by : (es : List Earlier) → s.remembered ≡ es → trees_of es ≡ take (suc n) (here ∷ befores schema k.base gs) → TakenBack schema k gs s
     by [] e trees = absurd cc
     by (x ∷ es) e trees = record {
@@ -177,6 +210,7 @@ takes_back schema k gs g s r is n more = by s.remembered refl
         begun = begun;
         room = omega (arith, r.room, ap length is, length-append gs (g ∷ []), more);
         inner = r.inner;
+        later = leads;
       };
     }
 
@@ -196,6 +230,7 @@ begins schema k s r none = record {
       ∙ ap (λ (gs : List (List Edit)). Some (behind_groups schema k.base gs, take k.kept (befores schema k.base gs))) (sym (all_taken k.groups));
   room = omega (arith);
   inner = omega (arith, r.room);
+  later = r.later;
 }
 
 -- the document and what could be taken back where edits together began
@@ -227,6 +262,7 @@ commits schema limit k s b since r is there = record {
     length-take-le since.groups k.groups (since_within k.begun since (length k.groups) k.kept there r.room),
   );
   inner = omega (arith);
+  later = leads_until schema k.base k.groups (all ∷ []) since.groups k.later (since_within k.begun since (length k.groups) k.kept there r.room) r.later;
 }
   where
     front : List (List Edit)
@@ -252,4 +288,143 @@ falls schema k s b since r is there = record {
     length-take-le since.groups k.groups (since_within k.begun since (length k.groups) k.kept there r.room),
   );
   inner = omega (arith);
+  later = leads_first schema k.base k.groups since.groups k.later (since_within k.begun since (length k.groups) k.kept there r.room) r.later;
 }
+
+-- ---- from where it is counted
+
+taken_behind : {A : Type 0} (xs ys : List A) (n : ℕ) → length xs ≤ n → take n (xs ++ ys) ≡ xs ++ take (n - length xs) ys
+taken_behind [] ys n le = let all : n ≡ n - 0 = omega (arith) in ap (λ m. take m ys) all
+taken_behind (x ∷ xs) ys zero le = absurd (omega (arith, le))
+taken_behind (x ∷ xs) ys (suc n) le = let same : n - length xs ≡ suc n - suc (length xs) = omega (arith) in
+    ap (λ zs. x ∷ zs) (taken_behind xs ys n (omega (arith, le)) ∙ ap (λ m. xs ++ take m ys) same)
+
+befores_both : (schema : Schema) (tree : Tree) (gs hs : List (List Edit))
+    → befores schema tree (gs ++ hs) ≡ befores schema (behind_groups schema tree gs) hs ++ befores schema tree gs
+befores_both schema tree [] hs = sym (append-nil (befores schema tree hs))
+befores_both schema tree (g ∷ gs) hs = ap (λ ts. ts ++ tree ∷ []) (befores_both schema (after schema tree g) gs hs)
+    ∙ append_assoc (befores schema (behind_groups schema (after schema tree g) gs) hs) (befores schema (after schema tree g) gs) (tree ∷ [])
+
+length_befores : (schema : Schema) (tree : Tree) (gs : List (List Edit)) → length (befores schema tree gs) ≡ length gs
+length_befores schema tree [] = refl
+length_befores schema tree (g ∷ gs) =
+    omega (arith, length-append (befores schema (after schema tree g) gs) (tree ∷ []), length_befores schema (after schema tree g) gs)
+
+module _ (schema : Schema) (base : Tree) (front rest : List (List Edit)) where
+  abbrev there : Tree
+  there = behind_groups schema base front
+
+  -- what can be taken back stands behind the first groups
+  last_befores : (n : ℕ) (gs : List (List Edit)) → n ≤ length gs → take n (befores schema base (front ++ gs)) ≡ take n (befores schema there gs)
+  last_befores n gs le = ap (take n) (befores_both schema base front gs)
+      ∙ take-append-le n (befores schema there gs) (befores schema base front) (omega (arith, le, length_befores schema there gs))
+
+  later_ground : (o : Option Since) → began_behind (length front) o ≡ true → groups_since o ≤ length (front ++ rest)
+      → option_map (ground_at schema base (front ++ rest)) o ≡ option_map (ground_at schema there rest) (option_map (less_groups (length front)) o)
+  later_ground None behind within = refl
+  later_ground (Some b) behind within =
+      let enough : length front + b.kept ≤ b.groups = leb-true (length front + b.kept) b.groups behind in
+      let middle = take (b.groups - length front) rest in
+      let long : b.kept ≤ length middle = omega (
+        arith,
+        enough,
+        within,
+        length-append front rest,
+        length-take-le (b.groups - length front) rest (omega (arith, enough, within, length-append front rest)),
+      ) in
+      ap (λ gs. Some (behind_groups schema base gs, take b.kept (befores schema base gs))) (taken_behind front rest b.groups (omega (arith, enough)))
+      ∙ ap₂ (λ t ts. Some (t, ts)) (behind_both schema base front middle) (last_befores b.kept middle long)
+
+  later_within : (o : Option Since) (n : ℕ) → began_behind (length front) o ≡ true → groups_since o + n ≤ length (front ++ rest) → n ≤ length rest
+      → groups_since (option_map (less_groups (length front)) o) + n ≤ length rest
+  later_within None n behind room le = omega (arith, le)
+  later_within (Some b) n behind room le = omega (arith, leb-true (length front + b.kept) b.groups behind, room, length-append front rest)
+
+  later_inner : (o : Option Since) → began_behind (length front) o ≡ true
+      → kept_since (option_map (less_groups (length front)) o) ≤ groups_since (option_map (less_groups (length front)) o)
+  later_inner None behind = omega (arith)
+  later_inner (Some b) behind = omega (arith, leb-true (length front + b.kept) b.groups behind)
+
+  later_held : (kept : ℕ) (begun : Option Since) (o : Option Later) (s : Session) → Remembers schema (record { base = base; groups = front ++ rest; kept = kept; begun = begun; later = o }) s
+      → length front + kept ≤ length (front ++ rest) → began_behind (length front) begun ≡ true
+      → Remembers schema (record { base = there; groups = rest; kept = kept; begun = option_map (less_groups (length front)) begun; later = None }) s
+  later_held kept begun o s r enough behind = record {
+    tree = r.tree ∙ behind_both schema base front rest;
+    earlier = r.earlier ∙ last_befores kept rest fits;
+    begun = r.begun ∙ later_ground begun behind (omega (arith, r.room));
+    room = later_within begun kept behind r.room fits;
+    inner = later_inner begun behind;
+    later = tt;
+  }
+    where
+      fits : kept ≤ length rest
+      fits = omega (arith, enough, length-append front rest)
+
+and_first : (a b : Bool) → (a && b) ≡ true → a ≡ true
+and_first true b e = refl
+and_first false b e = absurd cc
+
+and_second : (a b : Bool) → (a && b) ≡ true → b ≡ true
+and_second true b e = e
+and_second false b e = absurd cc
+
+pub counts_from : (schema : Schema) (l : Later) (k : Kept) (s : Session) → Remembers schema k s → k.later ≡ Some l → stands_behind l.groups k ≡ true
+    → Remembers schema (counted_from l k) s
+counts_from schema l k s r is behind =
+    subst (λ (p : Tree × ℕ). Remembers schema (record { base = p.0; groups = drop l.groups k.groups; kept = k.kept; begun = option_map (less_groups p.1) k.begun; later = None }) s)
+    (ap₂ (λ (t : Tree) (m : ℕ). (t, m)) (sym leads.1) counted)
+    (later_held schema k.base (take l.groups k.groups) (drop l.groups k.groups) k.kept k.begun k.later s
+    (subst (λ gs. Remembers schema (record k { groups = gs }) s) (sym (take-append-drop l.groups k.groups)) r)
+    (omega (arith, enough, counted, ap length (take-append-drop l.groups k.groups)))
+    (ap (λ m. began_behind m k.begun) counted ∙ and_second (nat_le (l.groups + k.kept) (length k.groups)) (began_behind l.groups k.begun) behind))
+  where
+    leads : Leads schema k.base k.groups (Some l)
+    leads = subst (Leads schema k.base k.groups) is r.later
+
+    enough : l.groups + k.kept ≤ length k.groups
+    enough = leb-true (l.groups + k.kept) (length k.groups) (and_first (nat_le (l.groups + k.kept) (length k.groups)) (began_behind l.groups k.begun) behind)
+
+    counted : length (take l.groups k.groups) ≡ l.groups
+    counted = length-take-le l.groups k.groups leads.0
+
+pub marks : (schema : Schema) (k : Kept) (s : Session) → Remembers schema k s → Remembers schema (marked s.tree k) s
+marks schema k s r = record {
+  tree = r.tree;
+  earlier = r.earlier;
+  begun = r.begun;
+  room = r.room;
+  inner = r.inner;
+  later = (omega (arith), r.tree ∙ ap (behind_groups schema k.base) (sym (all_taken k.groups)));
+}
+
+pub settles : (schema : Schema) (k : Kept) (s : Session) → Remembers schema k s → Remembers schema (settled k) s
+settles schema k s r = by k.later refl
+  where
+    by : (o : Option Later) → k.later ≡ o → Remembers schema (settled_by o k) s
+    by None is = r
+    by (Some l) is = either (stands_behind l.groups k) refl
+      where
+        either : (b : Bool) → stands_behind l.groups k ≡ b → Remembers schema (if b then counted_from l k else k) s
+        either true e = counts_from schema l k s r is e
+        either false e = r
+
+-- the nearest document and the groups from there lead to the same place
+pub ways : (schema : Schema) (n : ℕ) (k : Kept) → Leads schema k.base k.groups k.later
+    → behind_groups schema (way_to n k).0 (way_to n k).1 ≡ behind_groups schema k.base (take n k.groups)
+ways schema n k leads = by k.later leads
+  where
+    by : (o : Option Later) → Leads schema k.base k.groups o
+        → behind_groups schema (way_from k.base (take n k.groups) (until n o)).0 (way_from k.base (take n k.groups) (until n o)).1
+        ≡ behind_groups schema k.base (take n k.groups)
+    by None leads = refl
+    by (Some l) leads = either (nat_le l.groups n) refl
+      where
+        led : List (List Edit)
+        led = take n k.groups
+
+        either : (b : Bool) → nat_le l.groups n ≡ b
+            → behind_groups schema (way_from k.base led (if b then Some l else None)).0 (way_from k.base led (if b then Some l else None)).1 ≡ behind_groups schema k.base led
+        either true e =
+            ap (λ t. behind_groups schema t (drop l.groups led)) (leads.1 ∙ sym (ap (behind_groups schema k.base) (fewer_taken l.groups n k.groups (leb-true l.groups n e))))
+            ∙ (sym (behind_both schema k.base (take l.groups led) (drop l.groups led)) ∙ ap (behind_groups schema k.base) (take-append-drop l.groups led))
+        either false e = refl

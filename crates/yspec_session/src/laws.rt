@@ -1,6 +1,6 @@
 //! What holds of every session.
 
-ghost use Rattle.std.specs.Prelude.{◌≡◌, ◌+◌, ◌≤◌, ℕ, List, [], ◌∷◌, Some, None, Ok, length, map, true};
+ghost use Rattle.std.specs.Prelude.{◌≡◌, ◌+◌, ◌≤◌, ℕ, List, [], ◌∷◌, Some, None, Ok, length, map, take, true};
 ghost use Rattle.std.specs.List.{list_all};
 ghost use Rattle.yspec.specs.schema.Schema.{Schema};
 ghost use Rattle.yspec.specs.document.Document.{Tree};
@@ -9,7 +9,7 @@ ghost use Rattle.yspec.specs.edit.EditText.{Edit};
 ghost use Rattle.yspec.specs.edit.Editing.{after, applied};
 ghost use Rattle.yspec_session.specs.Carrying.{Turn, difference};
 ghost use Rattle.yspec_session.specs.Session.{Begun, Session, Request, Why, accepted, answered, back, begin, begun_with, behind_all, change, committed, fallen, is_inside, refused, undos, with_remembered};
-ghost use Rattle.yspec_session.specs.Remembering.{Since, Kept, Remembers, back_to, begun_here, joined, with_group};
+ghost use Rattle.yspec_session.specs.Remembering.{Since, Kept, Remembers, back_to, begun_here, behind_groups, joined, marked, settled, way_to, with_group};
 
 /// What is new and what is gone make up for the difference of both lists.
 pub fn counts()
@@ -47,7 +47,7 @@ pub fn all_fallen()
 {}
 
 /// A session that is kept by the edits since a document stays one: with an edit that is accepted, and where edits together begin,
-/// stand or fall.
+/// stand or fall; with a later document; and where it is counted from that one. The nearest document leads to each place.
 pub fn remembered()
     ensures changed { (schema : Schema) (limit : ℕ) (k : Kept) (s : Session) (e : Edit) (later : Tree) (turns : List Turn)
         → Remembers schema k s → applied schema s.tree e ≡ Ok later
@@ -58,4 +58,8 @@ pub fn remembered()
         → s.begun ≡ Some b → k.begun ≡ Some since → Remembers schema (joined limit since k) (committed limit s (Some b)).1 }
     ensures falling { (schema : Schema) (k : Kept) (s : Session) (b : Begun) (since : Since) → Remembers schema k s
         → s.begun ≡ Some b → k.begun ≡ Some since → Remembers schema (back_to since k) (fallen schema s (Some b)).1 }
+    ensures marked { (schema : Schema) (k : Kept) (s : Session) → Remembers schema k s → Remembers schema (marked s.tree k) s }
+    ensures settled { (schema : Schema) (k : Kept) (s : Session) → Remembers schema k s → Remembers schema (settled k) s }
+    ensures ways { (schema : Schema) (n : ℕ) (k : Kept) (s : Session) → Remembers schema k s
+        → behind_groups schema (way_to n k).0 (way_to n k).1 ≡ behind_groups schema k.base (take n k.groups) }
 {}

@@ -1,8 +1,12 @@
-use Rattle.std.proofs.Common.{ap₂}
-use Rattle.yapp_session.specs.View.{past_view}
-use Rattle.yapp_session.proofs.PastLemmas.{first_groups}
+use Rattle.std.proofs.Common.{◌-◌, take}
+use Rattle.yspec_session.specs.Remembering.{until}
+use Rattle.yapp_session.specs.View.{groups_view, past_view}
+use Rattle.yapp_session.proofs.PastLemmas.{first_groups, past_as}
 use Rattle.yapp_session.proofs.past.Past.take_back.Goals as goal
 
 pub returns : goal.returns
-returns c = ap₂ (λ gs n. record (past_view c.args.self.now) { groups = gs; kept = n })
-    (first_groups c.args.groups c.args.self.now.groups.items c.truncate.new.self.items c.truncate.ensures.items) c.saturating_sub-self.ensures
+returns c =
+    let k = past_view c.args.self.now in
+    let n = c.args.groups in
+    past_as k (groups_view c.truncate.new.self.items) (take n k.groups) c.saturating_sub-self.result (k.kept - 1) k.begun _ (until n k.later)
+    (first_groups n c.args.self.now.groups.items c.truncate.new.self.items c.truncate.ensures.items) c.saturating_sub-self.ensures c.forget_behind.ensures

@@ -11,7 +11,7 @@ use Rattle.ysay_session.specs.AnswerText.{listed_text}
 use Rattle.ylive.specs.View.{view}
 use Rattle.yapp_session.specs.Answered.{page_text}
 use Rattle.yapp_session.proofs.TextLemmas.{if_ok}
-use Rattle.yapp_session.proofs.replying.page.Goals as goal
+use Rattle.yapp_session.proofs.questions.page.Goals as goal
 
 pub returns : goal.returns
 returns c =

@@ -2,7 +2,7 @@ use Rattle.std.proofs.Common.{sym, ap, ◌∙◌}
 use Rattle.yspec_session.specs.Session as spec
 use Rattle.ycheck.specs.View as faults
 use Rattle.yapp_session.proofs.ListLemmas.{behind_viewed, page_viewed}
-use Rattle.yapp_session.proofs.replying.page_of.Goals as goal
+use Rattle.yapp_session.proofs.questions.page_of.Goals as goal
 
 pub returns-in-Some : goal.returns-in-Some
 returns-in-Some c =

@@ -7,7 +7,7 @@ use Rattle.yinst_tree.specs.View.{tree_view}
 use Rattle.ysay_session.specs.AnswerText.{document_text}
 use Rattle.ylive.specs.View.{view}
 use Rattle.yapp_session.proofs.TextLemmas.{if_ok}
-use Rattle.yapp_session.proofs.replying.document.Goals as goal
+use Rattle.yapp_session.proofs.questions.document.Goals as goal
 
 pub returns : goal.returns
 returns c =

@@ -1,0 +1,2 @@
+mod PlaceLemmas
+mod FaultLemmas
