@@ -15,5 +15,5 @@ returns-in-Ok g c = inr (
   c.begin.ensures,
 )
 
-pub returns-in-Err : goal.returns-in-Err
-returns-in-Err g c = inl (refl, c.end_with.ensures)
+pub returns : goal.returns
+returns g c = inl (refl, c.end_with.ensures)
