@@ -39,7 +39,7 @@ _yanglive() {
             options="--config --dump --explain --features --format --help --output --profile --strict --unjudged"
             case $place in 0) kind=json ;; 1) kind=any ;; *) kind=yang ;; esac ;;
         session)
-            options="--explain --features --help --profile --strict --unjudged"
+            options="--changes --explain --features --help --profile --strict --undo --unjudged"
             case $place in 0) kind=json ;; *) kind=yang ;; esac ;;
         explain)
             options="--help"
@@ -60,7 +60,7 @@ _yanglive() {
         format) mapfile -t COMPREPLY < <(compgen -W "text json" -- "$word") ;;
         profile) mapfile -t COMPREPLY < <(compgen -W "core rfc" -- "$word") ;;
         conditions) mapfile -t COMPREPLY < <(compgen -W "must when must,when" -- "$word") ;;
-        code) mapfile -t COMPREPLY < <(compgen -W "L1 L2 L3 L4 L5 L6 L7 L8 C1 C2 C3 C4 C5 C6 C7 C8 C9 C10 C11 C12 C13 C14 C15 C16 C17 C18 C20 C22 J1 J2 J3 J4 J5 J6 J7 J8 V1 V2 V3 V4 V5 V6 V7 V8 V9 V10 V11 V12 E1 E2 E3 E4 E5 E6 E7 E8 E9 E10 E11 E12 E13" -- "$word") ;;
+        code) mapfile -t COMPREPLY < <(compgen -W "L1 L2 L3 L4 L5 L6 L7 L8 C1 C2 C3 C4 C5 C6 C7 C8 C9 C10 C11 C12 C13 C14 C15 C16 C17 C18 C20 C22 C24 J1 J2 J3 J4 J5 J6 J7 J8 V1 V2 V3 V4 V5 V6 V7 V8 V9 V10 V11 V12 E1 E2 E3 E4 E5 E6 E7 E8 E9 E10 E11 E12 E13" -- "$word") ;;
         name) mapfile -t COMPREPLY < <(compgen -W "$(_yanglive_names)" -- "$word") ;;
         any) mapfile -t COMPREPLY < <(compgen -A file -- "$word") ;;
         ?*) _yanglive_files "$kind" ;;

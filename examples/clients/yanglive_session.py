@@ -54,6 +54,10 @@ class Session:
         """So many faults from one on, each an object with RESTCONF's names."""
         return self.ask(f"faults {first} {count}")["faults"]
 
+    def save(self, file):
+        """Writes the document to a file."""
+        self.ask(f"save {file}")
+
     @contextmanager
     def together(self):
         """The edits of a block stand or, where it raises, fall together."""

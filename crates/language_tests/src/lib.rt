@@ -1,6 +1,8 @@
-//! Tests of modules that are read in a language: versions of YANG, features, patterns, binaries, and conditions that aren't judged.
+//! Tests of modules that are read in a language: versions of YANG, features, patterns, binaries, operations, and conditions that aren't judged.
 #![tactic(auto)]
 
+#[cfg(test)]
+mod anything;
 #[cfg(test)]
 mod binaries;
 #[cfg(test)]
@@ -17,6 +19,8 @@ mod features;
 mod guards;
 #[cfg(test)]
 mod memory;
+#[cfg(test)]
+mod operations;
 #[cfg(test)]
 mod patterns;
 #[cfg(test)]

@@ -7,7 +7,7 @@ use Rattle.ybase_output.specs.Writing.{Side}
 use Rattle.clap.proofs.OnLiterals.{clap_on_literals}
 use Rattle.yapp_words.specs.Command.{asked_in, asks_reasons, refusals}
 use Rattle.yapp_words.specs.Running.{End}
-use Rattle.yapp_talk.specs.Talked.{Events}
+use Rattle.ybase_talk.specs.Talk.{Party}
 use Rattle.yapp.specs.Sessions.{Does}
 use Rattle.yspec_opening.specs.Opening.{Asked, report}
 use Rattle.yapp.specs.Files.{Answered, Contents, FileAnswers, IsOutcome, Store, WereRead, unread_in}
@@ -54,9 +54,9 @@ is_known before after request names texts o tells same asked (inl came) =
     ∙ ap (outcome (validate core plainly (codes "d.json") (codes "p.yang" ∷ []))) (known_answers names texts came.0 answered none))
 is_known before after request names texts o tells same asked (inr none) = inr none.1
 
-pub told_once : (before after : Store) (asked : Asked) (request : Request) (given wanted : Bool) (events events_after : Events) (output output_after errors errors_after : Side) (end : End)
-    → asked ≡ report request → given ≡ wanted → Does before after asked given events events_after output output_after errors errors_after end
-    → Does before after (report request) wanted events events_after output output_after errors errors_after end
-told_once before after asked request given wanted events events_after output output_after errors errors_after end is reasons does =
-    subst (λ (b : Bool). Does before after (report request) b events events_after output output_after errors errors_after end) reasons
-    (subst (λ (a : Asked). Does before after a given events events_after output output_after errors errors_after end) is does)
+pub told_once : (before after : Store) (asked : Asked) (request : Request) (given wanted : Bool) (caller caller_after : Party) (output output_after errors errors_after : Side) (end : End)
+    → asked ≡ report request → given ≡ wanted → Does before after asked given caller caller_after output output_after errors errors_after end
+    → Does before after (report request) wanted caller caller_after output output_after errors errors_after end
+told_once before after asked request given wanted caller caller_after output output_after errors errors_after end is reasons does =
+    subst (λ (b : Bool). Does before after (report request) b caller caller_after output output_after errors errors_after end) reasons
+    (subst (λ (a : Asked). Does before after a given caller caller_after output output_after errors errors_after end) is does)

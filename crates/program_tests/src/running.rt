@@ -138,16 +138,33 @@ impl Files for InMemory<'_> {
 
 /// Who asks nothing.
 #[derive(Drop)]
-pub struct Nobody;
+pub struct Nobody {
+    count: CallCount,
+}
+
+impl Nobody {
+    pub fn new() -> Nobody {
+        Nobody {
+            count: CallCount::new(),
+        }
+    }
+}
 
 impl Caller for Nobody {
     ghost events = { λ _. None };
+
+    ghost failures = { λ s. s.count.calls };
 
     fn next_line(&mut self) -> Result<Option<Vec<u8>>, LineFault> {
         Ok(None)
     }
 
+    fn keep(&mut self, _name: &str, _text: &str) -> Result<(), &'static str> {
+        Err("nobody keeps it")
+    }
+
     fn tell(&mut self, _answer: &[u8]) -> Result<(), SinkFault> {
+        self.count.rise();
         Err(SinkFault)
     }
 }
@@ -176,7 +193,7 @@ fn validate_known<O: Sink, E: Sink>(
         (side E.taken E.failures errors.old) (side E.taken E.failures errors.new) (printed_with besides false o) (end_of ended)) }
 {
     let words = validate_words(alloc)?;
-    Ok(run(alloc, &words, files, &mut Nobody, output, errors))
+    Ok(run(alloc, &words, files, &mut Nobody::new(), output, errors))
 }
 
 /// How a side takes what is written: so many bytes a call, and perhaps a call that fails. Calls count from 1.
@@ -228,7 +245,7 @@ pub fn shown_by(
         alloc,
         &words,
         &mut files,
-        &mut Nobody,
+        &mut Nobody::new(),
         &mut output,
         &mut errors,
     );

@@ -209,6 +209,26 @@ yanglive edit --dump --dump d.json s.txt p.yang
 errors 3
 '--dump'
 ==
+yanglive session --undo 1 --undo 2 d.json p.yang
+errors 3
+'--undo
+==
+yanglive session --undo 01 d.json p.yang
+errors 3
+error: invalid value '01' for '--undo <N>': it isn't a whole number in 0..=4294967295
+==
+yanglive session --changes --changes d.json p.yang
+errors 3
+'--changes'
+==
+yanglive validate --undo 1 d.json p.yang
+errors 3
+'--undo'
+==
+yanglive help session
+output 0
+  save FILE 
+==
 yanglive validate --format xml d.json p.yang
 errors 3
 error: invalid value 'xml' for '--format <FORMAT>'

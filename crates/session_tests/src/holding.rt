@@ -4,7 +4,7 @@ ghost use Rattle.std.specs.Prelude.{None};
 
 use std::alloc::{AllocError, Global};
 use yapp::{Ended, FileFault, Files, Unreadable, run};
-use ybase_output::write_all;
+use ybase_output::{write_all, write_texts};
 use ybase_talk::{Caller, LineFault};
 use ytext::{CallCount, Cut, SinkFault};
 
@@ -69,21 +69,36 @@ impl Files for Pair<'_> {
     }
 }
 
-/// Who asks some lines, of which one may not be readable, and keeps what is told.
+/// Who asks some lines, of which one may not be readable, and keeps what is told, in one write an answer, and behind their names
+/// the texts that are to be kept. None is kept in a folder `no`. Short answers are told without a request for memory.
 #[derive(Drop)]
 struct Asking<'a> {
     alloc: Global,
     lines: &'a [&'a str],
     next: usize,
     unread: Option<usize>,
+    line: Vec<u8>,
     told: Cut,
+    kept: Cut,
+    count: CallCount,
+}
+
+/// Makes a line of a text, with a line feed behind it.
+fn make_line(line: &mut Vec<u8>, text: &[u8]) -> Result<(), AllocError> {
+    line.clear();
+    line.extend_from_slice(text)?;
+    line.push(b'\n')?;
+    Ok(())
 }
 
 impl Caller for Asking<'_> {
     ghost events = { λ _. None };
 
+    ghost failures = { λ s. s.count.calls };
+
     fn next_line(&mut self) -> Result<Option<Vec<u8>>, LineFault> {
         if self.unread == Some(self.next) {
+            self.count.rise();
             return Err(LineFault::Unread);
         }
         let Some(line) = self.lines.get(self.next) else {
@@ -98,9 +113,25 @@ impl Caller for Asking<'_> {
         }
     }
 
+    fn keep(&mut self, name: &str, text: &str) -> Result<(), &'static str> {
+        if name.starts_with("no/") {
+            return Err("no such folder");
+        }
+        match write_texts(&mut self.kept, &[name, " ", text]) {
+            Ok(()) => Ok(()),
+            Err(SinkFault) => Err("there is no room"),
+        }
+    }
+
     fn tell(&mut self, answer: &[u8]) -> Result<(), SinkFault> {
-        write_all(&mut self.told, answer)?;
-        write_all(&mut self.told, b"\n".as_slice())
+        let written = match make_line(&mut self.line, answer) {
+            Ok(()) => write_all(&mut self.told, &self.line),
+            Err(_) => Err(SinkFault),
+        };
+        if written.is_err() {
+            self.count.rise();
+        }
+        written
     }
 }
 
@@ -127,10 +158,11 @@ pub fn over<'a>(words: &'a str, document: &'a str, lines: &'a [&'a str]) -> Talk
     }
 }
 
-/// What a session told who asked, what it wrote on both sides, how many lines it was asked, and its status.
+/// What a session told who asked and had kept, what it wrote on both sides, how many lines it was asked, and its status.
 #[derive(Drop)]
 pub struct Held {
     pub told: Cut,
+    pub kept: Cut,
     pub output: Cut,
     pub errors: Cut,
     pub asked: usize,
@@ -160,7 +192,10 @@ pub fn hold(alloc: Global, talk: Talk<'_>) -> Result<Held, AllocError> {
         lines: talk.lines,
         next: 0,
         unread: talk.unread,
+        line: Vec::with_capacity(alloc, 4096)?,
         told: Cut::new(alloc, 100_000, 4096, talk.untold)?,
+        kept: Cut::new(alloc, 4096, 4096, None)?,
+        count: CallCount::new(),
     };
     let mut output = Cut::new(alloc, 4096, 4096, None)?;
     let mut errors = Cut::new(alloc, 4096, 4096, talk.unsaid)?;
@@ -172,9 +207,15 @@ pub fn hold(alloc: Global, talk: Talk<'_>) -> Result<Held, AllocError> {
         &mut output,
         &mut errors,
     );
-    let Asking { told, next, .. } = caller;
+    let Asking {
+        told,
+        kept,
+        next,
+        ..
+    } = caller;
     Ok(Held {
         told,
+        kept,
         output,
         errors,
         asked: next,

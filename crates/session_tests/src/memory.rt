@@ -4,14 +4,23 @@
 use crate::holding::{GOOD, Held, NOTE, SESSION, hold, over};
 use std::alloc::Global;
 
+// Each kind of request.
 const LINES: &[&str] = &[
     "faults",
     "replace /p:c/id \"x\"",
     "create /p:c/note \"a\"",
+    "faults 1 1",
+    "below /p:c",
+    "value /p:c/note",
     "document",
+    "save a b.json",
     "begin",
     "remove /p:c/note",
     "back",
+    "begin",
+    "remove /p:c/note",
+    "commit",
+    "undo",
     "undo",
     "undo",
     "end",
@@ -32,7 +41,7 @@ fn is_ended_or_short(held: &Held) -> bool {
 // Whether all was answered, and well, or a request was refused for want of memory.
 fn is_whole_or_short(held: &Held) -> bool {
     match str::from_utf8(held.told.bytes()) {
-        Ok(told) => held.asked == 10 && (held.status == 0 || told.contains(SHORT)),
+        Ok(told) => held.asked == LINES.len() && (held.status == 0 || told.contains(SHORT)),
         Err(_) => false,
     }
 }

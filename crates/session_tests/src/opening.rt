@@ -90,6 +90,21 @@ fn refused_words(rt: HostRuntime) {
     assert!(rt;
         is_misused(
             alloc,
+            "yanglive session --undo many d.json p.yang",
+            "error: invalid value 'many' for '--undo <N>': it isn't a whole number in 0..=4294967295\n"
+        ) == Some(true)
+    );
+    assert!(rt;
+        is_misused(
+            alloc,
+            "yanglive session --undo 4294967296 d.json p.yang",
+            "error: invalid value '4294967296' for '--undo <N>'"
+        ) == Some(true)
+    );
+    assert!(rt; is_misused(alloc, "yanglive session --undo d.json", "error: ") == Some(true));
+    assert!(rt;
+        is_misused(
+            alloc,
             "yanglive session d.json",
             "error: the following required arguments were not provided"
         ) == Some(true)

@@ -1,8 +1,8 @@
-//! What requests are answered. Sessions are parted by lines `==`; the first line of one has its status, and answers stand behind
-//! `> `.
+//! What requests are answered. Sessions are parted by lines `==`; the first line of one has its status and, behind a space, words
+//! of its own; answers stand behind `> `, and what is kept for them behind `< `, its name in front.
 
-use crate::holding::{GOOD, NOTE, SESSION, hold, is_held, over};
-use std::alloc::Global;
+use crate::holding::{GOOD, Held, NOTE, SESSION, hold, is_held, over};
+use std::alloc::{AllocError, Global};
 
 const TALKS: &str = r#"0
 faults
@@ -38,7 +38,11 @@ below /p:c/note
 below /p:d
 > {"refused":"E2","message":"A step of the path names no node there, or in the wrong form."}
 value /p:c/id
-> {"refused":"E1","message":"The request isn't served."}
+> {"value":"x"}
+value /p:c
+> {"value":{"id":"x"}}
+value /p:c/note
+> {"refused":"E7","message":"What is to be replaced, removed or moved isn't stored."}
 faults 1 0
 > {"refused":"E1","message":"The line is no request."}
 ==
@@ -72,6 +76,62 @@ document
 undo
 > {"refused":"undo","message":"Nothing is remembered."}
 ==
+1 --undo 1
+create /p:c/note "a"
+> {"before":0,"after":0}
+replace /p:c/id 2
+> {"before":0,"after":0}
+undo
+> {"before":0,"after":0}
+undo
+> {"refused":"undo","message":"Nothing is remembered."}
+document
+> {"document":{"p:c":{"id":1,"note":"a"}}}
+==
+0 --undo 2
+create /p:c/note "a"
+> {"before":0,"after":0}
+replace /p:c/id 2
+> {"before":0,"after":0}
+undo
+> {"before":0,"after":0}
+undo
+> {"before":0,"after":0}
+==
+1 --undo 0
+create /p:c/note "a"
+> {"before":0,"after":0}
+undo
+> {"refused":"undo","message":"Nothing is remembered."}
+==
+0
+save a.json
+> {"saved":"a.json"}
+< a.json {"p:c":{"id":1}}
+replace /p:c/id 2
+> {"before":0,"after":0}
+save my "own" file
+> {"saved":"my \"own\" file"}
+< my "own" file {"p:c":{"id":2}}
+undo
+> {"before":0,"after":0}
+save a.json
+> {"saved":"a.json"}
+< a.json {"p:c":{"id":1}}
+==
+1
+save no/a.json
+> {"refused":"save","message":"Cannot write no/a.json: no such folder."}
+save a.json
+> {"saved":"a.json"}
+< a.json {"p:c":{"id":1}}
+==
+1
+save
+> {"refused":"E1","message":"The line is no request."}
+saved a.json
+> {"refused":"E1","message":"The line is no request."}
+==
 1
 commit
 > {"refused":"end","message":"No edits together have begun."}
@@ -100,26 +160,65 @@ document
 end
 "#;
 
+// A session: what it is opened by, what it is asked, and what is to come of that.
+#[derive(Drop)]
+struct Row<'a> {
+    words: String,
+    status: u8,
+    lines: Vec<&'a str>,
+    told: String,
+    kept: String,
+}
+
+impl<'a> Row<'a> {
+    // Adds a line.
+    fn add(&mut self, line: &'a str) -> Result<(), AllocError> {
+        if let Some(answer) = line.strip_prefix("> ") {
+            self.told.push_str(answer)?;
+            self.told.push_str("\n")?;
+            return Ok(());
+        }
+        if let Some(file) = line.strip_prefix("< ") {
+            self.kept.push_str(file)?;
+            self.kept.push_str("\n")?;
+            return Ok(());
+        }
+        self.lines.push(line)?;
+        Ok(())
+    }
+}
+
+// The session that a text spells.
+fn row_of(alloc: Global, text: &str) -> Option<Row<'_>> {
+    let (first, rest) = text.split_once('\n')?;
+    let (status, words) = match first.split_once(' ') {
+        Some((status, words)) => (status, words),
+        None => (first, ""),
+    };
+    let mut row = Row {
+        words: [SESSION, " ", words].concat(alloc).ok()?,
+        status: status.parse::<u8>().ok()?,
+        lines: Vec::new(alloc),
+        told: String::new(alloc),
+        kept: String::new(alloc),
+    };
+    for line in rest.lines() {
+        row.add(line).ok()?;
+    }
+    Some(row)
+}
+
+// Whether a session told and had kept what is due, and ended so.
+fn is_due(held: &Held, row: &Row<'_>) -> bool {
+    is_held(held, row.told.as_str(), NOTE, row.status)
+        && held.kept.bytes() == row.kept.as_str().as_bytes()
+}
+
 // Whether a session is answered so.
 fn is_answered(alloc: Global, text: &str) -> Option<bool> {
-    let mut status = 0;
-    let mut lines = Vec::new(alloc);
-    let mut told = String::new(alloc);
-    for (number, line) in text.lines().enumerate() {
-        if number == 0 {
-            status = line.parse::<u8>().ok()?;
-            continue;
-        }
-        match line.strip_prefix("> ") {
-            Some(answer) => {
-                told.push_str(answer).ok()?;
-                told.push_str("\n").ok()?;
-            }
-            None => lines.push(line).ok()?,
-        }
-    }
-    let held = hold(alloc, over(SESSION, GOOD, &lines)).ok()?;
-    Some(is_held(&held, told.as_str(), NOTE, status))
+    let row = row_of(alloc, text)?;
+    let held = hold(alloc, over(row.words.as_str(), GOOD, &row.lines)).ok()?;
+    Some(is_due(&held, &row))
 }
 
 #[test]

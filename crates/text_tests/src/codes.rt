@@ -74,7 +74,7 @@ fn are_known(row: &str) -> bool {
 #[test]
 fn codes(rt: HostRuntime) {
     let rows = "L1 L2 L3 L4 L5 L6 L7 L8 -L0 -L9
-C1 C2 C3 C4 C5 C6 C7 C8 C9 C10 C11 C12 C13 C14 C15 C16 C17 C18 C20 C22 -C0 -C19 -C21 -c1
+C1 C2 C3 C4 C5 C6 C7 C8 C9 C10 C11 C12 C13 C14 C15 C16 C17 C18 C20 C22 C24 -C0 -C19 -C21 -C23 -c1
 J1 J2 J3 J4 J5 J6 J7 J8 -J9
 V1 V2 V3 V4 V5 V6 V7 V8 V9 V10 V11 V12 -V13
 E1 E2 E3 E4 E5 E6 E7 E8 E9 E10 E11 E12 E13 -E14 -E -";
@@ -100,7 +100,7 @@ fn are_found(alloc: Global, row: &str) -> Option<bool> {
 
 #[test]
 fn several(rt: HostRuntime) {
-    assert!(rt; are_all(rt.alloc(), 61, "L1", "E13") == Some(true));
+    assert!(rt; are_all(rt.alloc(), 62, "L1", "E13") == Some(true));
     let rows = "C1/1/-
 C1 V3 C1/3/-
 C1 V12 V13 x/2/V13

@@ -1,6 +1,6 @@
 //! The files and the standard streams of the system that the program runs on.
 
-ghost use Rattle.std.specs.Prelude.{None};
+ghost use Rattle.std.specs.Prelude.{◌≡◌, None};
 
 use std::alloc::{AllocError, Global};
 use std::fs::{File, Metadata, OpenOptions, Permissions, TryLockError};
@@ -71,9 +71,7 @@ impl<'a> FileSystem<'a> {
 impl FileSystem<'_> {
     /// Writes a file into its place: where that is a link, into the place of its target, and with the permissions of the
     /// file that is there. What is there and is no regular file stays as it is.
-    fn put(&self, file: &SavedFile) -> Result<(), Unsaved> {
-        let name = file.name.as_str();
-        let bytes = file.text.as_bytes();
+    fn put(&self, name: &str, bytes: &[u8]) -> Result<(), Unsaved> {
         match fs::metadata(self.runtime, name) {
             Ok(found) if found.is_file() => self.put_over(name, bytes, found.permissions()),
             Ok(_) => Err(Unsaved::NoRegularFile),
@@ -246,7 +244,7 @@ impl Shelf for FileSystem<'_> {
     ghost cause = { λ s. s.cause };
 
     fn save(&mut self, file: &SavedFile) -> Result<(), Unsaved> {
-        match self.put(file) {
+        match self.put(file.name.as_str(), file.text.as_bytes()) {
             Ok(()) => {
                 self.cause = None;
                 Ok(())
@@ -333,10 +331,12 @@ impl<W: Write> Sink for Stream<W> {
 }
 
 /// Who asks on the standard streams: each line of the input is a request, and each answer is written out at once, as a line.
+/// What is to be kept is written to the system's files.
 #[derive(Drop)]
 pub struct Asker<'a> {
     runtime: &'a HostRuntime,
     input: Option<BufReader<Stdin>>,
+    count: CallCount,
 }
 
 impl<'a> Asker<'a> {
@@ -345,11 +345,14 @@ impl<'a> Asker<'a> {
         Asker {
             runtime,
             input: None,
+            count: CallCount::new(),
         }
     }
 
     /// The next line of the input, with its line feed.
-    fn read_line(&mut self) -> io::Result<Vec<u8>> {
+    fn read_line(&mut self) -> io::Result<Vec<u8>>
+        ensures { self.new.count.calls ≡ self.old.count.calls }
+    {
         let alloc = self.runtime.alloc();
         let mut input = match self.input.take() {
             Some(input) => input,
@@ -363,7 +366,7 @@ impl<'a> Asker<'a> {
     }
 
     /// Writes an answer and a line feed, in one write where there is memory for both together.
-    fn write_line(&mut self, answer: &[u8]) -> io::Result<()> {
+    fn write_line(&self, answer: &[u8]) -> io::Result<()> {
         let mut stdout = self.runtime.stdout();
         match whole_line(self.runtime.alloc(), answer) {
             Ok(line) => stdout.write_all(&line)?,
@@ -389,6 +392,8 @@ fn whole_line(alloc: Global, text: &[u8]) -> Result<Vec<u8>, AllocError> {
 impl Caller for Asker<'_> {
     ghost events = { λ _. None };
 
+    ghost failures = { λ s. s.count.calls };
+
     fn next_line(&mut self) -> Result<Option<Vec<u8>>, LineFault> {
         match self.read_line() {
             Ok(mut line) => {
@@ -401,14 +406,27 @@ impl Caller for Asker<'_> {
                 Ok(Some(line))
             }
             Err(error) if error.kind() == ErrorKind::OutOfMemory => Err(LineFault::Memory),
-            Err(_) => Err(LineFault::Unread),
+            Err(_) => {
+                self.count.rise();
+                Err(LineFault::Unread)
+            }
+        }
+    }
+
+    fn keep(&mut self, name: &str, text: &str) -> Result<(), &'static str> {
+        match FileSystem::new(self.runtime).put(name, text.as_bytes()) {
+            Ok(()) => Ok(()),
+            Err(cause) => Err(cause.words()),
         }
     }
 
     fn tell(&mut self, answer: &[u8]) -> Result<(), SinkFault> {
         match self.write_line(answer) {
             Ok(()) => Ok(()),
-            Err(_) => Err(SinkFault),
+            Err(_) => {
+                self.count.rise();
+                Err(SinkFault)
+            }
         }
     }
 }

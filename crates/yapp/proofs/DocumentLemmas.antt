@@ -23,7 +23,7 @@ use Rattle.ycheck.specs.View.{view, views}
 use Rattle.ycheck.specs.declared.fault.Fault.{Fault}
 use Rattle.yschema_model.specs.View as schema_view
 use Rattle.yschema_model.specs.declared.schema.Schema.{Schema}
-use Rattle.yschema_model.proofs.CallerLemmas.{names_differ, numbered}
+use Rattle.yschema_model.proofs.CallerLemmas.{names_differ, numbered, leafs_are_bare}
 use Rattle.yapp_script.specs.Asked.{IsScript, Line, refused_part, refused_parts, told_from}
 use Rattle.ylive.specs.Answers.{after_edits}
 use Rattle.yapp.specs.Edited.{IsEdited, IsOf, IsRun, IsSound, IsWhole, refused_of, schema_of, tree_of}
@@ -40,7 +40,7 @@ use Rattle.yapp_script.proofs.ScriptLemmas.{after_is, refused_is}
 whole_after : (schema : Schema) (t u : Tree) (edits : List Edit) → IsSound (schema_view.view schema) t → u ≡ after (schema_view.view schema) t edits
     → IsWhole (schema_view.view schema) u
 whole_after schema t u edits sound is = let s = schema_view.view schema in record {
-  whole = subst (IsDocument s) (sym is) (edits_whole s t edits (numbered schema) (names_differ schema) sound.whole);
+  whole = subst (IsDocument s) (sym is) (edits_whole s t edits (numbered schema) (names_differ schema) (leafs_are_bare schema) sound.whole);
   within = subst (λ (v : Tree). size v ≤ document_limit) (sym is) (edits_within s t edits sound.within);
 }
 

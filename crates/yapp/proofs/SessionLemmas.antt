@@ -15,7 +15,8 @@ use Rattle.yapp_words.specs.Running.{Brings, End, memory_told, with_status, with
 use Rattle.yapp_report.specs.Failing.{FailsWith, LeadsTo, besides_in, outcome_of, unsaid}
 use Rattle.yapp_report.specs.declared.failure.Failure.{Failure}
 use Rattle.yapp_report.specs.declared.failure.Failure.TheVariants as failures
-use Rattle.yapp_talk.specs.Talked.{Events, IsTalk}
+use Rattle.ybase_talk.specs.Talk.{Party}
+use Rattle.yapp_talk.specs.Talked.{IsTalk}
 use Rattle.yapp.specs.Files.{FileAnswers, Store, WasCut, WereRead}
 use Rattle.yapp.specs.Sessions.{AreOpened, ComesToOpen, Does, IsSession}
 use Rattle.yapp.specs.Telling.{Tells}
@@ -102,49 +103,49 @@ without_either besides true = refl
 without_either besides false = refl
 
 -- none is opened
-pub session_refused : (before after : Store) (o : Opening) (with_reasons : Bool) (events : Events) (output output_after errors errors_after : Side) (f : Failure) (end : End)
+pub session_refused : (before after : Store) (o : Opening) (with_reasons : Bool) (caller : Party) (output output_after errors errors_after : Side) (f : Failure) (end : End)
     → ComesToOpen before after o (Err f) → Tells output output_after errors errors_after with_reasons false (besides_in f) (outcome_of f) end
-    → IsSession before after o with_reasons events events output output_after errors errors_after end
-session_refused before after o with_reasons events output output_after errors errors_after f end (inl refused) (inl brings) =
+    → IsSession before after o with_reasons caller caller output output_after errors errors_after end
+session_refused before after o with_reasons caller output output_after errors errors_after f end (inl refused) (inl brings) =
     inl (outcome_of f, besides_in f, refused, refl, brings)
-session_refused before after o with_reasons events output output_after errors errors_after f end (inr cut) (inl brings) =
+session_refused before after o with_reasons caller output output_after errors errors_after f end (inr cut) (inl brings) =
     let same : printed_with (besides_in f) with_reasons (outcome_of f) ≡ memory_told =
     ap (λ (g : Failure). printed_with (besides_in f) with_reasons (outcome_of g)) cut.1 ∙ without_either (besides_in f) with_reasons in
     inr (inl (cut.0, refl, subst (λ p. Brings output output_after errors errors_after p end) same brings))
-session_refused before after o with_reasons events output output_after errors errors_after f end comes (inr none) = absurd cc
+session_refused before after o with_reasons caller output output_after errors errors_after f end comes (inr none) = absurd cc
 
 -- one is opened, and they talk
-pub session_held : (before after : Store) (o : Opening) (with_reasons : Bool) (events events_after : Events) (output errors errors_after : Side) (s : Schema) (t : Tree)
-    (note told : Text) (status : ℕ) → AreOpened before after o s t note → told ≡ note → IsTalk s t told with_reasons events events_after errors errors_after status
-    → IsSession before after o with_reasons events events_after output output errors errors_after (with_status status)
-session_held before after o with_reasons events events_after output errors errors_after s t note told status are said talk = inr (inr (
+pub session_held : (before after : Store) (o : Opening) (with_reasons : Bool) (caller caller_after : Party) (output errors errors_after : Side) (s : Schema) (t : Tree)
+    (note told : Text) (status : ℕ) → AreOpened before after o s t note → told ≡ note → IsTalk o s t told with_reasons caller caller_after errors errors_after status
+    → IsSession before after o with_reasons caller caller_after output output errors errors_after (with_status status)
+session_held before after o with_reasons caller caller_after output errors errors_after s t note told status are said talk = inr (inr (
   s,
   t,
   note,
   status,
   are,
-  subst (λ (n : Text). IsTalk s t n with_reasons events events_after errors errors_after status) said talk,
+  subst (λ (n : Text). IsTalk o s t n with_reasons caller caller_after errors errors_after status) said talk,
   refl,
   refl,
 ))
 
 -- what comes of other words, which are the same
-pub does_same : (before after : Store) (asked other : Asked) (given wanted : Bool) (events events_after : Events) (output output_after errors errors_after : Side) (end : End)
-    → asked ≡ other → given ≡ wanted → Does before after asked given events events_after output output_after errors errors_after end
-    → Does before after other wanted events events_after output output_after errors errors_after end
-does_same before after asked other given wanted events events_after output output_after errors errors_after end e reasons does =
-    subst (λ (b : Bool). Does before after other b events events_after output output_after errors errors_after end) reasons
-    (subst (λ (a : Asked). Does before after a given events events_after output output_after errors errors_after end) e does)
+pub does_same : (before after : Store) (asked other : Asked) (given wanted : Bool) (caller caller_after : Party) (output output_after errors errors_after : Side) (end : End)
+    → asked ≡ other → given ≡ wanted → Does before after asked given caller caller_after output output_after errors errors_after end
+    → Does before after other wanted caller caller_after output output_after errors errors_after end
+does_same before after asked other given wanted caller caller_after output output_after errors errors_after end e reasons does =
+    subst (λ (b : Bool). Does before after other b caller caller_after output output_after errors errors_after end) reasons
+    (subst (λ (a : Asked). Does before after a given caller caller_after output output_after errors errors_after end) e does)
 
 -- where memory was wanting for what words ask
-pub does_without : (store : Store) (asked : Asked) (with_reasons : Bool) (events : Events) (output output_after errors errors_after : Side) (end : End)
-    → Brings output output_after errors errors_after memory_told end → Does store store asked with_reasons events events output output_after errors errors_after end
-does_without store (report request) with_reasons events output output_after errors errors_after end brings = (
+pub does_without : (store : Store) (asked : Asked) (with_reasons : Bool) (caller : Party) (output output_after errors errors_after : Side) (end : End)
+    → Brings output output_after errors errors_after memory_told end → Does store store asked with_reasons caller caller output output_after errors errors_after end
+does_without store (report request) with_reasons caller output output_after errors errors_after end brings = (
   refl,
   without_memory,
   unsaid,
   inr (inl (record { failures = refl; reads = omega arith }), refl),
   memory_either unsaid with_reasons output output_after errors errors_after end brings,
 )
-does_without store (session o) with_reasons events output output_after errors errors_after end brings =
+does_without store (session o) with_reasons caller output output_after errors errors_after end brings =
     inr (inl (record { failures = refl; reads = omega arith }, refl, brings))

@@ -11,7 +11,8 @@ use Rattle.yapp_words.specs.Running.{Brings, End, memory_told, with_status}
 use Rattle.yapp_report.specs.Failing.{outcome_of}
 use Rattle.yapp_report.specs.declared.failure.Failure.{Failure}
 use Rattle.yapp_report.specs.declared.failure.Failure.TheVariants.{Memory}
-use Rattle.yapp_talk.specs.Talked.{Events, IsTalk}
+use Rattle.ybase_talk.specs.Talk.{Party}
+use Rattle.yapp_talk.specs.Talked.{IsTalk}
 use Rattle.yapp.specs.Files.{FileAnswers, IsOutcome, Store, WasCut, WereRead}
 use Rattle.yapp.specs.declared.opening.Opened.{Opened}
 
@@ -32,34 +33,34 @@ ComesToOpen before after o (Err failure) = AreRefused before after o (outcome_of
     ⊎ (WasCut before after (files_opened o) × (failure ≡ Memory))
 
 -- nobody was asked, and it is told why none is opened
-abbrev pub IsRefused : Store → Store → Opening → Bool → Events → Events → Side → Side → Side → Side → End → Type 0
-IsRefused before after o with_reasons events events_after output output_after errors errors_after end =
-    (told : Outcome) × (besides : Besides) × AreRefused before after o told × (events_after ≡ events)
+abbrev pub IsRefused : Store → Store → Opening → Bool → Party → Party → Side → Side → Side → Side → End → Type 0
+IsRefused before after o with_reasons caller caller_after output output_after errors errors_after end =
+    (told : Outcome) × (besides : Besides) × AreRefused before after o told × (caller_after ≡ caller)
     × Brings output output_after errors errors_after (printed_with besides with_reasons told) end
 
 -- nobody was asked, for want of memory
-abbrev pub IsCut : Store → Store → Opening → Events → Events → Side → Side → Side → Side → End → Type 0
-IsCut before after o events events_after output output_after errors errors_after end =
-    WasCut before after (files_opened o) × (events_after ≡ events) × Brings output output_after errors errors_after memory_told end
+abbrev pub IsCut : Store → Store → Opening → Party → Party → Side → Side → Side → Side → End → Type 0
+IsCut before after o caller caller_after output output_after errors errors_after end =
+    WasCut before after (files_opened o) × (caller_after ≡ caller) × Brings output output_after errors errors_after memory_told end
 
 -- one was opened, and they talked
-abbrev pub HasTalked : Store → Store → Opening → Bool → Events → Events → Side → Side → Side → Side → End → Type 0
-HasTalked before after o with_reasons events events_after output output_after errors errors_after end =
+abbrev pub HasTalked : Store → Store → Opening → Bool → Party → Party → Side → Side → Side → Side → End → Type 0
+HasTalked before after o with_reasons caller caller_after output output_after errors errors_after end =
     (schema : Schema) × (tree : Tree) × (note : Text) × (status : ℕ) × AreOpened before after o schema tree note
-    × IsTalk schema tree note with_reasons events events_after errors errors_after status
+    × IsTalk o schema tree note with_reasons caller caller_after errors errors_after status
     × (output_after ≡ output) × (end ≡ with_status status)
 
 -- what comes of a session
-abbrev pub IsSession : Store → Store → Opening → Bool → Events → Events → Side → Side → Side → Side → End → Type 0
-IsSession before after o with_reasons events events_after output output_after errors errors_after end =
-    IsRefused before after o with_reasons events events_after output output_after errors errors_after end
-    ⊎ (IsCut before after o events events_after output output_after errors errors_after end
-    ⊎ HasTalked before after o with_reasons events events_after output output_after errors errors_after end)
+abbrev pub IsSession : Store → Store → Opening → Bool → Party → Party → Side → Side → Side → Side → End → Type 0
+IsSession before after o with_reasons caller caller_after output output_after errors errors_after end =
+    IsRefused before after o with_reasons caller caller_after output output_after errors errors_after end
+    ⊎ (IsCut before after o caller caller_after output output_after errors errors_after end
+    ⊎ HasTalked before after o with_reasons caller caller_after output output_after errors errors_after end)
 
 -- what comes of anything that words ask for: of what is told once an outcome, for which nobody is asked
-abbrev pub Does : Store → Store → Asked → Bool → Events → Events → Side → Side → Side → Side → End → Type 0
-Does before after (report request) with_reasons events events_after output output_after errors errors_after end =
-    (events_after ≡ events) × (o : Outcome) × (besides : Besides) × IsOutcome before after request o
+abbrev pub Does : Store → Store → Asked → Bool → Party → Party → Side → Side → Side → Side → End → Type 0
+Does before after (report request) with_reasons caller caller_after output output_after errors errors_after end =
+    (caller_after ≡ caller) × (o : Outcome) × (besides : Besides) × IsOutcome before after request o
     × Brings output output_after errors errors_after (printed_with besides with_reasons o) end
-Does before after (session o) with_reasons events events_after output output_after errors errors_after end =
-    IsSession before after o with_reasons events events_after output output_after errors errors_after end
+Does before after (session o) with_reasons caller caller_after output output_after errors errors_after end =
+    IsSession before after o with_reasons caller caller_after output output_after errors errors_after end

@@ -10,6 +10,7 @@ ghost use Rattle.yspec_opening.specs.Opening.{files_opened, opened_with, with_co
 ghost use Rattle.ylink_grammar.specs.LanguageView.{language_view};
 ghost use Rattle.ylive.specs.View.{view};
 ghost use Rattle.ybase_output.specs.Writing.{side};
+ghost use Rattle.ybase_talk.specs.Talk.{party};
 ghost use Rattle.yapp_words.specs.Command.{opening_view};
 ghost use Rattle.yapp_report.specs.Failing.{LeadsTo};
 ghost use Rattle.yapp_report.specs.Saving.{end_of};
@@ -133,7 +134,7 @@ pub(crate) fn hold_session<F: Files, C: Caller, O: Sink, E: Sink>(
     ensures reasons { result.with_reasons ≡ with_reasons }
     ensures session { IsSession (store F.contents F.reads F.failures files.old)
         (store F.contents F.reads F.failures files.new) (opening_view opening.now) with_reasons
-        (C.events caller.old) (C.events caller.new)
+        (party C.events C.failures caller.old) (party C.events C.failures caller.new)
         (side O.taken O.failures output.old) (side O.taken O.failures output.new)
         (side E.taken E.failures errors.old) (side E.taken E.failures errors.new) (end_of result) }
 {
@@ -141,6 +142,7 @@ pub(crate) fn hold_session<F: Files, C: Caller, O: Sink, E: Sink>(
         Ok(opened) => Ended {
             status: talk(
                 alloc,
+                opening,
                 opened.live,
                 opened.note.as_str(),
                 with_reasons,

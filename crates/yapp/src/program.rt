@@ -3,6 +3,7 @@
 ghost use Rattle.std.specs.Prelude.{◌≡◌, ◌⊎◌, [], map, string_bytes};
 ghost use Rattle.yspec_run.specs.Output.{Printed, as_json_of};
 ghost use Rattle.ybase_output.specs.Writing.{side};
+ghost use Rattle.ybase_talk.specs.Talk.{party};
 ghost use Rattle.yapp_words.specs.Command.{asked_in, asked_view, asks_reasons, refusals, view};
 ghost use Rattle.yapp_words.specs.Running.{AnswersWords, Brings};
 ghost use Rattle.yapp_report.specs.Saving.{end_of};
@@ -44,7 +45,7 @@ fn do_asked<F: Files, C: Caller, O: Sink, E: Sink>(
     ensures reasons { result.with_reasons ≡ with_reasons }
     ensures does { Does (store F.contents F.reads F.failures files.old)
         (store F.contents F.reads F.failures files.new) (asked_view asked.now) with_reasons
-        (C.events caller.old) (C.events caller.new)
+        (party C.events C.failures caller.old) (party C.events C.failures caller.new)
         (side O.taken O.failures output.old) (side O.taken O.failures output.new)
         (side E.taken E.failures errors.old) (side E.taken E.failures errors.new) (end_of result) }
 {
@@ -78,7 +79,7 @@ pub fn run<F: Files, C: Caller, O: Sink, E: Sink>(
     ensures taken { (refusals (map string_bytes words.now) ≡ [])
         → Does (store F.contents F.reads F.failures files.old)
         (store F.contents F.reads F.failures files.new) (asked_in (map string_bytes words.now))
-        (asks_reasons (map string_bytes words.now)) (C.events caller.old) (C.events caller.new)
+        (asks_reasons (map string_bytes words.now)) (party C.events C.failures caller.old) (party C.events C.failures caller.new)
         (side O.taken O.failures output.old) (side O.taken O.failures output.new)
         (side E.taken E.failures errors.old) (side E.taken E.failures errors.new) (end_of result) }
     ensures words { ¬ (refusals (map string_bytes words.now) ≡ []) → (o : Printed)

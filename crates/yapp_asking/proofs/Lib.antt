@@ -1,2 +1,3 @@
 mod PlaceLemmas
 mod FaultLemmas
+mod ValueLemmas

@@ -1,3 +1,4 @@
+mod CameLemmas
 mod LineLemmas
 mod ListLemmas
 mod PastLemmas
@@ -7,3 +8,4 @@ mod RequestLemmas
 mod RewindLemmas
 mod SettleLemmas
 mod TextLemmas
+mod TurnLemmas

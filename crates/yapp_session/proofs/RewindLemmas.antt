@@ -15,7 +15,7 @@ use Rattle.yinst_path.specs.declared.edit.Edit as rust
 use Rattle.ylive.specs.Answers.{after_edits}
 use Rattle.yapp_session.specs.View.{group_view, groups_view}
 use Rattle.yapp_session.specs.Kept.{LaterFits}
-use Rattle.yapp_session.specs.Answered.{place_at}
+use Rattle.yapp_session.specs.Answered.{IsPlaced, place_at}
 
 module _ {A : Type 0} (first : Live) (gs : List (Vec rust.Edit A)) (i : ℕ) (g : Vec rust.Edit A) (within : i < length gs) (is : g ≡ get_or gs i g) where
   one_step : (before : Live) → before.schema ≡ first.schema
@@ -71,3 +71,9 @@ until_fits s n (Some m) fits = by (nat_le m.groups n)
     by : (b : Bool) → LaterFits s (if b then Some m else None)
     by true = fits
     by false = tt
+
+-- put there once more
+pub placed_again : (before placed after : Live) (k : Kept) (n : ℕ) → placed.schema ≡ before.schema → IsPlaced before.schema k n placed
+    → (IsPlaced placed.schema k n placed → IsPlaced placed.schema k n after) → IsPlaced before.schema k n after
+placed_again before placed after k n schema there again = subst (λ (s : Schema). IsPlaced s k n after) schema
+    (again (subst (λ (s : Schema). IsPlaced s k n placed) (sym schema) there))

@@ -8,3 +8,8 @@ if_ok P Q f (Err e) holds = holds
 pub if_done : {X E : Type 0} (P Q : Type 0) → (P → Q) → (r : Result X E) → OnOk r P → OnOk r Q
 if_done P Q f (Ok x) holds = f holds
 if_done P Q f (Err e) holds = holds
+
+-- what holds whatever it answers
+pub always : {X E : Type 0} (P : Type 0) → P → (r : Result X E) → IfOk r (λ x. P)
+always P holds (Ok x) = holds
+always P holds (Err e) = tt

@@ -1,11 +1,14 @@
 -- A session that is kept by a live document and the edits since another, and what a line is answered.
-use Rattle.std.specs.Prelude.{◌≡◌, ◌⊎◌, ℕ, false, Option, Some, None, length, take, if◌then◌else◌}
+use Rattle.std.specs.Prelude.{◌≡◌, ◌⊎◌, ℕ, Bool, false, Option, Some, None, length, take, if◌then◌else◌}
 use Rattle.yspec.specs.text.Text.{Text}
+use Rattle.yspec.specs.Results.{◌>>=◌}
 use Rattle.yspec.specs.schema.Schema.{Schema}
 use Rattle.yspec.specs.document.Document.{Tree}
 use Rattle.yspec.specs.edit.EditText.{Path}
+use Rattle.yspec.specs.edit.Editing.{Branch, target_of}
 use Rattle.yspec.specs.edit.Live.{Live, faults_in, opened}
-use Rattle.yspec_session.specs.Session.{Session, Request, Answer, Why, answered, changed, listed, stored, whole, saved, done, refused, not_understood, edit_refused, nothing_remembered, has_begun, not_begun, page, place_of, below_told}
+use Rattle.yspec_session.specs.Carrying.{Difference}
+use Rattle.yspec_session.specs.Session.{Session, Request, Answer, Why, answered, changed, listed, stored, whole, saved, done, refused, not_understood, edit_refused, nothing_remembered, has_begun, not_begun, page, place_of, value_at, below_told, value_told}
 use Rattle.yspec_session.specs.Remembering.{Kept, Leads, Remembers, behind_groups}
 use Rattle.yspec_session.specs.Requests.{request_of}
 use Rattle.ysay_session.specs.AnswerText as text
@@ -28,16 +31,22 @@ why_text nothing_remembered = text.nothing_text
 why_text has_begun = text.begun_text
 why_text not_begun = text.not_begun_text
 
--- of an answer, by the document behind it
-abbrev pub answer_text : Schema → Tree → Answer → Text
-answer_text schema tree (changed before after difference) = text.changed_text before after
-answer_text schema tree (listed faults count) = text.listed_text schema tree faults count
-answer_text schema tree (stored branch) = text.unserved_text
-answer_text schema tree (whole t) = text.document_text schema t
-answer_text schema tree (saved file t) = text.unserved_text
-answer_text schema tree done = text.done_text
-answer_text schema tree (refused why) = why_text why
-answer_text schema tree not_understood = text.not_understood_text
+-- of a change, by the documents before and behind it
+abbrev pub change_text : Bool → Schema → Tree → Tree → ℕ → ℕ → Difference → Text
+change_text tells_changes schema earlier later before after difference = if tells_changes
+    then text.changes_text schema earlier later before after difference else text.changed_text before after
+
+-- of an answer, by the documents before and behind it
+abbrev pub answer_text : Bool → Schema → Tree → Tree → Answer → Text
+answer_text tells_changes schema earlier later (changed before after difference) =
+    change_text tells_changes schema earlier later before after difference
+answer_text tells_changes schema earlier later (listed faults count) = text.listed_text schema later faults count
+answer_text tells_changes schema earlier later (stored branch) = text.value_text schema branch
+answer_text tells_changes schema earlier later (whole t) = text.document_text schema t
+answer_text tells_changes schema earlier later (saved file t) = text.unserved_text
+answer_text tells_changes schema earlier later done = text.done_text
+answer_text tells_changes schema earlier later (refused why) = why_text why
+answer_text tells_changes schema earlier later not_understood = text.not_understood_text
 
 -- a page of the faults of a live document
 abbrev pub page_text : Live → ℕ → Option ℕ → Text
@@ -46,7 +55,18 @@ page_text live behind count =
 
 -- the faults of a node of it
 abbrev pub below_text : Live → Path → Text
-below_text live path = answer_text live.schema live.tree (below_told (faults_in live) (place_of live.schema live.tree path))
+below_text live path =
+    answer_text false live.schema live.tree live.tree (below_told (faults_in live) (place_of live.schema live.tree path))
+
+-- what is stored at a node of it
+abbrev pub value_text : Live → Path → Text
+value_text live path = answer_text false live.schema live.tree live.tree
+    (value_told (target_of live.schema live.tree false path >>= value_at live.schema))
+
+-- of the stored node of a path, if there is one
+abbrev pub found_text : Schema → Option Branch → Text
+found_text schema None = text.done_text
+found_text schema (Some branch) = text.value_text schema branch
 
 -- ---- places of the past
 
@@ -61,12 +81,14 @@ IsPlaced schema k n live = Leads schema k.base k.groups k.later → live ≡ pla
 -- ---- answers
 
 -- a request is answered, and the session behind it is there
-abbrev pub Answers : Schema → ℕ → Session → Request → Text → Live → Kept → Type 0
-Answers schema limit s r t live k = let a = answered schema limit s r in (t ≡ answer_text schema a.1.tree a.0) × Holds live k a.1
+abbrev pub Answers : Bool → Schema → ℕ → Session → Request → Text → Live → Kept → Type 0
+Answers tells_changes schema limit s r t live k = let a = answered schema limit s r in
+    (t ≡ answer_text tells_changes schema s.tree a.1.tree a.0) × Holds live k a.1
 
 -- in any session that is there
-abbrev pub Replies : ℕ → Live → Kept → Request → Text → Live → Kept → Type 0
-Replies limit before k r t after l = (s : Session) → Holds before k s → Answers before.schema limit s r t after l
+abbrev pub Replies : Bool → ℕ → Live → Kept → Request → Text → Live → Kept → Type 0
+Replies tells_changes limit before k r t after l =
+    (s : Session) → Holds before k s → Answers tells_changes before.schema limit s r t after l
 
 -- the schema stays, and the documents of the past fit it as before
 pub record Stays (before : Live) (k : Kept) (after : Live) (l : Kept) : Type 0 where
@@ -74,33 +96,39 @@ pub record Stays (before : Live) (k : Kept) (after : Live) (l : Kept) : Type 0 w
   pub fit : AreFit before.schema k → AreFit before.schema l
 
 -- a request is answered so; one that isn't served leaves all as it was
-abbrev pub Told : ℕ → Live → Kept → Option Request → Text → Live → Kept → Type 0
-Told limit before k None t after l = (t ≡ text.unserved_text) × (after ≡ before) × (l ≡ k)
-Told limit before k (Some r) t after l = Replies limit before k r t after l
+abbrev pub Told : Bool → ℕ → Live → Kept → Option Request → Text → Live → Kept → Type 0
+Told tells_changes limit before k None t after l = (t ≡ text.unserved_text) × (after ≡ before) × (l ≡ k)
+Told tells_changes limit before k (Some r) t after l = Replies tells_changes limit before k r t after l
 
 -- ---- lines
 
-abbrev pub asked_answered : Schema → ℕ → Session → Option Request → Text × Session
-asked_answered schema limit s None = (text.not_understood_text, s)
-asked_answered schema limit s (Some r) = let a = answered schema limit s r in (answer_text schema a.1.tree a.0, a.1)
+abbrev pub asked_answered : Bool → Schema → ℕ → Session → Option Request → Text × Session
+asked_answered tells_changes schema limit s None = (text.not_understood_text, s)
+asked_answered tells_changes schema limit s (Some r) =
+    let a = answered schema limit s r in (answer_text tells_changes schema s.tree a.1.tree a.0, a.1)
 
 -- what a line is answered that asks so, and the session behind it
-abbrev pub line_answered : Schema → ℕ → Session → Option Request → Text × Session
-line_answered schema limit s asked = if is_unserved asked then (text.unserved_text, s) else asked_answered schema limit s asked
+abbrev pub line_answered : Bool → Schema → ℕ → Session → Option Request → Text × Session
+line_answered tells_changes schema limit s asked =
+    if is_unserved asked then (text.unserved_text, s) else asked_answered tells_changes schema limit s asked
 
 -- where a session is there, a line is answered so, and the session behind it is there
-abbrev pub Says : ℕ → Live → Kept → Option Request → Text → Live → Kept → Type 0
-Says limit before k asked t after l = (s : Session) → Holds before k s
-    → (t ≡ (line_answered before.schema limit s asked).0) × Holds after l (line_answered before.schema limit s asked).1
+abbrev pub Says : Bool → ℕ → Live → Kept → Option Request → Text → Live → Kept → Type 0
+Says tells_changes limit before k asked t after l = (s : Session) → Holds before k s
+    → (t ≡ (line_answered tells_changes before.schema limit s asked).0)
+    × Holds after l (line_answered tells_changes before.schema limit s asked).1
 
 -- a line is answered, or it is said that memory ran out, and the session is as it was
-abbrev pub SaysOrShort : ℕ → Live → Kept → Option Request → Text → Live → Kept → Type 0
-SaysOrShort limit before k asked t after l = (s : Session) → Holds before k s
-    → ((t ≡ (line_answered before.schema limit s asked).0) × Holds after l (line_answered before.schema limit s asked).1)
+abbrev pub SaysOrShort : Bool → ℕ → Live → Kept → Option Request → Text → Live → Kept → Type 0
+SaysOrShort tells_changes limit before k asked t after l = (s : Session) → Holds before k s
+    → ((t ≡ (line_answered tells_changes before.schema limit s asked).0)
+    × Holds after l (line_answered tells_changes before.schema limit s asked).1)
     ⊎ ((t ≡ text.short_text) × Holds after l s)
 
 -- a line of a session is answered so
 pub record AnswersLine (before : Parts) (line : Text) (t : Text) (after : Parts) : Type 0 where
   pub limit : after.limit ≡ before.limit
+  pub tells_changes : after.tells_changes ≡ before.tells_changes
   pub schema : (view after.live).schema ≡ (view before.live).schema
-  pub says : SaysOrShort before.limit (view before.live) (past_view before.past) (request_of line) t (view after.live) (past_view after.past)
+  pub says : SaysOrShort before.tells_changes before.limit (view before.live) (past_view before.past) (request_of line) t
+      (view after.live) (past_view after.past)

@@ -7,9 +7,8 @@ use Rattle.yinst_path.specs.EditView.{edit_view, path_view}
 use Rattle.yapp_session.specs.declared.request.Request.{Request}
 use Rattle.yapp_session.specs.declared.request.Request.TheVariants as rust
 
--- what isn't served: what is stored at a node, and to save
+-- what isn't served: to save
 abbrev pub is_unserved : Option spec.Request → Bool
-is_unserved (Some (spec.value path)) = true
 is_unserved (Some (spec.save file)) = true
 is_unserved _ = false
 
@@ -18,6 +17,7 @@ abbrev pub request_view : Request → Option spec.Request
 request_view (rust.Change edit) = Some (spec.change (edit_view edit))
 request_view (rust.Faults behind count) = Some (spec.faults behind count)
 request_view (rust.Below path) = Some (spec.below (path_view path))
+request_view (rust.Value path) = Some (spec.value (path_view path))
 request_view rust.Undo = Some spec.undo
 request_view rust.Document = Some spec.document
 request_view rust.Begin = Some spec.begin

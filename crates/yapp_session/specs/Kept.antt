@@ -1,5 +1,5 @@
 -- What a session keeps.
-use Rattle.std.specs.Prelude.{ℕ, Option, Some, None}
+use Rattle.std.specs.Prelude.{ℕ, Bool, Option, Some, None}
 use Rattle.yspec.specs.schema.Schema.{Schema}
 use Rattle.yspec.specs.document.Fitting.{Fits}
 use Rattle.yspec_session.specs.Remembering.{Kept, Later}
@@ -12,6 +12,7 @@ pub record Parts : Type 0 where
   pub live : live.Parts
   pub past : Past
   pub limit : ℕ
+  pub tells_changes : Bool
 
 abbrev pub LaterFits : Schema → Option Later → Type 0
 LaterFits schema None = Unit {0}

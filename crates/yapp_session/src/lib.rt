@@ -9,7 +9,10 @@ mod replying;
 mod request;
 mod rewinding;
 mod session;
+mod telling;
+mod turning;
 
 pub use past::{Later, Past, Since};
 pub use request::{Request, request_of};
 pub use session::Session;
+pub use telling::Earlier;

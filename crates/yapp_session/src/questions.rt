@@ -1,6 +1,6 @@
 //! What questions are answered.
 
-ghost use Rattle.std.specs.Prelude.{◌≡◌, ℕ, IfOk, Some, false, length, option_map, string_bytes};
+ghost use Rattle.std.specs.Prelude.{◌≡◌, ℕ, Bool, IfOk, IfSome, Some, false, length, option_map, string_bytes};
 ghost use Rattle.yspec.specs.document.Sorting.{IsSorted};
 ghost use Rattle.yspec_session.specs.Session as spec;
 ghost use Rattle.yspec_session.specs.Remembering.{Kept};
@@ -12,15 +12,16 @@ ghost use Rattle.yinst_path.specs.Applying.{told_by};
 ghost use Rattle.yinst_path.specs.EditView.{path_view};
 ghost use Rattle.yinst.specs.Locating.{spots_view};
 ghost use Rattle.ylive.specs.View.{view};
-ghost use Rattle.yapp_session.specs.Answered.{Replies, below_text, page_text};
+ghost use Rattle.yapp_asking.specs.Asking.{found_view};
+ghost use Rattle.yapp_session.specs.Answered.{Replies, below_text, found_text, page_text, value_text};
 
 use crate::parts::{first_items, items_behind};
 use std::alloc::{AllocError, Global};
-use yapp_asking::{keep_below, place_of};
+use yapp_asking::{keep_below, place_of, value_at};
 use ycheck::Fault;
-use yinst::{EditFault, Path, Spot, Tree};
+use yinst::{EditFault, Path, Spot, Stored, Tree};
 use ylive::Live;
-use ysay_session::{document_text, edit_refused_text, listed_text};
+use ysay_session::{document_text, done_text, edit_refused_text, listed_text, value_text};
 use yschema_model::Schema;
 
 /// The faults behind so many, at most so many where that is said, and how many there are.
@@ -68,7 +69,7 @@ pub(crate) fn document(alloc: Global, live: &Live) -> Result<String, AllocError>
 
 /// The faults of a node and of all below it, and how many there are of all.
 pub(crate) fn below(alloc: Global, live: &Live, path: &Path) -> Result<String, AllocError>
-    ensures { IfOk result (λ text. (limit : ℕ) (k : Kept) → Replies limit (view live.now) k
+    ensures { IfOk result (λ text. (tells_changes : Bool) (limit : ℕ) (k : Kept) → Replies tells_changes limit (view live.now) k
         (spec.below (path_view path.now)) (string_bytes text) (view live.now) k) }
 {
     node_faults(alloc, live, path)
@@ -112,5 +113,35 @@ fn fault_text(alloc: Global, fault: EditFault) -> Result<String, AllocError>
     match fault {
         EditFault::Refused { code, doc } => edit_refused_text(alloc, code, doc),
         EditFault::Memory => Err(AllocError),
+    }
+}
+
+/// What is stored at a node.
+pub(crate) fn value(alloc: Global, live: &Live, path: &Path) -> Result<String, AllocError>
+    ensures { IfOk result (λ text. (tells_changes : Bool) (limit : ℕ) (k : Kept) → Replies tells_changes limit (view live.now) k
+        (spec.value (path_view path.now)) (string_bytes text) (view live.now) k) }
+{
+    node_value(alloc, live, path)
+}
+
+fn node_value(alloc: Global, live: &Live, path: &Path) -> Result<String, AllocError>
+    ensures { IfOk result (λ text. string_bytes text
+        ≡ value_text (view live.now) (path_view path.now)) }
+{
+    let tree = live.tree()?;
+    match value_at(alloc, live.schema(), &tree, path) {
+        Ok(found) => found_text(alloc, live.schema(), found),
+        Err(fault) => fault_text(alloc, fault),
+    }
+}
+
+/// A stored node, if there is one.
+fn found_text(alloc: Global, schema: &Schema, found: Option<&Stored>) -> Result<String, AllocError>
+    ensures { IfOk result (λ text. IfSome found.entry (λ stored. IsSorted (document_view.view stored.now).1)
+        → string_bytes text ≡ found_text (schema_view.view schema.now) (found_view found.entry)) }
+{
+    match found {
+        Some(stored) => value_text(alloc, schema, stored),
+        None => done_text(alloc),
     }
 }

@@ -3,21 +3,21 @@
 ghost use Rattle.std.specs.Prelude.{◌≡◌, IfOk, OnErr, false, string_bytes};
 ghost use Rattle.yspec.specs.edit.Live.{fault_count};
 ghost use Rattle.yspec_session.specs.Session as spec;
-ghost use Rattle.ysay_session.specs.AnswerText.{changed_text};
 ghost use Rattle.yinst_path.specs.EditView.{edit_view};
 ghost use Rattle.ylive.specs.View.{view};
 ghost use Rattle.yapp_session.specs.View.{past_view};
 ghost use Rattle.yapp_session.specs.Kept.{AreFit};
 ghost use Rattle.yapp_session.specs.Answered.{IsPlaced, Replies, Stays};
+ghost use Rattle.yapp_session.specs.Came.{Falls};
 
 use crate::past::Past;
 use crate::rewinding::rewind;
+use crate::telling::{seen, seen_text};
+use crate::turning::{turns_behind, turns_there};
 use std::alloc::{AllocError, Global};
 use yinst::{Edit, EditFault};
 use ylive::{Live, Refused};
-use ysay_session::{
-    begun_text, changed_text, done_text, edit_refused_text, not_begun_text, nothing_text,
-};
+use ysay_session::{begun_text, done_text, edit_refused_text, not_begun_text, nothing_text};
 
 /// Applies an edit and remembers it.
 pub(crate) fn change(
@@ -25,16 +25,19 @@ pub(crate) fn change(
     live: &mut Live,
     past: &mut Past,
     limit: usize,
+    tells_changes: bool,
     edit: Edit,
 ) -> Result<String, AllocError>
-    ensures answer { IfOk result (λ text. Replies limit (view live.old) (past_view past.old)
+    ensures answer { IfOk result (λ text. Replies tells_changes limit (view live.old) (past_view past.old)
         (spec.change (edit_view edit)) (string_bytes text) (view live.new) (past_view past.new)) }
     ensures stays { Stays (view live.old) (past_view past.old) (view live.new) (past_view past.new) }
     ensures memory { OnErr result (past_view past.new ≡ past_view past.old) }
 {
+    let earlier = seen(live, tells_changes)?;
+    let turns = turns_there(alloc, live, &earlier, &edit)?;
     match live.edit(&edit) {
         Ok(applied) => {
-            let text = changed_text(alloc, applied.before, applied.after)?;
+            let text = seen_text(alloc, live, earlier, &turns, applied.before, applied.after)?;
             past.add(limit, edit)?;
             Ok(text)
         }
@@ -52,17 +55,25 @@ fn count_of(live: &Live) -> usize
     live.fault_count().unwrap_or(0)
 }
 
-/// Puts a live document to where it was behind the first groups of edits, and tells how many faults there were and are.
-fn go_back(alloc: Global, live: &mut Live, past: &Past, groups: usize) -> Result<String, AllocError>
+/// Puts a live document to where it was behind the first groups of edits, and tells what came of its faults.
+fn go_back(
+    alloc: Global,
+    live: &mut Live,
+    past: &Past,
+    groups: usize,
+    tells_changes: bool,
+) -> Result<String, AllocError>
     requires { AreFit (view live.old).schema (past_view past.now) }
-    ensures text { IfOk result (λ text. (view live.old).is_stale ≡ false
-        → string_bytes text ≡ changed_text (fault_count (view live.old)) (fault_count (view live.new))) }
+    ensures text { IfOk result (λ text. Falls tells_changes (view live.old) (past_view past.now) groups
+        (string_bytes text) (view live.new)) }
     ensures live { IfOk result (λ text. IsPlaced (view live.old).schema (past_view past.now) groups (view live.new)) }
     ensures schema { (view live.new).schema ≡ (view live.old).schema }
 {
     let before = count_of(live);
+    let earlier = seen(live, tells_changes)?;
     rewind(live, past, groups)?;
-    changed_text(alloc, before, count_of(live))
+    let turns = turns_behind(alloc, live, past, groups, tells_changes)?;
+    seen_text(alloc, live, earlier, &turns, before, count_of(live))
 }
 
 /// Takes back the last group of edits that is remembered.
@@ -71,9 +82,10 @@ pub(crate) fn undo(
     live: &mut Live,
     past: &mut Past,
     limit: usize,
+    tells_changes: bool,
 ) -> Result<String, AllocError>
     requires { AreFit (view live.old).schema (past_view past.old) }
-    ensures answer { IfOk result (λ text. Replies limit (view live.old) (past_view past.old)
+    ensures answer { IfOk result (λ text. Replies tells_changes limit (view live.old) (past_view past.old)
         spec.undo (string_bytes text) (view live.new) (past_view past.new)) }
     ensures stays { Stays (view live.old) (past_view past.old) (view live.new) (past_view past.new) }
     ensures memory { OnErr result (past_view past.new ≡ past_view past.old) }
@@ -82,7 +94,7 @@ pub(crate) fn undo(
         return nothing_text(alloc);
     }
     let groups = past.groups().len().saturating_sub(1);
-    let text = go_back(alloc, live, past, groups)?;
+    let text = go_back(alloc, live, past, groups, tells_changes)?;
     past.take_back(groups);
     Ok(text)
 }
@@ -93,8 +105,9 @@ pub(crate) fn begin(
     live: &Live,
     past: &mut Past,
     limit: usize,
+    tells_changes: bool,
 ) -> Result<String, AllocError>
-    ensures answer { IfOk result (λ text. Replies limit (view live.now) (past_view past.old)
+    ensures answer { IfOk result (λ text. Replies tells_changes limit (view live.now) (past_view past.old)
         spec.begin (string_bytes text) (view live.now) (past_view past.new)) }
     ensures stays { Stays (view live.now) (past_view past.old) (view live.now) (past_view past.new) }
     ensures memory { OnErr result (past_view past.new ≡ past_view past.old) }
@@ -113,8 +126,9 @@ pub(crate) fn commit(
     live: &Live,
     past: &mut Past,
     limit: usize,
+    tells_changes: bool,
 ) -> Result<String, AllocError>
-    ensures answer { IfOk result (λ text. Replies limit (view live.now) (past_view past.old)
+    ensures answer { IfOk result (λ text. Replies tells_changes limit (view live.now) (past_view past.old)
         spec.commit (string_bytes text) (view live.now) (past_view past.new)) }
     ensures stays { Stays (view live.now) (past_view past.old) (view live.now) (past_view past.new) }
     ensures memory { OnErr result (past_view past.new ≡ past_view past.old) }
@@ -133,9 +147,10 @@ pub(crate) fn back(
     live: &mut Live,
     past: &mut Past,
     limit: usize,
+    tells_changes: bool,
 ) -> Result<String, AllocError>
     requires { AreFit (view live.old).schema (past_view past.old) }
-    ensures answer { IfOk result (λ text. Replies limit (view live.old) (past_view past.old)
+    ensures answer { IfOk result (λ text. Replies tells_changes limit (view live.old) (past_view past.old)
         spec.back (string_bytes text) (view live.new) (past_view past.new)) }
     ensures stays { Stays (view live.old) (past_view past.old) (view live.new) (past_view past.new) }
     ensures memory { OnErr result (past_view past.new ≡ past_view past.old) }
@@ -143,7 +158,7 @@ pub(crate) fn back(
     let Some(since) = past.begun() else {
         return not_begun_text(alloc);
     };
-    let text = go_back(alloc, live, past, since.groups)?;
+    let text = go_back(alloc, live, past, since.groups, tells_changes)?;
     past.back(since);
     Ok(text)
 }

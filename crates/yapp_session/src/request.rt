@@ -20,12 +20,14 @@ pub enum Request {
     Faults { behind: usize, count: Option<usize> },
     /// The faults of a node and of all below it.
     Below(Path),
+    /// What is stored at a node.
+    Value(Path),
     Undo,
     Document,
     Begin,
     Commit,
     Back,
-    /// What is stored at a node, or to save.
+    /// To save.
     Unserved,
 }
 
@@ -130,7 +132,7 @@ fn value_asked(alloc: Global, text: &str) -> Result<Option<Request>, AllocError>
     ensures { IfOk result (λ asked. Asks asked (option_map value (spec.path_alone (operands text.now)))) }
 {
     match path_alone(alloc, text)? {
-        Some(_) => Ok(Some(Request::Unserved)),
+        Some(path) => Ok(Some(Request::Value(path))),
         None => Ok(None),
     }
 }

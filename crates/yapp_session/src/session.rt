@@ -11,13 +11,12 @@ ghost use Rattle.yapp_session.specs.Kept.{AreFit};
 ghost use Rattle.yapp_session.specs.Answered.{Holds, IsPlaced, Says, Stays, Told};
 
 use crate::past::Past;
-use crate::questions::{below, document, page};
+use crate::questions::{below, document, page, value};
 use crate::replying::{back, begin, change, commit, undo};
 use crate::request::{Request, request_of};
 use crate::rewinding::rewind;
 use std::alloc::{AllocError, Global};
 use std::marker::Model;
-use ybase_talk::Answerer;
 use ylive::Live;
 use ysay_session::{not_understood_text, short_text, unserved_text};
 
@@ -28,6 +27,7 @@ pub struct Session {
     live: Live,
     past: Past,
     limit: usize,
+    tells_changes: bool,
 }
 
 impl Model for Session {
@@ -40,24 +40,31 @@ impl Model for Session {
 
     ghost coded = { Prim.hlevel (codes, lives.the_row.coded, pasts.the_row.coded) };
 
-    ghost view = { λ a. record { live = a.live; past = a.past; limit = a.limit } };
+    ghost view = { λ a. record { live = a.live; past = a.past; limit = a.limit; tells_changes = a.tells_changes } };
 
     ghost invariant = { λ a. IsKept a.live a.past };
 }
 
 impl Session {
-    ghost use Rattle.std.specs.Prelude.{◌≡◌, IfErr, IfOk, false};
+    ghost use Rattle.std.specs.Prelude.{◌≡◌, IfErr, IfOk, false, string_bytes};
     ghost use Rattle.yspec_session.specs.Session.{opened};
     ghost use Rattle.ylive.specs.View.{view};
     ghost use Rattle.yapp_session.specs.View.{past_view};
-    ghost use Rattle.yapp_session.specs.Answered.{Holds};
+    ghost use Rattle.yapp_session.specs.Answered.{AnswersLine, Holds};
 
-    /// A session over a live document, in which so many edits can be taken back. Where memory runs out it is given back.
-    pub fn open(alloc: Global, live: Live, limit: usize) -> Result<Session, Live>
+    /// A session over a live document, in which so many edits can be taken back, and perhaps which faults are new and which are
+    /// gone is told of each change. Where memory runs out the document is given back.
+    pub fn open(
+        alloc: Global,
+        live: Live,
+        limit: usize,
+        tells_changes: bool,
+    ) -> Result<Session, Live>
         ensures opened { IfOk result (λ session. (view live).is_stale ≡ false
             → Holds (view session.live) (past_view session.past) (opened (view live).tree)) }
         ensures schema { IfOk result (λ session. (view session.live).schema ≡ (view live).schema) }
         ensures limit { IfOk result (λ session. session.limit ≡ limit) }
+        ensures changes { IfOk result (λ session. session.tells_changes ≡ tells_changes) }
         ensures err { IfErr result (λ given. given ≡ live) }
     {
         match live.tree() {
@@ -66,6 +73,7 @@ impl Session {
                 live,
                 past: Past::of(alloc, base),
                 limit,
+                tells_changes,
             }),
             Err(_) => Err(live),
         }
@@ -77,16 +85,20 @@ impl Session {
     {
         &self.live
     }
-}
 
-impl Answerer for Session {
-    ghost use Rattle.yapp_session.specs.Answered.{AnswersLine};
-
-    ghost answers = { AnswersLine };
-
-    fn answer(&mut self, line: &[u8]) -> Result<String, AllocError> {
+    /// The answer to a line.
+    pub fn answer(&mut self, line: &[u8]) -> Result<String, AllocError>
+        ensures { IfOk result (λ text. AnswersLine self.old line.now (string_bytes text) self.new) }
+    {
         let alloc = self.alloc;
-        match answer_line(alloc, &mut self.live, &mut self.past, self.limit, line) {
+        match answer_line(
+            alloc,
+            &mut self.live,
+            &mut self.past,
+            self.limit,
+            self.tells_changes,
+            line,
+        ) {
             Ok(text) => {
                 settle(&self.live, &mut self.past, self.limit);
                 Ok(text)
@@ -102,16 +114,17 @@ fn answer_line(
     live: &mut Live,
     past: &mut Past,
     limit: usize,
+    tells_changes: bool,
     line: &[u8],
 ) -> Result<String, AllocError>
     requires { AreFit (view live.old).schema (past_view past.old) }
-    ensures answer { IfOk result (λ text. Says limit (view live.old) (past_view past.old)
+    ensures answer { IfOk result (λ text. Says tells_changes limit (view live.old) (past_view past.old)
         (request_of line.now) (string_bytes text) (view live.new) (past_view past.new)) }
     ensures stays { Stays (view live.old) (past_view past.old) (view live.new) (past_view past.new) }
     ensures memory { OnErr result (past_view past.new ≡ past_view past.old) }
 {
     match request_of(alloc, line)? {
-        Some(request) => reply(alloc, live, past, limit, request),
+        Some(request) => reply(alloc, live, past, limit, tells_changes, request),
         None => not_understood_text(alloc),
     }
 }
@@ -152,23 +165,25 @@ fn reply(
     live: &mut Live,
     past: &mut Past,
     limit: usize,
+    tells_changes: bool,
     request: Request,
 ) -> Result<String, AllocError>
     requires { AreFit (view live.old).schema (past_view past.old) }
-    ensures answer { IfOk result (λ text. Told limit (view live.old) (past_view past.old)
+    ensures answer { IfOk result (λ text. Told tells_changes limit (view live.old) (past_view past.old)
         (request_view request) (string_bytes text) (view live.new) (past_view past.new)) }
     ensures stays { Stays (view live.old) (past_view past.old) (view live.new) (past_view past.new) }
     ensures memory { OnErr result (past_view past.new ≡ past_view past.old) }
 {
     match request {
-        Request::Change(edit) => change(alloc, live, past, limit, edit),
+        Request::Change(edit) => change(alloc, live, past, limit, tells_changes, edit),
         Request::Faults { behind, count } => page(alloc, live, behind, count),
         Request::Below(path) => below(alloc, live, &path),
-        Request::Undo => undo(alloc, live, past, limit),
+        Request::Value(path) => value(alloc, live, &path),
+        Request::Undo => undo(alloc, live, past, limit, tells_changes),
         Request::Document => document(alloc, live),
-        Request::Begin => begin(alloc, live, past, limit),
-        Request::Commit => commit(alloc, live, past, limit),
-        Request::Back => back(alloc, live, past, limit),
+        Request::Begin => begin(alloc, live, past, limit, tells_changes),
+        Request::Commit => commit(alloc, live, past, limit, tells_changes),
+        Request::Back => back(alloc, live, past, limit, tells_changes),
         Request::Unserved => unserved_text(alloc),
     }
 }

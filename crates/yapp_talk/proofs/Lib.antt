@@ -1,1 +1,2 @@
+pub mod SavingLemmas
 pub mod TalkingLemmas

@@ -1,22 +1,22 @@
 //! A talk from its beginning to its end.
 
-ghost use Rattle.std.specs.Prelude.{◌≡◌, [], false, if◌then◌else◌, is_ok, string_bytes};
+ghost use Rattle.std.specs.Prelude.{◌≡◌, [], false, if◌then◌else◌, is_ok};
 ghost use Rattle.yspec_opening.specs.Closing as spec;
 ghost use Rattle.ybase_output.specs.Writing.{side};
+ghost use Rattle.ybase_talk.specs.Talk.{party};
+ghost use Rattle.yapp_words.specs.Command.{opening_view};
 ghost use Rattle.yapp_words.specs.Running.{Ends};
 ghost use Rattle.ylive.specs.View.{view};
 ghost use Rattle.yapp_talk.specs.Watching.{close_of};
-ghost use Rattle.yapp_talk.specs.Talked.{Begins, HoldsOn, IsTalk, IsThere, fresh};
+ghost use Rattle.yapp_talk.specs.Talked.{Begins, HoldsOn, IsTalk, IsThere};
 
 use crate::watching::Watched;
 use std::alloc::Global;
 use yapp_session::Session;
+use yapp_words::Opening;
 use ybase_output::{Sink, SinkFault, write_texts};
 use ybase_talk::{Caller, TalkFault, converse};
 use ylive::Live;
-
-/// How many edits of a session can be taken back.
-const MOST_REMEMBERED: usize = 1000;
 
 /// What is said where a talk ends.
 fn closing_text(ended: Result<(), TalkFault>, with_reasons: bool) -> &'static str
@@ -68,7 +68,7 @@ fn hold<C: Caller, E: Sink>(
     errors: &mut E,
 ) -> u8
     requires { IsThere watched }
-    ensures { HoldsOn watched [] with_reasons (C.events caller.old) (C.events caller.new)
+    ensures { HoldsOn watched [] with_reasons (party C.events C.failures caller.old) (party C.events C.failures caller.new)
         (side E.taken E.failures errors.old) (side E.taken E.failures errors.new) result }
 {
     let ended = converse(caller, &mut watched);
@@ -78,36 +78,29 @@ fn hold<C: Caller, E: Sink>(
     end_with(closing_text(ended, with_reasons), status, errors)
 }
 
-/// Says what is known of conditions, and holds the talk of a session that is new.
+/// Says what is known of conditions, and holds the talk of a session.
 fn begin<C: Caller, E: Sink>(
-    session: Session,
+    watched: Watched,
     note: &str,
     with_reasons: bool,
     caller: &mut C,
     errors: &mut E,
 ) -> u8
-    requires { IsThere (fresh session) }
-    ensures { Begins session note.now with_reasons (C.events caller.old) (C.events caller.new)
+    requires { IsThere watched }
+    ensures { Begins watched note.now with_reasons (party C.events C.failures caller.old) (party C.events C.failures caller.new)
         (side E.taken E.failures errors.old) (side E.taken E.failures errors.new) result }
 {
     match write_texts(errors, &[note]) {
-        Ok(()) => hold(
-            Watched {
-                session,
-                has_refused: false,
-            },
-            with_reasons,
-            caller,
-            errors,
-        ),
+        Ok(()) => hold(watched, with_reasons, caller, errors),
         Err(SinkFault) => 4,
     }
 }
 
-/// Opens a session over a live document, says what is known of the conditions of its modules, and answers requests until there
-/// are no more. Answers the exit status.
+/// Opens a session over a live document, as words ask for it, says what is known of the conditions of its modules, and answers
+/// requests until there are no more. Answers the exit status.
 pub fn talk<C: Caller, E: Sink>(
     alloc: Global,
+    opening: &Opening<'_>,
     live: Live,
     note: &str,
     with_reasons: bool,
@@ -115,11 +108,19 @@ pub fn talk<C: Caller, E: Sink>(
     errors: &mut E,
 ) -> u8
     requires { (view live).is_stale ≡ false }
-    ensures { IsTalk (view live).schema (view live).tree note.now with_reasons (C.events caller.old) (C.events caller.new)
+    ensures { IsTalk (opening_view opening.now) (view live).schema (view live).tree note.now with_reasons
+        (party C.events C.failures caller.old) (party C.events C.failures caller.new)
         (side E.taken E.failures errors.old) (side E.taken E.failures errors.new) result }
 {
-    match Session::open(alloc, live, MOST_REMEMBERED) {
-        Ok(session) => begin(session, note, with_reasons, caller, errors),
+    match Session::open(alloc, live, opening.remembers, opening.tells_changes) {
+        Ok(session) => {
+            let watched = Watched {
+                alloc,
+                session,
+                has_refused: false,
+            };
+            begin(watched, note, with_reasons, caller, errors)
+        }
         Err(_) => end_with("memory\n", 4, errors),
     }
 }

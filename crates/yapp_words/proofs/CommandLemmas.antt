@@ -18,7 +18,7 @@ use Rattle.clap.specs.declared.parser.matches.Found.{Found}
 use Rattle.clap.proofs.WalkLemmas.{first_value-rows, raw_values-rows}
 use Rattle.clap.proofs.OnLiterals.{clap_on_literals}
 use Rattle.yapp_words.specs.Application.{IsArgument, IsCommand, yanglive}
-use Rattle.yapp_words.specs.Command.{Declines, Explains, Refuses, Takes, TakesFit, asked_by, asked_of, asks_help, conditions_in_core, drawing_by, explained_by, features_in_core, is_help, misuse_fault, named_stream, reads_input_twice, reads_requests_twice, refused_pair, refused_value, unfit_conditions, unfit_features, unknown_format, unknown_profile, value_of}
+use Rattle.yapp_words.specs.Command.{Declines, Explains, Refuses, Takes, TakesFit, asked_by, asked_of, asks_help, conditions_in_core, drawing_by, explained_by, features_in_core, is_help, misuse_fault, named_stream, reads_input_twice, reads_requests_twice, refused_number, refused_pair, refused_value, unfit_conditions, unfit_count, unfit_features, unknown_format, unknown_profile, value_of}
 use Rattle.yapp_words.specs.Running.{refused, shown, with_text}
 use Rattle.yapp_words.specs.declared.command.CommandLine.{CommandLine}
 use Rattle.yapp_words.specs.declared.command.NoRequest.{NoRequest}
@@ -92,12 +92,20 @@ pub validate_same : (k l : Language) (d e : spec.Options) (a b : Text) (ms ns : 
 validate_same k l d e a b ms ns languages options documents modules =
     ap₂ (λ j f. validate j f a ms) languages options ∙ ap₂ (validate l e) documents modules
 
-abbrev pub over : Language → Bool → Text → List Text → Opening
-over language is_strict document modules =
-    record { language = language; is_strict = is_strict; document = document; modules = modules }
+abbrev pub over : Language → Bool → ℕ → Bool → Text → List Text → Opening
+over language is_strict remembers tells_changes document modules = record {
+  language = language;
+  is_strict = is_strict;
+  remembers = remembers;
+  tells_changes = tells_changes;
+  document = document;
+  modules = modules;
+}
 
-pub opening_same : (k l : Language) (d e : Bool) (a b : Text) (ms ns : List Text) → k ≡ l → d ≡ e → a ≡ b → ms ≡ ns → over k d a ms ≡ over l e b ns
-opening_same k l d e a b ms ns languages strict documents modules = ap₂ (λ j f. over j f a ms) languages strict ∙ ap₂ (over l e) documents modules
+pub opening_same : (k l : Language) (d e : Bool) (m n : ℕ) (c f : Bool) (a b : Text) (ms ns : List Text) → k ≡ l → d ≡ e → m ≡ n → c ≡ f → a ≡ b → ms ≡ ns
+    → over k d m c a ms ≡ over l e n f b ns
+opening_same k l d e m n c f a b ms ns languages strict numbers changes documents modules =
+    ap₂ (λ j i. over j i m c a ms) languages strict ∙ (ap₂ (λ i j. over l e i j a ms) numbers changes ∙ ap₂ (over l e n f) documents modules)
 
 pub drawing_same : (a b : Bool) (k l : Language) (n m : Text) (xs ys : List Text) → a ≡ b → k ≡ l → n ≡ m → xs ≡ ys → drawing_by a k n xs ≡ drawing_by b l m ys
 drawing_same a b k l n m xs ys all languages names modules = ap₂ (λ c j. drawing_by c j n xs) all languages ∙ ap₂ (drawing_by b l) names modules
@@ -153,6 +161,10 @@ value_refused : (o : Option Text) → IsRefused (refused_value o)
 value_refused None text is = absurd (is refl)
 value_refused (Some name) text is = ((λ e. cc), refl)
 
+number_refused : (o : Option Text) → IsRefused (refused_number o)
+number_refused None text is = absurd (is refl)
+number_refused (Some word) text is = ((λ e. cc), refl)
+
 pair_refused : (b : Bool) → IsRefused (refused_pair b)
 pair_refused false text is = absurd (is refl)
 pair_refused true text is = ((λ e. cc), refl)
@@ -160,12 +172,13 @@ pair_refused true text is = ((λ e. cc), refl)
 misused : (command : Option (Text × List Row)) → IsRefused (misuse_fault command)
 misused command =
     refused_first _ _ (value_refused (unknown_format command))
+    (refused_first _ _ (number_refused (unfit_count command))
     (refused_first _ _
     (refused_first _ _
     (refused_first _ _ (value_refused (unknown_profile command)) (refused_first _ _ (value_refused (unfit_features command)) (pair_refused (features_in_core command))))
     (refused_first _ _ (value_refused (unfit_conditions command)) (pair_refused (conditions_in_core command))))
     (refused_first _ _ (value_refused (named_stream command))
-    (refused_first _ _ (pair_refused (reads_input_twice command)) (pair_refused (reads_requests_twice command)))))
+    (refused_first _ _ (pair_refused (reads_input_twice command)) (pair_refused (reads_requests_twice command))))))
 
 -- a refusal of the first of two causes is one of both
 pub refuses_first : (kinds others : Kinds) (a : NoRequest) → Refuses kinds (Some a) → Refuses (or_else kinds others) (Some a)

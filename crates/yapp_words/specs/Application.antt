@@ -59,10 +59,10 @@ abbrev pub edit_app : App
 edit_app = with_rule (with_rule (with_rule (with_rule (with_rule (over_document (codes "edit")) (flag (codes "dump")))
     (option (codes "output"))) (wanted (codes "DATA"))) (wanted (codes "SCRIPT"))) (wanted_all (codes "MODULE"))
 
--- `session ..` with these of a command over files, `[--strict] DATA MODULE..`
+-- `session ..` with these of a command over files, `[--strict] [--undo N] [--changes] DATA MODULE..`
 abbrev pub session_app : App
-session_app = with_rule (with_rule (with_rule (over_files (codes "session")) (flag (codes "strict"))) (wanted (codes "DATA")))
-    (wanted_all (codes "MODULE"))
+session_app = with_rule (with_rule (with_rule (with_rule (with_rule (over_files (codes "session")) (flag (codes "strict")))
+    (option (codes "undo"))) (flag (codes "changes"))) (wanted (codes "DATA"))) (wanted_all (codes "MODULE"))
 
 -- `explain [CODE..]`
 abbrev pub explain_app : App

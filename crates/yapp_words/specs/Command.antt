@@ -1,7 +1,8 @@
 -- What the words of a command line ask for, by clap's own definition of what it takes.
-use Rattle.std.specs.Prelude.{◌≡◌, ◌&&◌, ◌||◌, not, Bool, true, false, List, [], ◌∷◌, map, codes, Option, Some, None, option_map, unwrap_or, Result, Ok, Err, if◌then◌else◌}
+use Rattle.std.specs.Prelude.{◌≡◌, ◌&&◌, ◌||◌, not, Bool, true, false, List, [], ◌∷◌, map, codes, ℕ, Option, Some, None, is_some, option_and_then, option_map, unwrap_or, Result, Ok, Err, if◌then◌else◌}
 use Rattle.std.specs.List.{list_any}
 use Rattle.std.specs.Str.{bytes_eq}
+use Rattle.yspec.specs.linking.Arguments.{count_of}
 use Rattle.yspec_wide.specs.Language.{Language, core}
 use Rattle.yspec_run.specs.Output as spec
 use Rattle.yspec_run.specs.Output.{explain, compile, draw, draw_all, validate, edit}
@@ -9,7 +10,7 @@ use Rattle.yspec_opening.specs.Opening.{Asked, Opening, report, session}
 use Rattle.clap.specs.Kinds.{or_else}
 use Rattle.clap.specs.Words.{Kinds, Row, Text, all_of, fault_of, first_of, subcommand_of}
 use Rattle.clap.specs.declared.error.kind.ErrorKind.{ErrorKind}
-use Rattle.clap.specs.declared.error.kind.ErrorKind.TheVariants.{ArgumentConflict, DisplayHelp, DisplayVersion, InvalidSubcommand, InvalidValue, OutOfMemory}
+use Rattle.clap.specs.declared.error.kind.ErrorKind.TheVariants.{ArgumentConflict, DisplayHelp, DisplayVersion, InvalidSubcommand, InvalidValue, OutOfMemory, ValueValidation}
 use Rattle.ylink_grammar.specs.LanguageView.{language_view}
 use Rattle.yapp_words.specs.Application.{yanglive}
 use Rattle.yapp_words.specs.Languages.{chooses_in_core, choosings_of, is_profile, language_of, passes_in_core, profile_of, unfit_choosing, unfit_unjudged, unjudged_word}
@@ -60,6 +61,16 @@ format_of rows = unwrap_or (first_of (codes "format") rows) (codes "text")
 abbrev pub is_format : Text → Bool
 is_format name = bytes_eq name (codes "text") || bytes_eq name (codes "json")
 
+-- how many edits of a session can be taken back: 1000 unless it is said
+abbrev pub most_remembered : ℕ
+most_remembered = 1000
+
+abbrev pub remembered_by : Option Text → ℕ
+remembered_by word = unwrap_or (option_and_then count_of word) most_remembered
+
+abbrev pub remembers_of : List Row → ℕ
+remembers_of rows = remembered_by (first_of (codes "undo") rows)
+
 -- ---- why words are refused
 
 -- a format that isn't known, where a command's arguments name one
@@ -91,6 +102,15 @@ unfit_conditions (Some command) = unfit_unjudged (unjudged_word command.1)
 abbrev pub conditions_in_core : Option (Text × List Row) → Bool
 conditions_in_core None = false
 conditions_in_core (Some command) = passes_in_core command.1
+
+abbrev pub no_count : Option Text → Option Text
+no_count None = None
+no_count (Some word) = if is_some (count_of word) then None else Some word
+
+-- a word that is no number up to the largest, where they say so how many edits can be taken back
+abbrev pub unfit_count : Option (Text × List Row) → Option Text
+unfit_count None = None
+unfit_count (Some command) = no_count (first_of (codes "undo") command.1)
 
 -- what is no file, so no document can be put in its place
 abbrev pub streams : List Text
@@ -124,6 +144,11 @@ abbrev pub refused_value : Option Text → Kinds
 refused_value None = []
 refused_value (Some name) = InvalidValue ∷ []
 
+-- and as it refuses one that is no number
+abbrev pub refused_number : Option Text → Kinds
+refused_number None = []
+refused_number (Some word) = ValueValidation ∷ []
+
 abbrev pub refused_pair : Bool → Kinds
 refused_pair is_pair = if is_pair then ArgumentConflict ∷ [] else []
 
@@ -146,7 +171,8 @@ file_fault command = or_else (refused_value (named_stream command))
     (or_else (refused_pair (reads_input_twice command)) (refused_pair (reads_requests_twice command)))
 
 abbrev pub misuse_fault : Option (Text × List Row) → Kinds
-misuse_fault command = or_else (refused_value (unknown_format command)) (or_else (language_fault command) (file_fault command))
+misuse_fault command = or_else (refused_value (unknown_format command)) (or_else (refused_number (unfit_count command))
+    (or_else (language_fault command) (file_fault command)))
 
 -- why words are refused as they stand, or answered with a text in their place: empty where they are taken
 abbrev pub faults_of : List Text → Kinds
@@ -196,6 +222,8 @@ abbrev pub opening_of : List Row → Opening
 opening_of rows = record {
   language = language_of rows;
   is_strict = is_given (codes "strict") rows;
+  remembers = remembers_of rows;
+  tells_changes = is_given (codes "changes") rows;
   document = value_of (codes "DATA") rows;
   modules = modules_of rows;
 }
@@ -253,6 +281,8 @@ abbrev pub opening_view : given.Opening → Opening
 opening_view o = record {
   language = language_view o.language;
   is_strict = o.is_strict;
+  remembers = o.remembers;
+  tells_changes = o.tells_changes;
   document = o.document.now;
   modules = map (λ name. name.now) o.modules.items;
 }

@@ -258,7 +258,28 @@ fn edit_command<'a>(alloc: Global) -> Result<Command<'a>, AllocError>
     .arg(modules_argument(alloc))
 }
 
-/// `session ..` with these, `[--strict] DATA MODULE..`
+/// `--undo N`
+fn undo_argument<'a>(alloc: Global) -> Arg<'a>
+    ensures { IsArgument (option (codes "undo")) result }
+{
+    Arg::new(alloc, "undo")
+        .long("undo")
+        .action(ArgAction::Set)
+        .value_name("N")
+        .help("How many edits can be taken back, the last first; 1000 where it isn't said")
+}
+
+/// `--changes`
+fn changes_argument<'a>(alloc: Global) -> Arg<'a>
+    ensures { IsArgument (flag (codes "changes")) result }
+{
+    Arg::new(alloc, "changes")
+        .long("changes")
+        .action(ArgAction::SetTrue)
+        .help("Tells of each change which faults come and go")
+}
+
+/// `session ..` with these, `[--strict] [--undo N] [--changes] DATA MODULE..`
 fn session_command<'a>(alloc: Global) -> Result<Command<'a>, AllocError>
     ensures { IfOk result (IsCommand session_app) }
 {
@@ -269,6 +290,8 @@ fn session_command<'a>(alloc: Global) -> Result<Command<'a>, AllocError>
         SESSION_HELP,
     )?
     .arg(strict_argument(alloc))?
+    .arg(undo_argument(alloc))?
+    .arg(changes_argument(alloc))?
     .arg(document_argument(alloc, "The file of the document, in JSON"))?
     .arg(modules_argument(alloc))
 }

@@ -6,7 +6,7 @@ ghost use Rattle.clap.specs.Words.{fault_of, first_of, found_of, kind_of, rows_o
 ghost use Rattle.yapp_words.specs.Application.{yanglive};
 ghost use Rattle.yapp_words.specs.Command as spec;
 ghost use Rattle.ylink_grammar.specs.LanguageView.{language_view};
-ghost use Rattle.yapp_words.specs.Command.{Declines, Explains, IsRefusal, Refuses, Takes, TakesFit, Understands, asks_help, asked_by, asked_of, asked_view, compilation_of, condition_fault, drawing_of, edition_of, explained_by, explanation_of, feature_fault, file_fault, format_of, language_fault, is_given, modules_of, opening_of, opening_view, options_of, options_view, reported_of, validation_of, value_of, view};
+ghost use Rattle.yapp_words.specs.Command.{Declines, Explains, IsRefusal, Refuses, Takes, TakesFit, Understands, asks_help, asked_by, asked_of, asked_view, compilation_of, condition_fault, drawing_of, edition_of, explained_by, explanation_of, feature_fault, file_fault, format_of, language_fault, is_given, modules_of, opening_of, opening_view, options_of, options_view, remembers_of, reported_of, validation_of, value_of, view};
 ghost use Rattle.yapp_words.specs.declared.command.NoRequest.TheVariants.{Memory};
 
 use crate::arguments::application;
@@ -18,7 +18,11 @@ use clap::ArgMatches;
 use clap::error::ErrorKind;
 use std::alloc::{AllocError, Global};
 use thiserror::Error;
+use ylink_arguments::count;
 use ylink_grammar::Language;
+
+/// How many edits of a session can be taken back where it isn't said.
+const MOST_REMEMBERED: usize = 1000;
 
 /// What a command line asks for, and whether the reasons of what is told are wanted too.
 #[derive(Debug, Drop)]
@@ -42,6 +46,10 @@ pub struct Opening<'a> {
     pub language: Language,
     /// A document with a member that comes twice is refused.
     pub is_strict: bool,
+    /// So many edits can be taken back.
+    pub remembers: usize,
+    /// Of each change it is told which faults come and go.
+    pub tells_changes: bool,
     pub document: &'a str,
     pub modules: Vec<&'a str>,
 }
@@ -245,17 +253,48 @@ fn edition_in<'a>(alloc: Global, found: &ArgMatches<'a>) -> Result<Request<'a>, 
     })
 }
 
+/// The word that says how many edits of a session can be taken back.
+fn undo_in<'a>(found: &ArgMatches<'a>) -> Option<&'a str>
+    ensures { option_map (λ word. word.now) result ≡ first_of (codes "undo") (rows_of (found_of found.now)) }
+{
+    found.get_str("undo")
+}
+
+/// The number that a word says, or as many as without one.
+fn remembered_by(word: Option<&str>) -> usize
+    ensures { result ≡ spec.remembered_by (option_map (λ word. word.now) word.entry) }
+{
+    match word {
+        Some(word) => match count(word) {
+            Some(number) => number as usize,
+            None => MOST_REMEMBERED,
+        },
+        None => MOST_REMEMBERED,
+    }
+}
+
+/// How many edits of a session can be taken back.
+fn remembered_in(found: &ArgMatches<'_>) -> usize
+    ensures { result ≡ remembers_of (rows_of (found_of found.now)) }
+{
+    remembered_by(undo_in(found))
+}
+
 /// What the arguments of `session` ask for.
 fn opening_in<'a>(alloc: Global, found: &ArgMatches<'a>) -> Result<Opening<'a>, AllocError>
     ensures { IfOk result (λ o. opening_view o ≡ opening_of (rows_of (found_of found.now))) }
 {
     let is_strict = has_flag(found, "strict");
+    let remembers = remembered_in(found);
+    let tells_changes = has_flag(found, "changes");
     let document = found.get_str("DATA").unwrap_or("");
     let language = language_in(alloc, found)?;
     let modules = modules_in(alloc, found)?;
     Ok(Opening {
         language,
         is_strict,
+        remembers,
+        tells_changes,
         document,
         modules,
     })
@@ -392,6 +431,26 @@ fn conditions_in_core(matches: &ArgMatches<'_>) -> bool
     }
 }
 
+/// A word that is no number up to the largest, for how many edits can be taken back.
+fn unfit_count<'a>(matches: &ArgMatches<'a>) -> Option<&'a str>
+    ensures { option_map (λ word. word.now) result ≡ spec.unfit_count (subcommand_rows_of matches.now) }
+{
+    match matches.subcommand() {
+        Some((_, found)) => no_count(undo_in(found)),
+        None => None,
+    }
+}
+
+/// The word, where it is no number up to the largest.
+fn no_count(word: Option<&str>) -> Option<&str>
+    ensures { option_map (λ word. word.now) result ≡ spec.no_count (option_map (λ word. word.now) word.entry) }
+{
+    match word {
+        Some(word) if count(word).is_none() => Some(word),
+        _ => None,
+    }
+}
+
 /// A stream that is named for the edited document.
 fn named_stream<'a>(matches: &ArgMatches<'a>) -> Option<&'a str>
     ensures { option_map (λ name. name.now) result ≡ spec.named_stream (subcommand_rows_of matches.now) }
@@ -455,6 +514,15 @@ fn format_refusal(alloc: Global, format: &str) -> NoRequest
 {
     refusal(format!(in alloc;
         "error: invalid value '{format}' for '--format <FORMAT>'\n  [possible values: text, json]\n\nFor more information, try '--help'.\n"
+    ))
+}
+
+/// The refusal of a word that is no number up to the largest.
+fn count_refusal(alloc: Global, word: &str) -> NoRequest
+    ensures { IsRefusal result }
+{
+    refusal(format!(in alloc;
+        "error: invalid value '{word}' for '--undo <N>': it isn't a whole number in 0..=4294967295\n\nFor more information, try '--help'.\n"
     ))
 }
 
@@ -603,6 +671,9 @@ fn line_or_refusal<'a>(
 {
     if let Some(format) = unknown_format(matches) {
         return Err(format_refusal(alloc, format));
+    }
+    if let Some(word) = unfit_count(matches) {
+        return Err(count_refusal(alloc, word));
     }
     if let Some(refusal) = language_refusal(alloc, matches) {
         return Err(refusal);

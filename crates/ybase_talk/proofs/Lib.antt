@@ -1,1 +1,1 @@
-mod TalkLemmas
+pub mod TalkLemmas

@@ -3,7 +3,7 @@ use Rattle.std.proofs.Common.{◌≡◌, ℕ, suc, ◌≤◌, ◌+◌, Bool, tru
 use Rattle.std.specs.Prelude.{option_map}
 use Rattle.yspec.specs.Forest.{Forest, end, node, relabelled, size}
 use Rattle.yspec.specs.types.Types.{Raw}
-use Rattle.yspec.specs.schema.Schema.{Schema, SchemaNode, Kind, container, leaf, leaf_list, list, choice, case, is_many, has_value, data_row, child_in}
+use Rattle.yspec.specs.schema.Schema.{Schema, SchemaNode, Kind, container, leaf, leaf_list, list, choice, case, is_many, has_value, data_row, child_in, form_in}
 use Rattle.yspec.specs.schema.Configuration.{unasked, asked_node, configuration_schema}
 use Rattle.yspec.specs.document.Document.{Stored, Tree}
 use Rattle.yspec.specs.document.Fault.{Fault}
@@ -12,6 +12,7 @@ use Rattle.yspec.specs.document.Fitting.{Fits, FitsBy, next_after}
 use Rattle.yspec.specs.document.StateData.{Inspected, inspected, is_state, configuration_tree, state_faults}
 use Rattle.yspec.specs.document.Writing.{HasForm, HasTextIf, IsDocument}
 use Rattle.yspec.proofs.DocumentProofs.SortingLemmas.{child_number, fits_sooner, not_before}
+use Rattle.yspec_fit.proofs.ConfigurationLemmas as json_form
 use Rattle.yspec_fit.proofs.ConfigurationLemmas.{data_row_kept, kept_by, value_kept}
 
 -- ---- rows
@@ -73,7 +74,8 @@ module _ (s : Schema) (Held : SchemaNode → Option Raw → Type 0) (held : (n :
 
 -- values of a document stay such
 pub form_kept : (n : SchemaNode) (value : Option Raw) → HasForm n value → HasForm (asked_node n) value
-form_kept n value has = subst (λ b. HasTextIf b value) (sym (value_kept n)) has
+form_kept n value has = subst (λ form. HasTextIf (has_value (asked_node n).kind) form value) (sym (json_form.form_kept n))
+    (subst (λ b. HasTextIf b (form_in n.kind) value) (sym (value_kept n)) has)
 
 pub configuration_size : (s : Schema) (t : Tree) → size (configuration_tree s t) ≤ size t
 configuration_size s end = omega arith

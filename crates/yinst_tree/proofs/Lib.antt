@@ -9,3 +9,4 @@ pub mod VisitLemmas
 pub mod WalkLemmas
 pub mod WriteLemmas
 pub mod OrderLemmas
+pub mod NodeTextLemmas

@@ -6,7 +6,7 @@ use Rattle.yspec.specs.Forest.{size}
 use Rattle.yspec.specs.schema.Schema.{Schema}
 use Rattle.yspec.specs.document.Document.{Tree, Step, document_limit}
 use Rattle.yspec.specs.document.Reading.{Refusal, member_visits, first_refusal, stored_rows, denoted, json_of, tree_or_refusal, document_of}
-use Rattle.yspec.specs.document.Fitting.{IsNumbered, Fits}
+use Rattle.yspec.specs.document.Fitting.{IsNumbered, LeafsAreBare, Fits}
 use Rattle.yspec.specs.document.Writing.{NamesDiffer, IsDocument}
 use Rattle.yspec.proofs.DocumentProofs.FittingReadLemmas.{read_fits}
 use Rattle.yspec.proofs.DocumentProofs.ReadWholeLemmas.{read_whole}
@@ -60,12 +60,12 @@ pub fits_if_read : (given : Result tree.Tree DocFault) (s : Schema) (bytes : Lis
 fits_if_read (Ok t) s bytes numbered is = read_fits s bytes (tree_view t) numbered is
 fits_if_read (Err f) s bytes numbered is = tt
 
-pub whole_if_read : (given : Result tree.Tree DocFault) (s : Schema) (bytes : List ℕ) → IsNumbered 0 s.nodes → NamesDiffer s
+pub whole_if_read : (given : Result tree.Tree DocFault) (s : Schema) (bytes : List ℕ) → IsNumbered 0 s.nodes → NamesDiffer s → LeafsAreBare s.nodes
     → Gives tree_view told_by given (document_of s bytes) → IfOk given (λ t. IsDocument s (tree_view t))
-whole_if_read (Ok t) s bytes numbered differ is = read_whole s bytes (tree_view t) numbered differ is
-whole_if_read (Err f) s bytes numbered differ is = tt
+whole_if_read (Ok t) s bytes numbered differ bare is = read_whole s bytes (tree_view t) numbered differ bare is
+whole_if_read (Err f) s bytes numbered differ bare is = tt
 
-pub within_if_read : (given : Result tree.Tree DocFault) (s : Schema) (bytes : List ℕ) → NamesDiffer s
+pub within_if_read : (given : Result tree.Tree DocFault) (s : Schema) (bytes : List ℕ) → NamesDiffer s → LeafsAreBare s.nodes
     → Gives tree_view told_by given (document_of s bytes) → IfOk given (λ t. size (tree_view t) ≤ document_limit)
-within_if_read (Ok t) s bytes differ is = read_within s bytes (tree_view t) differ is
-within_if_read (Err f) s bytes differ is = tt
+within_if_read (Ok t) s bytes differ bare is = read_within s bytes (tree_view t) differ bare is
+within_if_read (Err f) s bytes differ bare is = tt

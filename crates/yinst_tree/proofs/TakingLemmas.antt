@@ -6,14 +6,14 @@ use Rattle.std.specs.BTreeMap.{is_at}
 use Rattle.std.specs.Cmp.Lexicographic.{slice_cmp}
 use Rattle.std.specs.Map.{remove_entry}
 use Rattle.std.specs.Ordering.{match_ordering}
-use Rattle.serde_json.specs.Data.{Data, object, Items, no_items, item, Members, no_members, member}
+use Rattle.serde_json.specs.Data.{Data, Items, no_items, item, Members, no_members, member}
 use Rattle.serde_json.specs.Find.{get_member}
 use Rattle.serde_json.specs.View as json
 use Rattle.serde_json.proofs.Views.{Entry}
 use Rattle.yspec.specs.Forest.{Forest, end, node, join}
 use Rattle.yspec.specs.text.Text.{Text}
 use Rattle.yspec.specs.types.Types.{Raw}
-use Rattle.yspec.specs.schema.Schema.{Schema, SchemaNode, Kind, is_data, is_many, has_value, data_row, written_name, node_at, children_of}
+use Rattle.yspec.specs.schema.Schema.{Schema, SchemaNode, is_data, is_many, data_row, written_name, node_at, children_of}
 use Rattle.yspec.specs.document.Document as spec
 use Rattle.yspec.specs.document.Document.{Tree}
 use Rattle.yspec.specs.document.Reading.{stored_node, raw_in, members_of, items_of, item_row, instance_row, stored_rows}
@@ -93,42 +93,14 @@ inside_taken s parent n below f so_far next is same so =
 
 -- ---- one instance
 
-nothing_held : (kind : Kind) (ms : Members) → None ≡ raw_in kind (object ms)
-nothing_held kind ms = by None (has_value kind)
-  where
-    by : (o : Option Raw) (b : Bool) → o ≡ cond b o o
-    by o true = refl
-    by o false = refl
-
--- an object, whose members are taken
-pub object_node : (s : Schema) (n : SchemaNode) (f : Forest SchemaNode) (d : Data) (seen : Stored) (ms left : Members) (start row : Tree)
-    → (view seen).0 ≡ record { schema_number = n.number; value = None } → (view seen).1 ≡ row → d ≡ object ms → start ≡ end
+pub node_taken : (s : Schema) (n : SchemaNode) (f : Forest SchemaNode) (d : Data) (seen : Stored) (ms left : Members) (start row : Tree) (v : Option Raw)
+    → (view seen).0 ≡ record { schema_number = n.number; value = v } → v ≡ raw_in n.kind d → (view seen).1 ≡ row → ms ≡ members_of d → start ≡ end
     → taken s (Some n.module_number) f (start, ms) ≡ (row, left) → view seen ≡ (stored_node n d, taken_in s n f d)
-object_node s n f d seen ms left start row label below is empty so =
-    let pair : spec.Stored → Tree → Labelled = λ l t. (l, t) in
-    let labelled : Option Raw → spec.Stored = λ v. record { schema_number = n.number; value = v } in
-    ap₂ pair (label ∙ ap labelled (nothing_held n.kind ms ∙ ap (raw_in n.kind) (sym is)))
-    (below ∙ (sym (ap (λ (t : Taken). t.0) so)
-    ∙ ap₂ (λ t (rest : Members). (taken s (Some n.module_number) f (t, rest)).0) empty (sym (ap members_of is))))
-
-taken_of_none : (s : Schema) (parent : Option ℕ) (f : Forest SchemaNode) (t : Tree) → (taken s parent f (t, no_members)) ≡ (t, no_members)
-unfolding taken
-taken_of_none s parent end t = refl
-taken_of_none s parent (node n below after) t = ap (taken s parent after) (by (is_data n.kind) (taken_of_none s parent below t)) ∙ taken_of_none s parent after t
-  where
-    by : (b : Bool) → taken s parent below (t, no_members) ≡ (t, no_members) → cond b (join t end, no_members) (taken s parent below (t, no_members)) ≡ (t, no_members)
-    by true inner = ap (λ (u : Tree). (u, no_members)) (join_end t)
-    by false inner = inner
-
--- a node that holds a value, below which nothing stands
-pub held_node : (s : Schema) (n : SchemaNode) (d : Data) (below : Forest SchemaNode) (seen : Stored) (v : Option Raw)
-    → (view seen).0 ≡ record { schema_number = n.number; value = v } → (view seen).1 ≡ end → v ≡ raw_in n.kind d → members_of d ≡ no_members
-    → view seen ≡ (stored_node n d, taken_in s n below d)
-held_node s n d below seen v label nothing held none =
+node_taken s n f d seen ms left start row v label held below are empty so =
     let pair : spec.Stored → Tree → Labelled = λ l t. (l, t) in
     let labelled : Option Raw → spec.Stored = λ v. record { schema_number = n.number; value = v } in
     ap₂ pair (label ∙ ap labelled held)
-    (nothing ∙ sym (ap (λ (ms : Members). (taken s (Some n.module_number) below (end, ms)).0) none ∙ ap (λ (t : Taken). t.0) (taken_of_none s (Some n.module_number) below end)))
+    (below ∙ (sym (ap (λ (t : Taken). t.0) so) ∙ ap₂ (λ t (rest : Members). (taken s (Some n.module_number) f (t, rest)).0) empty are))
 
 -- ---- what is taken is what stands
 

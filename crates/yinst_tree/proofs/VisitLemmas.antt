@@ -9,13 +9,13 @@ use Rattle.serde_json.specs.View as json
 use Rattle.serde_json.specs.declared.value.Value.{Value, Array, Object, the_lemmas}
 use Rattle.yspec.specs.Forest.{Forest}
 use Rattle.yspec.specs.text.Text.{Text}
-use Rattle.yspec.specs.schema.Schema.{Schema, SchemaNode, Kind, is_many, has_value, node_at, children_of}
+use Rattle.yspec.specs.schema.Schema.{Schema, SchemaNode, Kind, is_many, has_value, node_at, children_of, JsonForm, form_in}
 use Rattle.yspec.specs.types.Types.{Raw}
 use Rattle.yspec.specs.document.Document.{Step, step_to, step_at, below_place}
-use Rattle.yspec.specs.document.Reading.{Refusal, Visit, right, wrong, named, at_named, raw_of, refused_value, leaf_visit, value_visit, object_visit, member_visits, node_visits, item_visits, instance_visits, first_wrong}
-use Rattle.yspec.proofs.DocumentProofs.VisitLemmas.{one_visited, other_visited}
+use Rattle.yspec.specs.document.Reading.{Refusal, Visit, right, wrong, named, at_named, raw_by, refused_by, leaf_visit, value_visit, object_visit, member_visits, node_visits, item_visits, instance_visits, first_wrong}
+use Rattle.yspec.proofs.DocumentProofs.VisitLemmas.{one_visited, leaf_visited, other_visited}
 use Rattle.yspec.proofs.SchemaProofs.NumberLemmas.{number_at}
-use Rattle.yinst_tree.specs.Told.{Tells, Judges, leaf_refusal, refused_at, visits_at, told_within, Walks}
+use Rattle.yinst_tree.specs.Told.{Tells, Judges, refusal_by, refused_at, visits_at, told_within, Walks}
 use Rattle.yinst_tree.specs.declared.fault.DocFault.{DocFault}
 
 -- ---- walks
@@ -158,7 +158,7 @@ many_wrong s n below place (number x) many other = refused_many n.kind (below_pl
 many_wrong s n below place (string x) many other = refused_many n.kind (below_place place n) (value_visit n.kind (below_place place n) (string x)) many
 many_wrong s n below place (array ds) many other = absurd cc
 many_wrong s n below place (object ms) many other =
-    refused_many n.kind (below_place place n) (object_visit n.kind (below_place place n) (member_visits s (Some n.module_number) below (below_place place n) ms)) many
+    refused_many n.kind (below_place place n) (object_visit n.kind (below_place place n) ms (member_visits s (Some n.module_number) below (below_place place n) ms)) many
 
 pub visits_no_array : (s : Schema) (i : ℕ) (n : SchemaNode) (place here : List Step) (d : Data) → node_at s i ≡ Some n → is_many n.kind ≡ true → is_array d ≡ false
     → here ≡ place ++ step_to i ∷ [] → visits_at s i (λ n below. node_visits s n below place d) ≡ wrong 5 here ∷ []
@@ -167,11 +167,11 @@ visits_no_array s i n place here d is many other at =
     ∙ (many_wrong s n (children_of s i) place d many other
     ∙ (ap (λ j. wrong 5 (place ++ step_to j ∷ []) ∷ []) (number_at s.nodes i n is) ∙ ap (λ (p : List Step). wrong 5 p ∷ []) (sym at)))
 
-pub leaf_right : (place : List Step) (d : Data) → None ≡ leaf_refusal d → leaf_visit place d ≡ right place ∷ []
-leaf_right place d is = by (raw_of d) is
+pub leaf_right : (form : JsonForm) (place : List Step) (d : Data) → None ≡ refusal_by form d → leaf_visit form place d ≡ right place ∷ []
+leaf_right form place d is = by (raw_by form d) is
   where
-    by : (o : Option Raw) → None ≡ option_map_or (λ _. None) o (Some (refused_value d))
-        → option_map_or (λ _. right place ∷ []) o (wrong (refused_value d) place ∷ []) ≡ right place ∷ []
+    by : (o : Option Raw) → None ≡ option_map_or (λ _. None) o (Some (refused_by form d))
+        → option_map_or (λ _. right place ∷ []) o (wrong (refused_by form d) place ∷ []) ≡ right place ∷ []
     by None is = absurd cc
     by (Some raw) is = refl
 
@@ -222,23 +222,25 @@ unfolding instance_visits
 object_inside s i n place d ms is object_so other =
     visits_some s i n (λ n below. instance_visits s n below place d) is
     ∙ (ap (λ (e : Data). instance_visits s n (children_of s i) place e) object_so
-    ∙ ap (λ b. cond b (wrong 5 place ∷ []) (right place ∷ member_visits s (Some n.module_number) (children_of s i) place ms)) other)
-
-pub object_at_leaf : (s : Schema) (i : ℕ) (n : SchemaNode) (place : List Step) (d : Data) (ms : Members) → node_at s i ≡ Some n → d ≡ object ms → has_value n.kind ≡ true
-    → visits_at s i (λ n below. instance_visits s n below place d) ≡ wrong 5 place ∷ []
-unfolding instance_visits
-object_at_leaf s i n place d ms is object_so holds =
-    visits_some s i n (λ n below. instance_visits s n below place d) is
-    ∙ (ap (λ (e : Data). instance_visits s n (children_of s i) place e) object_so
-    ∙ ap (λ b. cond b (wrong 5 place ∷ []) (right place ∷ member_visits s (Some n.module_number) (children_of s i) place ms)) holds)
+    ∙ ap (λ b. cond b (leaf_visit (form_in n.kind) place (object ms)) (right place ∷ member_visits s (Some n.module_number) (children_of s i) place ms)) other)
 
 no_object : (v : Value) → ((m : _) → v ≡ Object m → ⊥) → as_object (json.view v) ≡ None
 no_object v h = search (rules, the_lemmas)
 
-pub value_inside : (s : Schema) (i : ℕ) (n : SchemaNode) (place : List Step) (v : Value) → node_at s i ≡ Some n → ((m : _) → v ≡ Object m → ⊥)
-    → visits_at s i (λ n below. instance_visits s n below place (json.view v)) ≡ value_visit n.kind place (json.view v)
-value_inside s i n place v is h =
-    visits_some s i n (λ n below. instance_visits s n below place (json.view v)) is ∙ other_visited s n (children_of s i) place (json.view v) (no_object v h)
+-- at a node that has a value
+pub leaf_at : (s : Schema) (i : ℕ) (n : SchemaNode) (place : List Step) (d : Data) → node_at s i ≡ Some n → has_value n.kind ≡ true
+    → visits_at s i (λ n below. instance_visits s n below place d) ≡ leaf_visit (form_in n.kind) place d
+leaf_at s i n place d is has =
+    visits_some s i n (λ n below. instance_visits s n below place d) is
+    ∙ (leaf_visited s n (children_of s i) place d has ∙ ap (λ b. cond b (leaf_visit (form_in n.kind) place d) (wrong 5 place ∷ [])) has)
+
+-- no object at another
+pub other_at : (s : Schema) (i : ℕ) (n : SchemaNode) (place : List Step) (v : Value) → node_at s i ≡ Some n → has_value n.kind ≡ false → ((m : _) → v ≡ Object m → ⊥)
+    → visits_at s i (λ n below. instance_visits s n below place (json.view v)) ≡ wrong 5 place ∷ []
+other_at s i n place v is has h =
+    visits_some s i n (λ n below. instance_visits s n below place (json.view v)) is
+    ∙ (other_visited s n (children_of s i) place (json.view v) (no_object v h)
+    ∙ ap (λ b. cond b (leaf_visit (form_in n.kind) place (json.view v)) (wrong 5 place ∷ [])) has)
 
 pub as_before : {X A : Type 0} (r : Result X DocFault) (x : A) → OnOk r (x ≡ x)
 as_before (Ok y) x = refl

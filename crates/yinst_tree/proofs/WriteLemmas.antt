@@ -8,8 +8,8 @@ use Rattle.serde_json.specs.Written.{has_float, compact_text}
 use Rattle.serde_json.specs.View as json
 use Rattle.serde_json.specs.declared.value.Value.{Value}
 use Rattle.yspec.specs.Forest.{Forest, end, node, levels, size}
-use Rattle.yspec.specs.schema.Schema.{Schema, SchemaNode, Kind, is_data, written_name}
-use Rattle.yspec.specs.schema.Breaks.{level_limit}
+use Rattle.yspec.specs.schema.Schema.{Schema, SchemaNode, Kind, is_data, written_name, has_anything}
+use Rattle.yspec.specs.schema.Breaks.{level_limit, low_level_limit}
 use Rattle.yspec.specs.document.Document.{Tree, document_limit}
 use Rattle.yspec.specs.document.Reading.{document_of}
 use Rattle.yspec.specs.document.Fitting.{IsNumbered, LeafsAreBare}
@@ -18,7 +18,7 @@ use Rattle.yspec.specs.document.Writing.{written_node, written_items, with_insta
 use Rattle.yspec.proofs.DocumentProofs.JsonLemmas.{json_found}
 use Rattle.yspec.proofs.DocumentProofs.ReadBackLemmas.{written_read}
 use Rattle.yspec.proofs.DocumentProofs.SortingLemmas.{fits_sorted}
-use Rattle.yspec.proofs.DocumentProofs.WrittenShapeLemmas.{levels_fit, no_fractions, written_depth}
+use Rattle.yspec.proofs.DocumentProofs.WrittenShapeLemmas.{no_fractions, written_shallow}
 use Rattle.yinst_tree.specs.View.{view, row_view}
 use Rattle.yinst_tree.specs.Walk.{mine, others, Left, walked, members_in}
 use Rattle.yinst_tree.proofs.WalkLemmas.{walked_on}
@@ -100,10 +100,9 @@ text_of s t d text numbered is so sorted =
     so (ap has_float whole ∙ no_fractions s t) ∙ ap compact_text whole
 
 pub text_read : (s : Schema) (t : Tree) (d : Data) (text : List ℕ) → IsNumbered 0 s.nodes → NamesDiffer s → LeafsAreBare s.nodes → levels s.nodes ≤ level_limit
-    → d ≡ object (members_in s None s.nodes t) → IsUtf8 text → (depth d ≤ max_depth → read text ≡ Some d) → IsDocument s t → size t ≤ document_limit → document_of s text ≡ Ok t
-text_read s t d text numbered differ bare few is utf8 reads whole within =
+    → (has_anything s.nodes ≡ true → levels s.nodes ≤ low_level_limit) → d ≡ object (members_in s None s.nodes t) → IsUtf8 text → (depth d ≤ max_depth → read text ≡ Some d) → IsDocument s t → size t ≤ document_limit → document_of s text ≡ Ok t
+text_read s t d text numbered differ bare few low is utf8 reads whole within =
     let value = value_is s t d numbered is (fits_sorted HasForm s.nodes 0 t whole) in
-    let lower = levels_fit HasForm s.nodes 0 t whole in
-    let deep = written_depth s t (levels s.nodes) lower in
+    let deep = written_shallow s t few low whole in
     let same = ap depth value in
-    written_read s t text numbered differ bare whole within (json_found text d utf8 (reads (omega (arith, deep, same, few))) ∙ ap Some value)
+    written_read s t text numbered differ bare whole within (json_found text d utf8 (reads (omega (arith, deep, same))) ∙ ap Some value)

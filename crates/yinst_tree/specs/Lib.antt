@@ -4,3 +4,4 @@ pub mod View
 pub mod Walk
 pub mod Rows
 pub mod Order
+pub mod Written

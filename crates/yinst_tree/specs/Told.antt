@@ -3,9 +3,9 @@ use Rattle.std.specs.Prelude.{◌≡◌, ℕ, List, [], ◌++◌, Option, Some, 
 use Rattle.std.specs.Option.{option_map_or}
 use Rattle.serde_json.specs.Data.{Data}
 use Rattle.yspec.specs.Forest.{Forest}
-use Rattle.yspec.specs.schema.Schema.{Schema, SchemaNode, node_at, children_of}
+use Rattle.yspec.specs.schema.Schema.{Schema, SchemaNode, JsonForm, any_value, node_at, children_of}
 use Rattle.yspec.specs.document.Document.{Step}
-use Rattle.yspec.specs.document.Reading.{Refusal, Visit, raw_of, refused_value, instance_visits, first_wrong, first_refusal, stored_node, stored_rows, members_of}
+use Rattle.yspec.specs.document.Reading.{Refusal, Visit, raw_of, refused_value, raw_by, refused_by, instance_visits, first_wrong, first_refusal, stored_node, stored_rows, members_of}
 use Rattle.yinst_tree.specs.View.{Labelled, place_view}
 use Rattle.yinst_tree.specs.declared.fault.DocCode.{DocCode}
 use Rattle.yinst_tree.specs.declared.fault.DocCode.TheVariants.{J1, J2, J3, J4, J5, J6, J7}
@@ -24,6 +24,13 @@ code_number J7 = 7
 -- the number of the refusal of a value at a leaf, where it is refused
 abbrev pub leaf_refusal : Data → Option ℕ
 leaf_refusal d = option_map_or (λ _. None) (raw_of d) (Some (refused_value d))
+
+-- of one of any form
+abbrev pub refusal_by : JsonForm → Data → Option ℕ
+refusal_by form d = option_map_or (λ _. None) (raw_by form d) (Some (refused_by form d))
+
+abbrev pub whole_refusal : Data → Option ℕ
+whole_refusal d = refusal_by any_value d
 
 -- what is refused of one instance of the node of a number, where a node has it
 abbrev pub refused_at : Schema → ℕ → List Step → Data → Option Refusal

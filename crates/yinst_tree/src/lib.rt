@@ -17,4 +17,4 @@ pub use fault::{DocCode, DocFault};
 pub use instances::instances_of;
 pub use reading::{DOCUMENT_LIMIT, check_node, read, read_node};
 pub use tree::{Step, Stored};
-pub use writing::{value_of_leaf, write};
+pub use writing::{value_of_leaf, write, write_node};

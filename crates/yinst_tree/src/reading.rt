@@ -1,10 +1,10 @@
 //! From bytes to a document.
 
-ghost use Rattle.std.specs.Prelude.{◌≡◌, ◌≤◌, [], IfOk, OnOk, Some, option_map};
+ghost use Rattle.std.specs.Prelude.{◌≡◌, ◌≤◌, true, [], IfOk, OnOk, Some, option_map};
 ghost use Rattle.serde_json.specs.View as json;
 ghost use Rattle.yspec.specs.Forest.{size, node, end, join};
 ghost use Rattle.yspec.specs.document.Document.{document_limit};
-ghost use Rattle.yspec.specs.document.Reading.{stored_node, raw_in, item_row, instance_row, tree_or_refusal, document_of};
+ghost use Rattle.yspec.specs.document.Reading.{is_object, stored_node, raw_in, members_of, item_row, instance_row, tree_or_refusal, document_of};
 ghost use Rattle.yspec.specs.document.Fitting.{Fits};
 ghost use Rattle.yspec.specs.document.Writing.{IsDocument};
 ghost use Rattle.ytype.specs.View.{raw_of};
@@ -18,7 +18,7 @@ use crate::document::Tree;
 use crate::fault::{DocCode, DocFault, refused_at_root};
 use crate::names::take_member;
 use crate::tree::Stored;
-use crate::values::raw_of;
+use crate::values::{is_object, raw_in, raw_of_object};
 use crate::visits::{visit_instance, visit_members};
 use serde_json::{Map, Value};
 use std::alloc::{AllocError, Global};
@@ -243,31 +243,80 @@ fn stored_node(
           taken_in (schema_view.view schema.now) n (schema_view.row_view children.entry) d,
         )) }
 {
+    let (held, mut members) = parted(alloc, node, value)?;
+    let mut below = Vec::with_capacity(alloc, room_below(node, &members))?;
+    put_rows(
+        alloc,
+        schema,
+        Some(node.module),
+        children,
+        &mut members,
+        &mut below,
+    )?;
+    Ok(Stored::new(id, held, below))
+}
+
+/// For how many nodes there is room below one whose value has such members.
+fn room_below(node: &SchemaNode, members: &Map<String, Value>) -> usize {
+    if node.kind.has_value() {
+        0
+    } else {
+        members.len()
+    }
+}
+
+/// What a node of the schema holds of a value, and the members of the value.
+fn parted(
+    alloc: Global,
+    node: &SchemaNode,
+    value: Value,
+) -> Result<(Option<Raw>, Map<String, Value>), AllocError>
+    ensures { let d = json.view value in IfOk result (λ parts. (option_map raw_of parts.0
+        ≡ raw_in (schema_view.kind_view node.now.kind) d)
+        × (json.members_view parts.1.entries ≡ members_of d)) }
+{
+    if is_object(&value) {
+        let held = held_of_object(alloc, node, &value)?;
+        Ok((held, members_in(alloc, value)))
+    } else {
+        Ok((held_of(alloc, node, value)?, Map::new(alloc)))
+    }
+}
+
+fn members_in(alloc: Global, value: Value) -> Map<String, Value>
+    ensures { json.members_view result.entries ≡ members_of (json.view value) }
+{
     match value {
-        Value::Object(mut members) => {
-            let mut below = Vec::with_capacity(alloc, members.len())?;
-            put_rows(
-                alloc,
-                schema,
-                Some(node.module),
-                children,
-                &mut members,
-                &mut below,
-            )?;
-            Ok(Stored::new(id, None, below))
-        }
-        other => Ok(Stored::new(id, held_of(node, other), Vec::new(alloc))),
+        Value::Object(members) => members,
+        _ => Map::new(alloc),
+    }
+}
+
+/// What a node of the schema holds of an object: nothing but where it may hold any.
+fn held_of_object(
+    alloc: Global,
+    node: &SchemaNode,
+    value: &Value,
+) -> Result<Option<Raw>, AllocError>
+    ensures { IfOk result (λ raw. is_object (json.view value.now) ≡ true
+        → option_map raw_of raw
+        ≡ raw_in (schema_view.kind_view node.now.kind) (json.view value.now)) }
+{
+    if node.kind.has_value() {
+        raw_of_object(alloc, node.kind.form(), value)
+    } else {
+        Ok(None)
     }
 }
 
 /// What a node of the schema holds of a value: nothing but at a leaf or item.
-fn held_of(node: &SchemaNode, value: Value) -> Option<Raw>
-    ensures { option_map raw_of result
-        ≡ raw_in (schema_view.kind_view node.now.kind) (json.view value) }
+fn held_of(alloc: Global, node: &SchemaNode, value: Value) -> Result<Option<Raw>, AllocError>
+    ensures { IfOk result (λ raw. option_map raw_of raw
+        ≡ raw_in (schema_view.kind_view node.now.kind) (json.view value)) }
 {
     if node.kind.has_value() {
-        raw_of(value)
+        raw_in(alloc, node.kind.form(), value)
     } else {
-        None
+        Ok(None)
     }
 }

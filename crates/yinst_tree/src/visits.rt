@@ -4,19 +4,19 @@
 ghost use Rattle.std.specs.Prelude.{◌≡◌, ◌+◌, ◌++◌, OnOk, Some, None, [], ◌∷◌};
 ghost use Rattle.serde_json.specs.View as json;
 ghost use Rattle.yspec.specs.schema.Schema.{module_at, row_at};
-ghost use Rattle.yspec.specs.document.Reading.{right, named, at_named, leaf_visit, value_visit, member_visits, node_visits, item_visits, instance_visits};
-ghost use Rattle.yschema_model.specs.Layout.{number_of};
-ghost use Rattle.yschema_model.specs.View.{view, kind_view};
+ghost use Rattle.yspec.specs.document.Reading.{right, named, at_named, leaf_visit, member_visits, node_visits, item_visits, instance_visits};
+ghost use Rattle.yschema_model.specs.Layout.{form_view, number_of};
+ghost use Rattle.yschema_model.specs.View.{view};
 ghost use Rattle.yinst_tree.specs.View.{place_view};
 ghost use Rattle.yinst_tree.specs.Told.{visits_at, code_number, Tells, Walks};
 
 use crate::fault::{DocCode, DocFault, refused, refused_at_root};
 use crate::names::{Named, meaning_of};
 use crate::tree::Step;
-use crate::values::refusal_of;
+use crate::values::refusal_in;
 use serde_json::{Map, Value};
 use std::alloc::Global;
-use yschema_model::{Schema, SchemaId, SchemaNode};
+use yschema_model::{JsonForm, Schema, SchemaId};
 
 /// Refuses the members of an object below a node, or at the top, whose steps are given. A right node takes of the room,
 /// where there is a limit; what is left of it is answered. The place is as before.
@@ -171,43 +171,29 @@ pub(crate) fn visit_instance(
     let Some(node) = schema.kind(id) else {
         return Ok(room);
     };
+    if node.kind.has_value() {
+        return visit_leaf(alloc, node.kind.form(), value, place, room);
+    }
     match value {
-        Value::Object(_) if node.kind.has_value() => Err(refused(alloc, DocCode::J5, place)),
         Value::Object(members) => match one_less(alloc, room) {
             Ok(left) => visit_members(alloc, schema, Some(id), members, place, left),
             Err(fault) => Err(fault),
         },
-        _ => visit_value(alloc, node, value, place, room),
+        _ => Err(refused(alloc, DocCode::J5, place)),
     }
 }
 
-/// Refuses a value that is no object.
-fn visit_value(
-    alloc: Global,
-    node: &SchemaNode,
-    value: &Value,
-    place: &[Step],
-    room: Option<usize>,
-) -> Result<Option<usize>, DocFault>
-    ensures { Walks room (value_visit (kind_view node.now.kind) (place_view place.now)
-        (json.view value.now)) result }
-{
-    if node.kind.has_value() {
-        visit_leaf(alloc, value, place, room)
-    } else {
-        Err(refused(alloc, DocCode::J5, place))
-    }
-}
-
+/// Refuses the value of a leaf or an item.
 fn visit_leaf(
     alloc: Global,
+    form: JsonForm,
     value: &Value,
     place: &[Step],
     room: Option<usize>,
 ) -> Result<Option<usize>, DocFault>
-    ensures { Walks room (leaf_visit (place_view place.now) (json.view value.now)) result }
+    ensures { Walks room (leaf_visit (form_view form) (place_view place.now) (json.view value.now)) result }
 {
-    match refusal_of(value) {
+    match refusal_in(form, value) {
         None => one_less(alloc, room),
         Some(code) => Err(refused(alloc, code, place)),
     }

@@ -5,6 +5,8 @@ ghost use Rattle.serde_json.specs.Data.{object, put};
 ghost use Rattle.serde_json.specs.View as json;
 ghost use Rattle.yspec.specs.Forest.{end, node, size};
 ghost use Rattle.yspec.specs.schema.Schema as spec;
+ghost use Rattle.yspec.specs.schema.Schema.{by_type};
+ghost use Rattle.yschema_model.specs.Layout.{form_view};
 ghost use Rattle.yspec.specs.document.Document.{document_limit};
 ghost use Rattle.yspec.specs.document.Reading.{document_of};
 ghost use Rattle.yspec.specs.document.Sorting.{IsSorted};
@@ -13,14 +15,16 @@ ghost use Rattle.ytype.specs.View as held;
 ghost use Rattle.yschema_model.specs.View as schema_view;
 ghost use Rattle.yinst_tree.specs.View.{view, row_view, tree_view};
 ghost use Rattle.yinst_tree.specs.Walk.{walked, members_in};
+ghost use Rattle.yinst_tree.specs.Written.{stored_text, written_stored};
 
 use crate::document::Tree;
 use crate::instances::instances_of;
 use crate::names::written_name;
 use crate::tree::Stored;
+use crate::values::whole_value;
 use serde_json::{Map, Number, Value};
 use std::alloc::{AllocError, Global};
-use yschema_model::{Child, Children, Schema};
+use yschema_model::{Child, Children, JsonForm, Schema};
 use ytype::Raw;
 
 /// The compact JSON text of a document: members in byte order of their names, no line break (RFC 7951). It reads as that
@@ -34,6 +38,30 @@ pub fn write(alloc: Global, schema: &Schema, tree: &Tree) -> Result<String, Allo
         → document_of s (string_bytes text) ≡ Ok t) }
 {
     value_of_tree(alloc, schema, tree)?.to_string(alloc)
+}
+
+/// The compact JSON text of a stored node with all that stands below it; of an entry or item, that of this one.
+pub fn write_node(alloc: Global, schema: &Schema, stored: &Stored) -> Result<String, AllocError>
+    ensures { IfOk result (λ text. IsSorted (view stored.now).1 → string_bytes text
+        ≡ stored_text (schema_view.view schema.now) (view stored.now).0 (view stored.now).1) }
+{
+    value_of_stored(alloc, schema, stored)?.to_string(alloc)
+}
+
+fn value_of_stored(alloc: Global, schema: &Schema, stored: &Stored) -> Result<Value, AllocError>
+    ensures { IfOk result (λ value. IsSorted (view stored.now).1 → json.view value
+        ≡ written_stored (schema_view.view schema.now) (view stored.now).0 (view stored.now).1) }
+{
+    let Some(node) = schema.kind(stored.id()) else {
+        return Ok(Value::Null);
+    };
+    if node.kind.has_value() {
+        return value_held(alloc, node.kind.form(), stored.value());
+    }
+    let module = Some(node.module);
+    let children = schema.children(stored.id());
+    let below = stored.below();
+    Ok(Value::Object(members_of(alloc, schema, module, children, below)?))
 }
 
 fn value_of_tree(alloc: Global, schema: &Schema, tree: &Tree) -> Result<Value, AllocError>
@@ -186,7 +214,7 @@ fn value_of(
 {
     let node = child.node();
     if node.kind.has_value() {
-        return value_of_leaf(alloc, stored.value());
+        return value_held(alloc, node.kind.form(), stored.value());
     }
     let module = Some(node.module);
     let below = stored.below();
@@ -194,9 +222,23 @@ fn value_of(
 }
 
 /// What is written for the value of a leaf or an item.
+fn value_held(alloc: Global, form: JsonForm, raw: Option<&Raw>) -> Result<Value, AllocError>
+    ensures { IfOk result (λ value. json.view value
+        ≡ leaf_data (form_view form) (option_map (λ r. held.raw_of r.now) raw.entry)) }
+{
+    match form {
+        JsonForm::ByType => value_of_leaf(alloc, raw),
+        JsonForm::AnyValue | JsonForm::AnyObject => match raw {
+            Some(Raw::Text(text)) => whole_value(alloc, text),
+            _ => Ok(Value::Null),
+        },
+    }
+}
+
+/// The same where it is as its type says.
 pub fn value_of_leaf(alloc: Global, raw: Option<&Raw>) -> Result<Value, AllocError>
     ensures { IfOk result (λ value. json.view value
-        ≡ leaf_data (option_map (λ r. held.raw_of r.now) raw.entry)) }
+        ≡ leaf_data by_type (option_map (λ r. held.raw_of r.now) raw.entry)) }
 {
     match raw {
         Some(raw) => value_of_raw(alloc, raw),

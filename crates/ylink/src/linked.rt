@@ -242,6 +242,7 @@ impl<'t> Linked<'t> {
             kept,
             meanings,
             identities,
+            self.typedefs.shared_expressions()?,
             &self.order,
         )?;
         let verdicts = verdicts_of(alloc, &self.sources, &typedefs, kept)?;

@@ -32,12 +32,13 @@ use crate::repeated::repeated_module;
 use crate::verdicts::verdicts_of;
 use crate::versions::broken_version_type_rule;
 use std::alloc::{AllocError, Global};
+use std::rc::Rc;
 use ylink_features::{Versions, broken_version_import_rule};
 use ylink_grammar::{BrokenRule, Language, Sources, broken_statement_rule_in};
 use ylink_names::{
     Prefixes, broken_meaning_rule, broken_prefix_rule, broken_taken_rule, holders_of, meanings_of,
 };
-use ylink_types::{Identities, Kept, Typedefs};
+use ylink_types::{Expressions, Identities, Kept, Typedefs};
 use ytext::Module;
 
 /// The statements of a set of modules in the core, with what their names and types mean, or the least broken rule, by module,
@@ -104,10 +105,24 @@ fn link_sources<'t>(
     }
     let order = order_of(alloc, &sources, &holders, &meanings)?;
     let identities = Identities::of(alloc, &sources, Kept::All, &holders, &meanings)?;
-    let typedefs = Typedefs::of(alloc, &sources, Kept::All, meanings, identities, &order)?;
+    let expressions = expressions_of(alloc, &sources)?;
+    let typedefs = Typedefs::of(
+        alloc,
+        &sources,
+        Kept::All,
+        meanings,
+        identities,
+        expressions,
+        &order,
+    )?;
     link_types(
         alloc, language, modules, sources, prefixes, &versions, order, typedefs,
     )
+}
+
+/// The regular expressions of a set, to be shared.
+fn expressions_of(alloc: Global, sources: &Sources<'_>) -> Result<Rc<Expressions>, AllocError> {
+    Ok(Rc::new(alloc, Expressions::of(alloc, sources)?)?)
 }
 
 /// Links modules whose names are right.
@@ -146,7 +161,8 @@ fn link_types<'t>(
     let verdicts = verdicts_of(alloc, &sources, &typedefs, Kept::All)?;
     let own = broken_type_rule(&sources, &verdicts);
     let versioned = broken_version_type_rule(alloc, &sources, versions, &verdicts, own)?;
-    if let Some(found) = broken_pattern_rule(alloc, language, &sources, versioned)? {
+    let expressions = typedefs.expressions();
+    if let Some(found) = broken_pattern_rule(alloc, language, expressions, &sources, versioned)? {
         return Err(CompileFault::from(found));
     }
     Ok(Linked::new(sources, prefixes, order, typedefs, verdicts))

@@ -14,22 +14,21 @@ use std::alloc::{AllocError, Global};
 use ylink_grammar::{
     BrokenRule, CompileCode, Language, Source, Sources, broken, is_pattern, least_when,
 };
-use ytype_numbers::Expression;
+use ylink_types::Expressions;
 
 /// Whether a text spells a regular expression. One that is too large for the engine is answered as want of memory.
-fn is_spelled(alloc: Global, text: &str) -> Result<bool, AllocError>
+fn is_spelled(alloc: Global, expressions: &Expressions, text: &str) -> Result<bool, AllocError>
     ensures { IfOk result (λ b. b ≡ is_pattern text.now) }
 {
-    match Expression::read(alloc, text) {
-        Ok(expression) => Ok(expression.is_pattern()),
-        Err(_) => Err(AllocError),
-    }
+    let expression = expressions.with_text(alloc, text)?;
+    Ok(expression.is_pattern())
 }
 
 /// Whether a statement is a `pattern` of a language that spells none.
 fn spells_none(
     alloc: Global,
     language: &Language,
+    expressions: &Expressions,
     statement: &Source<'_>,
 ) -> Result<bool, AllocError>
     ensures { IfOk result (λ b. (number : ℕ) → b
@@ -38,7 +37,7 @@ fn spells_none(
     if !is_pattern(language, statement) {
         return Ok(false);
     }
-    let spelled = is_spelled(alloc, statement.argument())?;
+    let spelled = is_spelled(alloc, expressions, statement.argument())?;
     Ok(!spelled)
 }
 
@@ -46,6 +45,7 @@ fn spells_none(
 fn judge_patterns(
     alloc: Global,
     language: &Language,
+    expressions: &Expressions,
     sources: &Sources<'_>,
     so_far: Option<BrokenRule>,
 ) -> Result<Option<BrokenRule>, AllocError>
@@ -55,7 +55,7 @@ fn judge_patterns(
     let mut told = so_far;
     for row in sources.slots() {
         let source = &row.label;
-        let wrong = spells_none(alloc, language, source)?;
+        let wrong = spells_none(alloc, language, expressions, source)?;
         let rule = broken(CompileCode::C20, source.home, source.statement);
         told = least_when(wrong, told, rule);
     }
@@ -66,6 +66,7 @@ fn judge_patterns(
 pub(crate) fn broken_pattern_rule(
     alloc: Global,
     language: &Language,
+    expressions: &Expressions,
     sources: &Sources<'_>,
     so_far: Option<BrokenRule>,
 ) -> Result<Option<BrokenRule>, AllocError>
@@ -74,6 +75,6 @@ pub(crate) fn broken_pattern_rule(
 {
     match language {
         Language::Core => Ok(so_far),
-        Language::Rfc(_) => judge_patterns(alloc, language, sources, so_far),
+        Language::Rfc(_) => judge_patterns(alloc, language, expressions, sources, so_far),
     }
 }

@@ -15,7 +15,7 @@ use ytext::{Module, Stmt};
 fn name_of(statement: &Stmt) -> &str
     ensures { result.now ≡ argument_text (view statement.now).0 }
 {
-    statement.argument().unwrap_or("")
+    statement.argument().unwrap_or(statement.keyword())
 }
 
 /// The least of one so far and of the modules that are named as one before them in the set.

@@ -19,7 +19,7 @@ use Rattle.yspec.specs.linking.StatementBreaks as narrow
 use Rattle.yspec.specs.linking.StatementBreaks.{has_keyword, is_prefixed}
 use Rattle.yspec.proofs.LinkingProofs.KeywordLemmas.{of_each, prefixed_is_none}
 use Rattle.yspec_wide.specs.Language.{Language, Unjudged, core, rfc}
-use Rattle.yspec_wide.specs.Words.{Word, known, feature_word, if_feature_word, pattern_word, modifier_word, must_word, when_word, same_word, or_added, or_unjudged, word_named}
+use Rattle.yspec_wide.specs.Words.{Word, known, feature_word, if_feature_word, pattern_word, modifier_word, must_word, when_word, rpc_word, action_word, notification_word, input_word, output_word, anydata_word, anyxml_word, same_word, anything_named, operation_named, or_added, or_unjudged, word_named}
 use Rattle.yspec_wide.specs.Table.{Allowed, allowed_before, row_before, many}
 use Rattle.yspec_wide.specs.StatementBreaks.{has_word, occurrences, is_miscounted, is_allowed, type_breaks, version_breaks}
 use Rattle.ylink_grammar.specs.Counts.{is_type_outside, is_wrongly_versioned, is_repeated, repeats}
@@ -49,16 +49,64 @@ no_must k = is_false _ (of_each (λ k. not (same_word (known k) must_word)) refl
 no_when : (k : Keyword) → same_word (known k) when_word ≡ false
 no_when k = is_false _ (of_each (λ k. not (same_word (known k) when_word)) refl k)
 
--- which of the four a text is
-abbrev one_added : Bool → Bool → Bool → Bool → Option Word
-one_added a b c d = cond a (Some feature_word) (cond b (Some if_feature_word) (cond c (Some pattern_word) (cond d (Some modifier_word) None)))
+no_rpc : (k : Keyword) → same_word (known k) rpc_word ≡ false
+no_rpc k = is_false _ (of_each (λ k. not (same_word (known k) rpc_word)) refl k)
 
-no_added : (k : Keyword) (a b c d : Bool) → option_map_or (same_word (known k)) (one_added a b c d) false ≡ false
-no_added k true b c d = no_feature k
-no_added k false true c d = no_if_feature k
-no_added k false false true d = no_pattern k
-no_added k false false false true = no_modifier k
-no_added k false false false false = refl
+no_action : (k : Keyword) → same_word (known k) action_word ≡ false
+no_action k = is_false _ (of_each (λ k. not (same_word (known k) action_word)) refl k)
+
+no_notification : (k : Keyword) → same_word (known k) notification_word ≡ false
+no_notification k = is_false _ (of_each (λ k. not (same_word (known k) notification_word)) refl k)
+
+no_input : (k : Keyword) → same_word (known k) input_word ≡ false
+no_input k = is_false _ (of_each (λ k. not (same_word (known k) input_word)) refl k)
+
+no_output : (k : Keyword) → same_word (known k) output_word ≡ false
+no_output k = is_false _ (of_each (λ k. not (same_word (known k) output_word)) refl k)
+
+no_anydata : (k : Keyword) → same_word (known k) anydata_word ≡ false
+no_anydata k = is_false _ (of_each (λ k. not (same_word (known k) anydata_word)) refl k)
+
+no_anyxml : (k : Keyword) → same_word (known k) anyxml_word ≡ false
+no_anyxml k = is_false _ (of_each (λ k. not (same_word (known k) anyxml_word)) refl k)
+
+-- which of the two of nodes without a type a text is
+abbrev one_anything : Bool → Bool → Option Word
+one_anything a b = cond a (Some anydata_word) (cond b (Some anyxml_word) None)
+
+no_anything : (k : Keyword) (a b : Bool) → option_map_or (same_word (known k)) (one_anything a b) false ≡ false
+no_anything k true b = no_anydata k
+no_anything k false true = no_anyxml k
+no_anything k false false = refl
+
+none_anything : (a b : Bool) → a ≡ false → b ≡ false → one_anything a b ≡ None
+none_anything a b first last = rw (first, last) refl
+
+-- which of the five of operations it is, or one of these
+abbrev one_operation : Bool → Bool → Bool → Bool → Bool → Option Word → Option Word
+one_operation a b c d e others = cond a (Some rpc_word) (cond b (Some action_word) (cond c (Some notification_word)
+    (cond d (Some input_word) (cond e (Some output_word) others))))
+
+no_operation : (k : Keyword) (a b c d e : Bool) (others : Option Word) → option_map_or (same_word (known k)) others false ≡ false
+    → option_map_or (same_word (known k)) (one_operation a b c d e others) false ≡ false
+no_operation k true b c d e others none = no_rpc k
+no_operation k false true c d e others none = no_action k
+no_operation k false false true d e others none = no_notification k
+no_operation k false false false true e others none = no_input k
+no_operation k false false false false true others none = no_output k
+no_operation k false false false false false others none = none
+
+-- which of the four others it is, or one of these
+abbrev one_added : Bool → Bool → Bool → Bool → Option Word → Option Word
+one_added a b c d others = cond a (Some feature_word) (cond b (Some if_feature_word) (cond c (Some pattern_word) (cond d (Some modifier_word) others)))
+
+no_added : (k : Keyword) (a b c d : Bool) (others : Option Word) → option_map_or (same_word (known k)) others false ≡ false
+    → option_map_or (same_word (known k)) (one_added a b c d others) false ≡ false
+no_added k true b c d others none = no_feature k
+no_added k false true c d others none = no_if_feature k
+no_added k false false true d others none = no_pattern k
+no_added k false false false true others none = no_modifier k
+no_added k false false false false others none = none
 
 -- and which of the two conditions
 abbrev one_unjudged : Bool → Bool → Option Word
@@ -83,7 +131,9 @@ wide_has : (k : Keyword) (u : Unjudged) (t : Text) (o : Option Keyword)
     → option_map_or (same_word (known k)) (or_unjudged u (or_added o t) t) false ≡ option_map_or (same_keyword k) o false
 wide_has k u t None =
     still_none k u t (or_added None t)
-    (no_added k (is_text t (codes "feature")) (is_text t (codes "if-feature")) (is_text t (codes "pattern")) (is_text t (codes "modifier")))
+    (no_added k (is_text t (codes "feature")) (is_text t (codes "if-feature")) (is_text t (codes "pattern")) (is_text t (codes "modifier")) (operation_named t)
+    (no_operation k (is_text t (codes "rpc")) (is_text t (codes "action")) (is_text t (codes "notification")) (is_text t (codes "input")) (is_text t (codes "output"))
+    (anything_named t) (no_anything k (is_text t (codes "anydata")) (is_text t (codes "anyxml")))))
 wide_has k u t (Some j) = refl
 
 pub has_alike : (l : Language) (k : Keyword) (s : Statement) → has_word l (known k) s ≡ has_keyword k s
@@ -100,8 +150,12 @@ plain t word prefixed e = by (is_text t word) refl
         let clash : true ≡ false = sym prefixed ∙ (ap is_prefixed same ∙ e) in absurd cc
     by false is = refl
 
-none_by : (a b c d : Bool) → a ≡ false → b ≡ false → c ≡ false → d ≡ false → one_added a b c d ≡ None
-none_by a b c d first second third last = rw (first, second, third, last) refl
+none_by : (a b c d : Bool) (others : Option Word) → a ≡ false → b ≡ false → c ≡ false → d ≡ false → others ≡ None → one_added a b c d others ≡ None
+none_by a b c d others first second third last none = rw (first, second, third, last) none
+
+none_operation : (a b c d e : Bool) (others : Option Word) → a ≡ false → b ≡ false → c ≡ false → d ≡ false → e ≡ false → others ≡ None
+    → one_operation a b c d e others ≡ None
+none_operation a b c d e others first second third fourth last none = rw (first, second, third, fourth, last) none
 
 none_unjudged : (a b musts whens : Bool) → a ≡ false → b ≡ false → one_unjudged (a && musts) (b && whens) ≡ None
 none_unjudged a b musts whens first second = rw (first, second) refl
@@ -110,9 +164,13 @@ pub prefixed_is_no_word : (l : Language) (t : Text) → is_prefixed t ≡ true �
 prefixed_is_no_word core t prefixed = ap (option_map known) (prefixed_is_none t prefixed)
 prefixed_is_no_word (rfc wide) t prefixed =
     let added : or_added (keyword_named t) t ≡ None = ap (λ o. or_added o t) (prefixed_is_none t prefixed)
-    ∙ none_by (is_text t (codes "feature")) (is_text t (codes "if-feature")) (is_text t (codes "pattern")) (is_text t (codes "modifier"))
+    ∙ none_by (is_text t (codes "feature")) (is_text t (codes "if-feature")) (is_text t (codes "pattern")) (is_text t (codes "modifier")) (operation_named t)
     (plain t (codes "feature") prefixed refl) (plain t (codes "if-feature") prefixed refl)
-    (plain t (codes "pattern") prefixed refl) (plain t (codes "modifier") prefixed refl) in
+    (plain t (codes "pattern") prefixed refl) (plain t (codes "modifier") prefixed refl)
+    (none_operation (is_text t (codes "rpc")) (is_text t (codes "action")) (is_text t (codes "notification")) (is_text t (codes "input")) (is_text t (codes "output")) (anything_named t)
+    (plain t (codes "rpc") prefixed refl) (plain t (codes "action") prefixed refl) (plain t (codes "notification") prefixed refl)
+    (plain t (codes "input") prefixed refl) (plain t (codes "output") prefixed refl)
+    (none_anything (is_text t (codes "anydata")) (is_text t (codes "anyxml")) (plain t (codes "anydata") prefixed refl) (plain t (codes "anyxml") prefixed refl))) in
     ap (λ o. or_unjudged wide.unjudged o t) added
     ∙ none_unjudged (is_text t (codes "must")) (is_text t (codes "when")) wide.unjudged.musts wide.unjudged.whens
     (plain t (codes "must") prefixed refl) (plain t (codes "when") prefixed refl)
@@ -221,6 +279,13 @@ type_alike core m pattern_word s = refl
 type_alike core m modifier_word s = refl
 type_alike core m must_word s = refl
 type_alike core m when_word s = refl
+type_alike core m rpc_word s = refl
+type_alike core m action_word s = refl
+type_alike core m notification_word s = refl
+type_alike core m input_word s = refl
+type_alike core m output_word s = refl
+type_alike core m anydata_word s = refl
+type_alike core m anyxml_word s = refl
 type_alike (rfc wide) m w s = refl
 
 pub version_alike : (l : Language) (m : ℕ) (w : Word) (s : Statement) (below : Forest Statement)
@@ -232,4 +297,11 @@ version_alike core m pattern_word s below = refl
 version_alike core m modifier_word s below = refl
 version_alike core m must_word s below = refl
 version_alike core m when_word s below = refl
+version_alike core m rpc_word s below = refl
+version_alike core m action_word s below = refl
+version_alike core m notification_word s below = refl
+version_alike core m input_word s below = refl
+version_alike core m output_word s below = refl
+version_alike core m anydata_word s below = refl
+version_alike core m anyxml_word s below = refl
 version_alike (rfc wide) m w s below = refl

@@ -3,7 +3,7 @@ use Rattle.std.specs.Prelude.{ℕ, Option, option_map}
 use Rattle.yspec.specs.schema.Breaks as spec
 use Rattle.ylink_grammar.specs.declared.fault.BrokenRule.{BrokenRule}
 use Rattle.ylink_grammar.specs.declared.fault.CompileCode.{CompileCode}
-use Rattle.ylink_grammar.specs.declared.fault.CompileCode.TheVariants.{C1, C2, C3, C4, C5, C6, C7, C8, C9, C10, C11, C12, C13, C14, C15, C16, C17, C18, C20, C22}
+use Rattle.ylink_grammar.specs.declared.fault.CompileCode.TheVariants.{C1, C2, C3, C4, C5, C6, C7, C8, C9, C10, C11, C12, C13, C14, C15, C16, C17, C18, C20, C22, C24}
 
 abbrev pub code_number : CompileCode → ℕ
 code_number C1 = 1
@@ -26,6 +26,7 @@ code_number C17 = 17
 code_number C18 = 18
 code_number C20 = 20
 code_number C22 = 22
+code_number C24 = 24
 
 abbrev pub break_view : BrokenRule → spec.Break
 break_view b = record { code = code_number b.code; module_number = b.«module»; line = b.line }

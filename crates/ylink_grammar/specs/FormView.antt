@@ -32,6 +32,7 @@ wide_form_view (wide_forms.AsBefore form) = wide.as_before (form_view form)
 wide_form_view wide_forms.Prefix = wide.prefix_form
 wide_form_view wide_forms.IfFeature = wide.if_feature_form
 wide_form_view wide_forms.Modifier = wide.modifier_form
+wide_form_view wide_forms.NoArgument = wide.no_argument
 
 -- whether no text that begins with `xml` is of a form
 abbrev pub bars_xml : YangVersion → spec.Form → Bool

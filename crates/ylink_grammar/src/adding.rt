@@ -39,6 +39,10 @@ fn keyword_kept(word: Word) -> Option<Keyword>
             Some(Keyword::Extension)
         }
         Word::Must => None,
+        Word::Rpc | Word::Action | Word::Notification | Word::Input | Word::Output => {
+            Some(Keyword::Container)
+        }
+        Word::Anydata | Word::Anyxml => Some(Keyword::Leaf),
     }
 }
 

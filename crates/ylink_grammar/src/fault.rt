@@ -49,6 +49,8 @@ pub enum CompileCode {
     C20 = 20,
     /// A condition names no feature, or leads from a feature back to it.
     C22 = 22,
+    /// An action or a notification where none may stand.
+    C24 = 24,
 }
 
 impl CompileCode {

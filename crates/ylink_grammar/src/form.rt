@@ -44,6 +44,7 @@ pub(crate) enum WideForm {
     Prefix,
     IfFeature,
     Modifier,
+    NoArgument,
 }
 
 /// Whether a text is an argument of a form of YANG 1.1.
@@ -126,5 +127,13 @@ pub(crate) fn fits_in(
         WideForm::Prefix => Ok(is_identifier(text)),
         WideForm::IfFeature => Ok(expression_of(alloc, version, text)?.is_some()),
         WideForm::Modifier => Ok(text == "invert-match"),
+        WideForm::NoArgument => Ok(false),
     }
+}
+
+/// Whether a statement has no argument where it has one of a form.
+pub(crate) fn takes_none(form: WideForm) -> bool
+    ensures { result ≡ wide.takes_none (wide_form_view form) }
+{
+    matches!(form, WideForm::NoArgument)
 }

@@ -21,7 +21,7 @@ ghost use Rattle.ylink_grammar.specs.Counts.{AreOf, allowed_word, are_apart, cou
 ghost use Rattle.ylink_grammar.specs.BreakView.{break_view, seen};
 
 use crate::fault::{BrokenRule, CompileCode, least, least_when};
-use crate::form::{WideForm, fits_in};
+use crate::form::{WideForm, fits_in, takes_none};
 use crate::language::Language;
 use crate::rules::{WideRule, needs_in, rule_in};
 use crate::table::{Allowed, Count};
@@ -338,11 +338,11 @@ fn has_fitting_argument(
 ) -> Result<bool, AllocError>
     ensures { IfOk result (λ b. b ≡ option_map_or
         (table.fits_in (version_view version) (wide_form_view form))
-        (view statement.now).0.argument false) }
+        (view statement.now).0.argument (table.takes_none (wide_form_view form))) }
 {
     match statement.argument() {
         Some(text) => fits_in(alloc, version, form, text),
-        None => Ok(false),
+        None => Ok(takes_none(form)),
     }
 }
 

@@ -16,7 +16,10 @@ mod sources;
 mod table;
 mod word;
 
-pub use added::{is_condition, is_feature, is_guard, is_pattern, is_when};
+pub use added::{
+    is_action, is_anydata, is_anyxml, is_call, is_condition, is_feature, is_guard, is_notification,
+    is_operation, is_operation_part, is_pattern, is_when,
+};
 pub use fault::{BrokenRule, CompileCode, least, least_when};
 pub use grammar::{broken, broken_statement_rule_in};
 pub use language::{Choosing, Language, Unjudged, Wide};

@@ -21,11 +21,11 @@ pub fn first_with<'a, 't>(
     found_with(keyword, statements)
 }
 
-/// The argument of a statement; no text where there is none.
+/// The argument of a statement; its keyword where there is none.
 pub fn argument_of<'a, 't>(statement: Node<'a, Source<'t>>) -> &'t str
     ensures { result.now ≡ spec.argument_in (label_by source_view statement.entry) }
 {
-    statement.label().statement.argument().unwrap_or("")
+    statement.label().argument()
 }
 
 /// The argument of the first statement of a row with a keyword.

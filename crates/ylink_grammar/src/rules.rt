@@ -1,10 +1,10 @@
-//! The table of statements by language and version (RFC 7950, 1.1, 7.5.3, 7.20, 7.21.5 and 9.4.5; RFC 6020, 7 and 12).
+//! The table of statements by language and version (RFC 7950, 1.1, 7.5.3, 7.10, 7.11, 7.14 to 7.16, 7.20, 7.21.5 and 9.4.5; RFC 6020, 7 and 12).
 
 ghost use Rattle.std.specs.Prelude.{◌≡◌, [], IfNone, IfSome, map};
 ghost use Rattle.yspec.specs.linking.Table as spec;
 ghost use Rattle.yspec_wide.specs.Language as languages;
 ghost use Rattle.yspec_wide.specs.Language.{yang_1, yang_1_1};
-ghost use Rattle.yspec_wide.specs.Words.{known, must_word, pattern_word, when_word};
+ghost use Rattle.yspec_wide.specs.Words.{known, must_word, notification_word, pattern_word, when_word};
 ghost use Rattle.yspec_wide.specs.Table as wide;
 ghost use Rattle.yspec_wide.specs.Table.{rule_before};
 ghost use Rattle.ybase_words.specs.KeywordView.{keyword_view};
@@ -18,9 +18,9 @@ use crate::form::WideForm::AsBefore;
 use crate::form::{Form, WideForm};
 use crate::language::Language;
 use crate::table::{
-    Allowed, Count, IN_AUGMENT, IN_BIT, IN_CASE, IN_CHOICE, IN_CONTAINER, IN_ENUM, IN_IDENTITY,
-    IN_LEAF, IN_LEAF_LIST, IN_LIST, IN_RANGE, IN_REFINE, IN_REVISION, IN_TYPE, IN_USES, Rule,
-    needs_of, rule_of,
+    Allowed, Count, IN_AUGMENT, IN_BIT, IN_CASE, IN_CHOICE, IN_CONTAINER, IN_ENUM, IN_GROUPING,
+    IN_IDENTITY, IN_LEAF, IN_LEAF_LIST, IN_LIST, IN_RANGE, IN_REFINE, IN_REVISION, IN_TYPE,
+    IN_USES, Rule, needs_of, rule_of,
 };
 use crate::word::Word;
 use ybase_words::Keyword;
@@ -61,13 +61,71 @@ const IN_MODULE_OF_ANY_VERSION: &[Allowed] = &[
     Allowed(Keyword::Choice, Count::Any),
 ];
 
-const FEATURES: &[Word] = &[Word::Feature];
+const BEHIND_MODULE: &[Word] = &[
+    Word::Anydata,
+    Word::Anyxml,
+    Word::Feature,
+    Word::Rpc,
+    Word::Notification,
+];
+
+const BEHIND_MODULE_OF_YANG_1: &[Word] = &[
+    Word::Anyxml,
+    Word::Feature,
+    Word::Rpc,
+    Word::Notification,
+];
 
 const CONDITIONS: &[Word] = &[Word::IfFeature];
 
 const CONSTRAINTS: &[Word] = &[Word::IfFeature, Word::Must];
 
 const MUSTS: &[Word] = &[Word::Must];
+
+// Of nodes without a type YANG 1 has `anyxml` alone.
+const ANYXML: &[Word] = &[Word::Anyxml];
+
+// Nodes without a type, and operations.
+const BEHIND_GROUPING: &[Word] = &[
+    Word::Anydata,
+    Word::Anyxml,
+    Word::Action,
+    Word::Notification,
+];
+
+// Nodes without a type, and conditions.
+const BEHIND_CASE: &[Word] = &[Word::Anydata, Word::Anyxml, Word::IfFeature];
+
+const BEHIND_CASE_OF_YANG_1: &[Word] = &[Word::Anyxml, Word::IfFeature];
+
+// The same, and operations.
+const BEHIND_AUGMENT: &[Word] = &[
+    Word::Anydata,
+    Word::Anyxml,
+    Word::IfFeature,
+    Word::Action,
+    Word::Notification,
+];
+
+// Nodes without a type, constraints, and operations.
+const BEHIND_CONTAINER: &[Word] = &[
+    Word::Anydata,
+    Word::Anyxml,
+    Word::IfFeature,
+    Word::Must,
+    Word::Action,
+    Word::Notification,
+];
+
+const BEHIND_CONTAINER_OF_YANG_1: &[Word] = &[Word::Anyxml, Word::IfFeature, Word::Must];
+
+const AHEAD_OF_SIDE: &[Word] = &[Word::Must, Word::Anydata, Word::Anyxml];
+
+const AHEAD_OF_NOTIFICATION: &[Word] = &[Word::IfFeature, Word::Must, Word::Anydata, Word::Anyxml];
+
+const AHEAD_OF_NOTIFICATION_OF_YANG_1: &[Word] = &[Word::IfFeature, Word::Anyxml];
+
+const SIDES: &[Word] = &[Word::Input, Word::Output];
 
 const WHENS: &[Word] = &[Word::When];
 
@@ -76,6 +134,33 @@ const PATTERNS: &[Word] = &[Word::Pattern];
 const MODIFIERS: &[Word] = &[Word::Modifier];
 
 const IN_FEATURE: &[Allowed] = &[
+    Allowed(Keyword::Status, Count::AtMostOne),
+    Allowed(Keyword::Description, Count::AtMostOne),
+    Allowed(Keyword::Reference, Count::AtMostOne),
+];
+
+const IN_CALL: &[Allowed] = &[
+    Allowed(Keyword::Typedef, Count::Any),
+    Allowed(Keyword::Grouping, Count::Any),
+    Allowed(Keyword::Status, Count::AtMostOne),
+    Allowed(Keyword::Description, Count::AtMostOne),
+    Allowed(Keyword::Reference, Count::AtMostOne),
+];
+
+const IN_SIDE: &[Allowed] = &[
+    Allowed(Keyword::Typedef, Count::Any),
+    Allowed(Keyword::Grouping, Count::Any),
+    Allowed(Keyword::Uses, Count::Any),
+    Allowed(Keyword::Container, Count::Any),
+    Allowed(Keyword::Leaf, Count::Any),
+    Allowed(Keyword::LeafList, Count::Any),
+    Allowed(Keyword::List, Count::Any),
+    Allowed(Keyword::Choice, Count::Any),
+];
+
+const IN_ANYTHING: &[Allowed] = &[
+    Allowed(Keyword::Config, Count::AtMostOne),
+    Allowed(Keyword::Mandatory, Count::AtMostOne),
     Allowed(Keyword::Status, Count::AtMostOne),
     Allowed(Keyword::Description, Count::AtMostOne),
     Allowed(Keyword::Reference, Count::AtMostOne),
@@ -176,18 +261,34 @@ fn row_of_yang_1_1(keyword: Keyword) -> Option<WideRule>
             AsBefore(Form::Identifier),
             &[],
             IN_MODULE_OF_ANY_VERSION,
-            FEATURES,
+            BEHIND_MODULE,
         ),
         Keyword::Prefix => (WideForm::Prefix, &[], &[], &[]),
-        Keyword::Container => (AsBefore(Form::Identifier), WHENS, IN_CONTAINER, CONSTRAINTS),
+        Keyword::Grouping => (
+            AsBefore(Form::Identifier),
+            &[],
+            IN_GROUPING,
+            BEHIND_GROUPING,
+        ),
+        Keyword::Container => (
+            AsBefore(Form::Identifier),
+            WHENS,
+            IN_CONTAINER,
+            BEHIND_CONTAINER,
+        ),
         Keyword::Leaf => (AsBefore(Form::Identifier), WHENS, IN_LEAF, CONSTRAINTS),
         Keyword::LeafList => (AsBefore(Form::Identifier), WHENS, IN_LEAF_LIST, CONSTRAINTS),
-        Keyword::List => (AsBefore(Form::Identifier), WHENS, IN_LIST, CONSTRAINTS),
-        Keyword::Choice => (AsBefore(Form::Identifier), WHENS, IN_CHOICE, CONDITIONS),
-        Keyword::Case => (AsBefore(Form::Identifier), WHENS, IN_CASE, CONDITIONS),
+        Keyword::List => (AsBefore(Form::Identifier), WHENS, IN_LIST, BEHIND_CONTAINER),
+        Keyword::Choice => (AsBefore(Form::Identifier), WHENS, IN_CHOICE, BEHIND_CASE),
+        Keyword::Case => (AsBefore(Form::Identifier), WHENS, IN_CASE, BEHIND_CASE),
         Keyword::Uses => (AsBefore(Form::Name), WHENS, IN_USES, CONDITIONS),
         Keyword::Refine => (AsBefore(Form::RelativePath), &[], IN_REFINE, CONSTRAINTS),
-        Keyword::Augment => (AsBefore(Form::AbsolutePath), WHENS, IN_AUGMENT, CONDITIONS),
+        Keyword::Augment => (
+            AsBefore(Form::AbsolutePath),
+            WHENS,
+            IN_AUGMENT,
+            BEHIND_AUGMENT,
+        ),
         Keyword::Type => (AsBefore(Form::Name), &[], IN_TYPE, PATTERNS),
         Keyword::Identity => (AsBefore(Form::Identifier), &[], IN_IDENTITY, CONDITIONS),
         Keyword::Enum => (AsBefore(Form::Any), &[], IN_ENUM, CONDITIONS),
@@ -229,9 +330,30 @@ fn row_of_yang_1(keyword: Keyword) -> Option<WideRule>
         &'static [Allowed],
         &'static [Word],
     ) = match keyword {
+        Keyword::Module => (
+            Form::Identifier,
+            &[],
+            IN_MODULE_OF_ANY_VERSION,
+            BEHIND_MODULE_OF_YANG_1,
+        ),
         Keyword::Import => (Form::Identifier, &[], IN_IMPORT_OF_YANG_1, &[]),
+        Keyword::Grouping => (Form::Identifier, &[], IN_GROUPING, ANYXML),
+        Keyword::Augment => (Form::AbsolutePath, WHENS, IN_AUGMENT, BEHIND_CASE_OF_YANG_1),
+        Keyword::Container => (
+            Form::Identifier,
+            WHENS,
+            IN_CONTAINER,
+            BEHIND_CONTAINER_OF_YANG_1,
+        ),
+        Keyword::List => (Form::Identifier, WHENS, IN_LIST, BEHIND_CONTAINER_OF_YANG_1),
+        Keyword::Case => (Form::Identifier, WHENS, IN_CASE, BEHIND_CASE_OF_YANG_1),
         Keyword::LeafList => (Form::Identifier, WHENS, IN_LEAF_LIST_OF_YANG_1, CONSTRAINTS),
-        Keyword::Choice => (Form::Identifier, WHENS, IN_CHOICE_OF_YANG_1, CONDITIONS),
+        Keyword::Choice => (
+            Form::Identifier,
+            WHENS,
+            IN_CHOICE_OF_YANG_1,
+            BEHIND_CASE_OF_YANG_1,
+        ),
         Keyword::Refine => (Form::RelativePath, &[], IN_REFINE_OF_YANG_1, MUSTS),
         Keyword::Type => (Form::Name, &[], IN_TYPE_OF_YANG_1, PATTERNS),
         Keyword::Identity => (Form::Identifier, &[], IN_IDENTITY_OF_YANG_1, &[]),
@@ -270,7 +392,14 @@ fn core_rule(word: Word) -> WideRule
         | Word::Pattern
         | Word::Modifier
         | Word::Must
-        | Word::When => WideRule {
+        | Word::When
+        | Word::Rpc
+        | Word::Action
+        | Word::Notification
+        | Word::Input
+        | Word::Output
+        | Word::Anydata
+        | Word::Anyxml => WideRule {
             form: AsBefore(Form::Any),
             once: &[],
             ahead: &[],
@@ -326,6 +455,43 @@ fn rule_of_when() -> WideRule
     }
 }
 
+/// The row of `input` and of `output`, in which YANG 1 has no `must`.
+fn rule_of_side(version: YangVersion) -> WideRule
+    ensures rule { wide_rule_view result
+        ≡ record { form = wide.no_argument; substatements = wide.in_side (version_view version) } }
+    ensures needs { needs (allowed_views result.substatements.now) ≡ [] }
+{
+    let ahead: &'static [Word] = match version {
+        YangVersion::Yang1 => ANYXML,
+        YangVersion::Yang1_1 => AHEAD_OF_SIDE,
+    };
+    WideRule {
+        form: WideForm::NoArgument,
+        once: &[],
+        ahead,
+        substatements: IN_SIDE,
+        behind: &[],
+    }
+}
+
+/// The row of `notification`, in which YANG 1 has no `must`.
+fn rule_of_notification(version: YangVersion) -> WideRule
+    ensures rule { wide_rule_view result ≡ wide.wide_rule (version_view version) notification_word }
+    ensures needs { needs (allowed_views result.substatements.now) ≡ [] }
+{
+    let ahead = match version {
+        YangVersion::Yang1 => AHEAD_OF_NOTIFICATION_OF_YANG_1,
+        YangVersion::Yang1_1 => AHEAD_OF_NOTIFICATION,
+    };
+    WideRule {
+        form: AsBefore(Form::Identifier),
+        once: &[],
+        ahead,
+        substatements: IN_GROUPING,
+        behind: &[],
+    }
+}
+
 fn wide_rule(version: YangVersion, word: Word) -> WideRule
     ensures rule { wide_rule_view result ≡ wide.wide_rule (version_view version) (word_view word) }
     ensures needs { needs (allowed_views result.substatements.now) ≡ needs_of_word (word_view word) }
@@ -359,6 +525,22 @@ fn wide_rule(version: YangVersion, word: Word) -> WideRule
         },
         Word::Must => rule_of_must(),
         Word::When => rule_of_when(),
+        Word::Rpc | Word::Action => WideRule {
+            form: AsBefore(Form::Identifier),
+            once: SIDES,
+            ahead: CONDITIONS,
+            substatements: IN_CALL,
+            behind: &[],
+        },
+        Word::Notification => rule_of_notification(version),
+        Word::Input | Word::Output => rule_of_side(version),
+        Word::Anydata | Word::Anyxml => WideRule {
+            form: AsBefore(Form::Identifier),
+            once: WHENS,
+            ahead: CONSTRAINTS,
+            substatements: IN_ANYTHING,
+            behind: &[],
+        },
     }
 }
 
@@ -385,6 +567,13 @@ pub(crate) fn needs_in(word: Word) -> &'static [Keyword]
         | Word::Pattern
         | Word::Modifier
         | Word::Must
-        | Word::When => &[],
+        | Word::When
+        | Word::Rpc
+        | Word::Action
+        | Word::Notification
+        | Word::Input
+        | Word::Output
+        | Word::Anydata
+        | Word::Anyxml => &[],
     }
 }

@@ -35,7 +35,7 @@ fn type_named(keyword: Keyword, statement: &Stmt) -> Option<BuiltIn>
         ≡ type_named (keyword_view keyword) (view statement.now).0 }
 {
     if Keyword::Type.is(keyword) {
-        BuiltIn::named(statement.argument().unwrap_or(""))
+        BuiltIn::named(statement.argument().unwrap_or(statement.keyword()))
     } else {
         None
     }
@@ -85,11 +85,12 @@ impl<'a> Source<'a> {
         Keyword::Type.is(self.keyword) && self.type_name.is_none()
     }
 
-    /// The argument; no text where there is none.
+    /// The argument; the keyword where there is none.
     pub fn argument(&self) -> &'a str
         ensures { result.now ≡ argument_text (view self.now.statement.now).0 }
     {
-        self.statement.argument().unwrap_or("")
+        let statement = self.statement;
+        statement.argument().unwrap_or(statement.keyword())
     }
 
     /// The argument, with the number of the module.

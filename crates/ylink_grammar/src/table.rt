@@ -72,7 +72,7 @@ const IN_TYPEDEF: &[Allowed] = &[
     Allowed(Keyword::Reference, Count::AtMostOne),
 ];
 
-const IN_GROUPING: &[Allowed] = &[
+pub(crate) const IN_GROUPING: &[Allowed] = &[
     Allowed(Keyword::Typedef, Count::Any),
     Allowed(Keyword::Grouping, Count::Any),
     Allowed(Keyword::Uses, Count::Any),

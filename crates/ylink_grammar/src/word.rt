@@ -1,4 +1,4 @@
-//! The keywords of a language (RFC 7950, 7.5.3, 7.20.1, 7.20.2, 7.21.5, 9.4.5 and 9.4.6).
+//! The keywords of a language (RFC 7950, 7.5.3, 7.10, 7.11, 7.14 to 7.16, 7.20.1, 7.20.2, 7.21.5, 9.4.5 and 9.4.6).
 
 ghost use Rattle.std.specs.Prelude.{◌≡◌, None, option_map};
 ghost use Rattle.yspec_wide.specs.Words as spec;
@@ -8,7 +8,7 @@ ghost use Rattle.ylink_grammar.specs.WordView.{word_view};
 use crate::language::{Language, Unjudged};
 use ybase_words::Keyword;
 
-/// A keyword of a language: one of the core, of features or patterns, or a condition that isn't judged.
+/// A keyword of a language: one of the core, of features, patterns, operations or nodes without a type, or a condition that isn't judged.
 #[derive(Clone, Copy, Debug)]
 pub enum Word {
     Known(Keyword),
@@ -18,6 +18,13 @@ pub enum Word {
     Modifier,
     Must,
     When,
+    Rpc,
+    Action,
+    Notification,
+    Input,
+    Output,
+    Anydata,
+    Anyxml,
 }
 
 impl Word {
@@ -37,6 +44,13 @@ impl Word {
             Word::Modifier => 51,
             Word::Must => 52,
             Word::When => 53,
+            Word::Rpc => 54,
+            Word::Action => 55,
+            Word::Notification => 56,
+            Word::Input => 57,
+            Word::Output => 58,
+            Word::Anydata => 59,
+            Word::Anyxml => 60,
         }
     }
 
@@ -45,6 +59,31 @@ impl Word {
         ensures { result ≡ spec.same_word (word_view self) (word_view other) }
     {
         self.number() == other.number()
+    }
+}
+
+/// The keyword of nodes without a type that a text is, if it is one.
+fn anything_word(text: &str) -> Option<Word>
+    ensures { option_map word_view result ≡ spec.anything_named text.now }
+{
+    match text {
+        "anydata" => Some(Word::Anydata),
+        "anyxml" => Some(Word::Anyxml),
+        _ => None,
+    }
+}
+
+/// The keyword of operations or of nodes without a type that a text is, if it is one.
+fn operation_word(text: &str) -> Option<Word>
+    ensures { option_map word_view result ≡ spec.operation_named text.now }
+{
+    match text {
+        "rpc" => Some(Word::Rpc),
+        "action" => Some(Word::Action),
+        "notification" => Some(Word::Notification),
+        "input" => Some(Word::Input),
+        "output" => Some(Word::Output),
+        _ => anything_word(text),
     }
 }
 
@@ -57,7 +96,7 @@ fn added_word(text: &str) -> Option<Word>
         "if-feature" => Some(Word::IfFeature),
         "pattern" => Some(Word::Pattern),
         "modifier" => Some(Word::Modifier),
-        _ => None,
+        _ => operation_word(text),
     }
 }
 

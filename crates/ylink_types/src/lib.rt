@@ -9,4 +9,4 @@ mod types;
 pub use identities::Identities;
 pub use typedefs::Typedefs;
 pub use types::{Meant, Member, Verdict, judge_type};
-pub use ylink_values::Kept;
+pub use ylink_values::{Expressions, Kept};

@@ -9,11 +9,12 @@ ghost use Rattle.ylink_grammar.specs.SourceView.{source_view};
 use crate::identities::Identities;
 use crate::types::{Verdict, verdict_on};
 use std::alloc::{AllocError, Global};
+use std::rc::Rc;
 use ybase_preorder::{Node, Siblings};
 use ybase_words::Keyword;
 use ylink_grammar::{Source, Sources, Stated, first_with, found_with};
 use ylink_names::meaning_at;
-use ylink_values::Kept;
+use ylink_values::{Expressions, Kept};
 
 /// What is known of a typedef.
 #[derive(Drop)]
@@ -33,6 +34,8 @@ pub struct Typedefs<'t> {
     known: Vec<Option<Box<Known<'t>>>>,
     // The identities of the set, over which types stand.
     identities: Identities,
+    // The regular expressions of the set.
+    expressions: Rc<Expressions>,
 }
 
 /// The row below the typedef of a number, where there is one.
@@ -91,6 +94,20 @@ impl<'t> Typedefs<'t> {
         ensures { result.now ≡ self.now.identities }
     {
         &self.identities
+    }
+
+    /// The regular expressions of the set.
+    pub fn expressions(&self) -> &Expressions
+        ensures { result.now ≡ self.now.expressions.value }
+    {
+        &*self.expressions
+    }
+
+    /// The same, to be shared.
+    pub fn shared_expressions(&self) -> Result<Rc<Expressions>, AllocError>
+        ensures { IfOk result (λ expressions. expressions.value ≡ self.now.expressions.value) }
+    {
+        Ok(self.expressions.clone()?)
     }
 
     /// What is known of the typedef that the statement of a number names.
@@ -188,7 +205,7 @@ impl<'t> Typedefs<'t> {
         Ok(())
     }
 
-    /// The typedefs of a set, given which names of values are kept, what each statement means, the identities, and an order in
+    /// The typedefs of a set, given which names of values are kept, what each statement means, the identities, the expressions, and an order in
     /// which each typedef stands behind those that it names.
     pub fn of(
         alloc: Global,
@@ -196,6 +213,7 @@ impl<'t> Typedefs<'t> {
         kept: Kept<'_>,
         meanings: Vec<Option<u32>>,
         identities: Identities,
+        expressions: Rc<Expressions>,
         order: &[usize],
     ) -> Result<Typedefs<'t>, AllocError>
         requires meant { AreMeanings meanings.items (view sources.now) }
@@ -214,9 +232,18 @@ impl<'t> Typedefs<'t> {
                 meanings,
                 known,
                 identities,
+                expressions,
             });
         }
-        Typedefs::learned(alloc, sources, kept, meanings, identities, order)
+        Typedefs::learned(
+            alloc,
+            sources,
+            kept,
+            meanings,
+            identities,
+            expressions,
+            order,
+        )
     }
 
     /// The same, each learned in its turn.
@@ -226,6 +253,7 @@ impl<'t> Typedefs<'t> {
         kept: Kept<'_>,
         meanings: Vec<Option<u32>>,
         identities: Identities,
+        expressions: Rc<Expressions>,
         order: &[usize],
     ) -> Result<Typedefs<'t>, AllocError>
         requires meant { AreMeanings meanings.items (view sources.now) }
@@ -243,6 +271,7 @@ impl<'t> Typedefs<'t> {
             meanings,
             known,
             identities,
+            expressions,
         };
         for number in order {
             let row = typedef_row(sources, *number);

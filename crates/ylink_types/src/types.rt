@@ -29,8 +29,8 @@ use ybase_words::{BuiltIn, Keyword};
 use ylink_arguments::{Name, fraction_digits, leafref_path};
 use ylink_grammar::{Source, Sources, argument_of, argument_with};
 use ylink_values::{
-    Kept, NamingKind, accepted_type, is_pattern_statement, matched_type, measured_type, named_type,
-    narrowed_type, ranged_type, renamed_type,
+    Expressions, Kept, NamingKind, accepted_type, is_pattern_statement, matched_type,
+    measured_type, named_type, narrowed_type, ranged_type, renamed_type,
 };
 use ytype::{FractionDigits, YType};
 
@@ -154,12 +154,16 @@ fn decimal(alloc: Global, below: Siblings<'_, Source<'_>>) -> Result<Option<YTyp
     }
 }
 
-fn string_type(alloc: Global, below: Siblings<'_, Source<'_>>) -> Result<Option<YType>, AllocError>
+fn string_type(
+    alloc: Global,
+    expressions: &Expressions,
+    below: Siblings<'_, Source<'_>>,
+) -> Result<Option<YType>, AllocError>
     ensures { IfOk result (λ type. type
         ≡ spec.single_type spec.string (row_by source_view below.entry)) }
 {
     match measured_type(alloc, below, YType::string(alloc))? {
-        Some(measured) => matched_type(alloc, measured, below),
+        Some(measured) => matched_type(alloc, expressions, measured, below),
         None => Ok(None),
     }
 }
@@ -167,6 +171,7 @@ fn string_type(alloc: Global, below: Siblings<'_, Source<'_>>) -> Result<Option<
 /// A type that is no union, no leafref and no identityref.
 fn single_type(
     alloc: Global,
+    expressions: &Expressions,
     kept: Kept<'_>,
     type_name: BuiltIn,
     below: Siblings<'_, Source<'_>>,
@@ -184,7 +189,7 @@ fn single_type(
         BuiltIn::Uint32 => ranged_type(alloc, below, YType::uint32(alloc)),
         BuiltIn::Uint64 => ranged_type(alloc, below, YType::uint64(alloc)),
         BuiltIn::Decimal64 => decimal(alloc, below),
-        BuiltIn::String => string_type(alloc, below),
+        BuiltIn::String => string_type(alloc, expressions, below),
         BuiltIn::Boolean => accepted_type(YType::boolean(alloc)),
         BuiltIn::Empty => accepted_type(YType::empty(alloc)),
         BuiltIn::Enumeration => named_type(alloc, kept, NamingKind::Enum, below),
@@ -454,7 +459,13 @@ fn verdict_in_place<'t>(
         BuiltIn::Leafref => leafref_verdict(alloc, is_member, statement),
         BuiltIn::Identityref => identity_verdict(alloc, typedefs, statement),
         _ => Ok(own_or(
-            single_type(alloc, kept, type_name, statement.children())?,
+            single_type(
+                alloc,
+                typedefs.expressions(),
+                kept,
+                type_name,
+                statement.children(),
+            )?,
             Verdict::Wrong,
         )),
     }
@@ -512,6 +523,7 @@ fn restricted_in<'t>(
 /// What the patterns of a `type` statement make of what the typedef means that it names.
 fn matched_meant<'t>(
     alloc: Global,
+    expressions: &Expressions,
     meant: Meant<'t>,
     below: Siblings<'_, Source<'t>>,
 ) -> Result<Option<Meant<'t>>, AllocError>
@@ -519,7 +531,7 @@ fn matched_meant<'t>(
         ≡ spec.matched_meant (row_by source_view below.entry) (meant_view meant.entry)) }
 {
     match meant {
-        Meant::Own(outer) => match matched_type(alloc, outer, below)? {
+        Meant::Own(outer) => match matched_type(alloc, expressions, outer, below)? {
             Some(matched) => Ok(Some(Meant::Own(matched))),
             None => Ok(None),
         },
@@ -531,6 +543,7 @@ fn matched_meant<'t>(
 /// What both make of it, patterns behind the others.
 fn limited_meant<'t>(
     alloc: Global,
+    expressions: &Expressions,
     meant: Meant<'t>,
     below: Siblings<'_, Source<'t>>,
 ) -> Result<Option<Meant<'t>>, AllocError>
@@ -539,7 +552,7 @@ fn limited_meant<'t>(
         (spec.restricted_in (row_by source_view below.entry) (meant_view meant.entry))) }
 {
     match restricted_in(alloc, meant, below)? {
-        Some(restricted) => matched_meant(alloc, restricted, below),
+        Some(restricted) => matched_meant(alloc, expressions, restricted, below),
         None => Ok(None),
     }
 }
@@ -568,6 +581,7 @@ fn named_meant<'t>(
 /// What all make of it, names behind the others.
 fn derived_meant<'t>(
     alloc: Global,
+    expressions: &Expressions,
     kept: Kept<'_>,
     meant: Meant<'t>,
     below: Siblings<'_, Source<'t>>,
@@ -577,7 +591,7 @@ fn derived_meant<'t>(
         ≡ option_and_then (spec.named_meant (wide.named_kept (kept_view kept.entry) row))
         (option_and_then (spec.matched_meant row) (spec.restricted_in row (meant_view meant.entry)))) }
 {
-    match limited_meant(alloc, meant, below)? {
+    match limited_meant(alloc, expressions, meant, below)? {
         Some(limited) => named_meant(alloc, kept, limited, below),
         None => Ok(None),
     }
@@ -586,6 +600,7 @@ fn derived_meant<'t>(
 /// The verdict on a `type` statement that names a typedef, given what is known of that one.
 fn derived<'t>(
     alloc: Global,
+    expressions: &Expressions,
     kept: Kept<'_>,
     is_member: bool,
     named: Option<&Known<'t>>,
@@ -605,7 +620,7 @@ fn derived<'t>(
     if is_member && meant.is_reference() {
         return Ok(Verdict::Wrong);
     }
-    match derived_meant(alloc, kept, meant.copy(alloc)?, below)? {
+    match derived_meant(alloc, expressions, kept, meant.copy(alloc)?, below)? {
         Some(made) => Ok(Verdict::Means(made)),
         None => Ok(Verdict::Wrong),
     }
@@ -630,7 +645,14 @@ pub fn judge_type<'t>(
 {
     let Some(type_name) = built_in_meant(sources, statement.number(), statement.label()) else {
         let named = typedefs.named(statement.number());
-        return derived(alloc, kept, is_member, named, statement.children());
+        return derived(
+            alloc,
+            typedefs.expressions(),
+            kept,
+            is_member,
+            named,
+            statement.children(),
+        );
     };
     if !are_in_place(type_name, statement.children()) {
         return Ok(Verdict::Wrong);

@@ -2,18 +2,17 @@
 
 ghost use Rattle.std.specs.Prelude.{◌≡◌, ℕ, IfOk};
 ghost use Rattle.yspec.specs.types.Restriction.{narrowed};
-ghost use Rattle.yspec.specs.linking.Source as sources;
 ghost use Rattle.yspec.specs.linking.TypeStatements as spec;
 ghost use Rattle.ytype_numbers.specs.View.{restriction_of};
 ghost use Rattle.ybase_preorder.specs.View.{row_by, label_by};
 ghost use Rattle.ylink_grammar.specs.SourceView.{source_view};
 
+use crate::expressions::Expressions;
 use crate::limit::{accepted_type, error_text};
 use std::alloc::{AllocError, Global};
-use std::rc::Rc;
 use ybase_preorder::{Node, Siblings};
 use ylink_grammar::{Source, argument_of};
-use ytype::{Expression, Restriction, YType};
+use ytype::{Restriction, YType};
 
 /// Whether a statement is a `pattern`.
 pub fn is_pattern_statement(statement: &Source<'_>) -> bool
@@ -35,30 +34,19 @@ fn is_inverted(below: Siblings<'_, Source<'_>>) -> bool
     false
 }
 
-/// The regular expression that a `pattern` states; one that is too large for the engine is told as want of memory.
-fn expression_stated(
-    alloc: Global,
-    statement: Node<'_, Source<'_>>,
-) -> Result<Expression, AllocError>
-    ensures { IfOk result (λ expression. expression
-        ≡ sources.argument_in (label_by source_view statement.entry)) }
-{
-    match Expression::read(alloc, argument_of(statement)) {
-        Ok(expression) => Ok(expression),
-        Err(_) => Err(AllocError),
-    }
-}
-
 /// The restriction that a `pattern` states.
-fn pattern_stated(alloc: Global, statement: Node<'_, Source<'_>>) -> Result<Restriction, AllocError>
+fn pattern_stated(
+    alloc: Global,
+    expressions: &Expressions,
+    statement: Node<'_, Source<'_>>,
+) -> Result<Restriction, AllocError>
     ensures { IfOk result (λ r. restriction_of r
         ≡ spec.pattern_stated (label_by source_view statement.entry)
         (row_by source_view statement.entry.children)) }
 {
     let below = statement.children();
-    let expression = expression_stated(alloc, statement)?;
     Ok(Restriction::Pattern {
-        expression: Rc::new(alloc, expression)?,
+        expression: expressions.with_text(alloc, argument_of(statement))?,
         inverted: is_inverted(below),
         error: error_text(alloc, below)?,
     })
@@ -67,6 +55,7 @@ fn pattern_stated(alloc: Global, statement: Node<'_, Source<'_>>) -> Result<Rest
 /// What a `pattern` makes of a type.
 fn matched_by(
     alloc: Global,
+    expressions: &Expressions,
     outer: &YType,
     statement: Node<'_, Source<'_>>,
 ) -> Result<Option<YType>, AllocError>
@@ -74,13 +63,14 @@ fn matched_by(
         ≡ narrowed outer.now (spec.pattern_stated (label_by source_view statement.entry)
         (row_by source_view statement.entry.children))) }
 {
-    let restriction = pattern_stated(alloc, statement)?;
+    let restriction = pattern_stated(alloc, expressions, statement)?;
     accepted_type(outer.narrow(alloc, &restriction))
 }
 
-/// What the patterns of a row make of a type, in their order.
+/// What the patterns of a row make of a type, in their order, given expressions that are made.
 pub fn matched_type(
     alloc: Global,
+    expressions: &Expressions,
     outer: YType,
     below: Siblings<'_, Source<'_>>,
 ) -> Result<Option<YType>, AllocError>
@@ -92,7 +82,7 @@ pub fn matched_type(
         if !is_pattern_statement(statement.label()) {
             continue;
         }
-        match matched_by(alloc, &made, statement)? {
+        match matched_by(alloc, expressions, &made, statement)? {
             Some(matched) => made = matched,
             None => return Ok(None),
         }

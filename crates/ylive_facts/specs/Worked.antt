@@ -2,7 +2,7 @@
 use Rattle.std.specs.Prelude.{ℕ, pos, true, [], ◌∷◌, Option, Some, None, codes}
 use Rattle.yspec.specs.Forest.{end, node}
 use Rattle.yspec.specs.types.Types.{Raw, int, text, Val, value, number_value, text_value, integer_base, uint8, string_base, plain}
-use Rattle.yspec.specs.schema.Schema.{Schema, SchemaNode, Kind, leaf, list, allowed, key, Amount, LeafType, own_type, current}
+use Rattle.yspec.specs.schema.Schema.{Schema, SchemaNode, Kind, leaf, list, allowed, key, Amount, LeafType, own_type, current, by_type}
 use Rattle.yspec.specs.document.Document.{Stored, Tree}
 
 abbrev node_of : ℕ → Kind → SchemaNode
@@ -21,6 +21,7 @@ references = record {
   type = record (plain (integer_base uint8)) { requires_instance = Some true };
   target = Some 1;
   targets = [];
+  form = by_type;
 }
 
 abbrev any_amount : Amount

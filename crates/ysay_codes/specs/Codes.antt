@@ -79,6 +79,8 @@ of_modules =
     (codes "the pattern") (codes "Close each class and group, and put a backslash before a sign that stands for itself; blocks such as IsGreek aren't read.") (codes "RFC 7950, 9.4.5; XML Schema, part 2, appendix F") ∷
     said (codes "C22") (codes "A condition names no feature, or features lead back to themselves by their conditions.")
     (codes "the if-feature") (codes "Define the feature at the top of the module that the prefix names, or correct the name; take one of the conditions out.") (codes "RFC 7950, 7.20.1 and 7.20.2") ∷
+    said (codes "C24") (codes "An action or a notification stands below an operation, a list without a key, a choice or a case, or an action at the top.")
+    (codes "the action or notification statement") (codes "Give the list a key, or bring it elsewhere.") (codes "RFC 7950, 7.15 and 7.16") ∷
     []
 
 -- documents

@@ -206,6 +206,13 @@ const OF_MODULES: &[Explanation] = &[
         remedy: "Define the feature at the top of the module that the prefix names, or correct the name; take one of the conditions out.",
         source: "RFC 7950, 7.20.1 and 7.20.2",
     },
+    Explanation {
+        code: "C24",
+        cause: "An action or a notification stands below an operation, a list without a key, a choice or a case, or an action at the top.",
+        place: "the action or notification statement",
+        remedy: "Give the list a key, or bring it elsewhere.",
+        source: "RFC 7950, 7.15 and 7.16",
+    },
 ];
 
 const OF_DOCUMENTS: &[Explanation] = &[

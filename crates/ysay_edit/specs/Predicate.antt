@@ -3,7 +3,7 @@ use Rattle.std.specs.Prelude.{ℕ, ◌&&◌, ◌++◌, Bool, true, false, List, 
 use Rattle.std.specs.List.{flat_map}
 use Rattle.std.specs.Option.{option_map_or}
 use Rattle.yspec.specs.text.Text.{Text}
-use Rattle.yspec.specs.schema.Schema.{Schema, Kind, container, leaf, leaf_list, list, child_written, has_value, is_many, node_at}
+use Rattle.yspec.specs.schema.Schema.{Schema, Kind, JsonForm, by_type, any_value, any_object, container, leaf, leaf_list, list, child_written, has_value, is_many, node_at}
 use Rattle.yspec.specs.edit.EditText.{Edit, Path, Predicate, create, replace, remove, move_to}
 use Rattle.yspec.specs.edit.Editing.{fits_kind, says_nothing}
 
@@ -24,11 +24,17 @@ abbrev pub list_due : Schema → Text → List ℕ → Text
 list_due schema name [] = name ++ (codes " is a list without keys: write " ++ (name ++ codes "[1]."))
 list_due schema name (key ∷ keys) = keys_due schema name (key ∷ keys)
 
+-- that a node is what holds a value so
+abbrev pub leaf_called : JsonForm → Text
+leaf_called by_type = codes " is a leaf"
+leaf_called any_value = codes " is an anyxml"
+leaf_called any_object = codes " is an anydata"
+
 abbrev pub kind_due : Schema → Text → Kind → Text
 kind_due schema name (list tuples amount) = list_due schema name tuples.keys
 kind_due schema name (leaf_list type defaults amount) = name ++ (codes " is a leaf-list: write " ++ (name ++ codes "[1]."))
 kind_due schema name (container presence) = name ++ codes " is a container: no predicate stands behind it."
-kind_due schema name (leaf type absence) = name ++ codes " is a leaf: no predicate stands behind it."
+kind_due schema name (leaf type absence) = name ++ (leaf_called type.form ++ codes ": no predicate stands behind it.")
 kind_due schema name _ = []
 
 -- what one instance of a node is called that may have several

@@ -5,14 +5,14 @@ ghost use Rattle.std.specs.Prelude.{◌≡◌, ◌++◌, [], codes, IfOk, None, 
 ghost use Rattle.std.specs.List.{flat_map};
 ghost use Rattle.std.specs.Option.{option_map_or};
 ghost use Rattle.yspec.specs.schema.Schema.{node_at};
-ghost use Rattle.yschema_model.specs.Layout.{kind_view, numbers_of};
+ghost use Rattle.yschema_model.specs.Layout.{form_view, kind_view, numbers_of};
 ghost use Rattle.yschema_model.specs.View.{view};
 ghost use Rattle.yinst_path.specs.EditView.{edit_view, predicate_view, steps_view};
 ghost use Rattle.ysay_edit.specs.Predicate as spec;
 
 use std::alloc::{AllocError, Global};
 use yinst_path::{BoundStep, Edit, NamedStep, Predicate, fits_node};
-use yschema_model::{Kind, Schema, SchemaId};
+use yschema_model::{JsonForm, Kind, Schema, SchemaId};
 
 // ---- what is due behind a name
 
@@ -83,6 +83,25 @@ fn list_due(
     }
 }
 
+/// That a node is what holds a value so.
+fn leaf_called(form: JsonForm) -> &'static str
+    ensures { result.now ≡ spec.leaf_called (form_view form) }
+{
+    match form {
+        JsonForm::ByType => " is a leaf",
+        JsonForm::AnyValue => " is an anyxml",
+        JsonForm::AnyObject => " is an anydata",
+    }
+}
+
+/// Behind the name of what is called so.
+fn leaf_due(alloc: Global, name: &str, called: &str) -> Result<String, AllocError>
+    ensures { IfOk result (λ text. string_bytes text
+        ≡ name.now ++ (called.now ++ codes ": no predicate stands behind it.")) }
+{
+    [name, called, ": no predicate stands behind it."].concat(alloc)
+}
+
 /// Behind the name of a node of a kind.
 fn kind_due(alloc: Global, schema: &Schema, name: &str, kind: &Kind) -> Result<String, AllocError>
     ensures { IfOk result (λ text. string_bytes text
@@ -94,7 +113,7 @@ fn kind_due(alloc: Global, schema: &Schema, name: &str, kind: &Kind) -> Result<S
         Kind::Container { .. } => {
             [name, " is a container: no predicate stands behind it."].concat(alloc)
         }
-        Kind::Leaf { .. } => [name, " is a leaf: no predicate stands behind it."].concat(alloc),
+        Kind::Leaf { leaf_type, .. } => leaf_due(alloc, name, leaf_called(leaf_type.form)),
         Kind::Choice { .. } | Kind::Case => Ok(String::new(alloc)),
     }
 }

@@ -4,7 +4,7 @@ use Rattle.std.specs.Prelude.{ℕ, ◌==◌, ◌&&◌, ◌++◌, Bool, not, List
 use Rattle.std.specs.Option.{option_map_or}
 use Rattle.serde_json.specs.Data.{Data, null, boolean, number, string, array, object}
 use Rattle.yspec.specs.text.Text.{Text}
-use Rattle.yspec.specs.schema.Schema.{Schema, Kind, has_value, is_many, node_at}
+use Rattle.yspec.specs.schema.Schema.{Schema, Kind, JsonForm, any_object, has_value, is_many, form_in, node_at}
 use Rattle.yspec.specs.document.Document.{Step}
 use Rattle.yspec.specs.document.Reading.{Refusal, json_of}
 use Rattle.ysay_text.specs.Line.{shown}
@@ -41,9 +41,13 @@ kind_of_value (string s) = codes "a text"
 kind_of_value (array ds) = codes "an array"
 kind_of_value (object ms) = codes "an object"
 
+abbrev pub wanted_by : JsonForm → Text
+wanted_by any_object = codes "an object"
+wanted_by _ = codes "a leaf's value"
+
 -- what one instance of a node has
 abbrev pub wanted_of_one : Kind → Text
-wanted_of_one kind = if has_value kind then (if is_many kind then codes "an item's value" else codes "a leaf's value") else codes "an object"
+wanted_of_one kind = if has_value kind then (if is_many kind then codes "an item's value" else wanted_by (form_in kind)) else codes "an object"
 
 -- what a node wants: an array of all its entries or items, and at a position, or where there is one at most, one of them
 abbrev pub wanted_kind : Kind → Bool → Text

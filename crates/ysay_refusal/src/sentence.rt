@@ -14,7 +14,7 @@ use serde_json::Value;
 use std::alloc::{AllocError, Global};
 use yinst_tree::{DocCode, Step};
 use ysay_text::shown;
-use yschema_model::{Kind, Schema, SchemaId};
+use yschema_model::{JsonForm, Kind, Schema, SchemaId};
 
 // ---- J3 and J4
 
@@ -128,7 +128,10 @@ fn wanted_of_one(kind: &Kind) -> &'static str
     } else if kind.is_many() {
         "an item's value"
     } else {
-        "a leaf's value"
+        match kind.form() {
+            JsonForm::AnyObject => "an object",
+            JsonForm::ByType | JsonForm::AnyValue => "a leaf's value",
+        }
     }
 }
 

@@ -8,7 +8,9 @@ use Rattle.yspec.specs.schema.Schema.{Schema}
 use Rattle.yspec.specs.document.Document.{Tree}
 use Rattle.yspec.specs.document.Fault.{Fault}
 use Rattle.yspec.specs.document.Writing.{written_text}
-use Rattle.yspec.specs.edit.Editing.{EditRefusal}
+use Rattle.yspec.specs.edit.Editing.{EditRefusal, Branch}
+use Rattle.yspec_session.specs.Carrying.{Difference}
+use Rattle.yinst_tree.specs.Written.{stored_text}
 use Rattle.ysay_json.specs.FaultData.{json_line}
 use Rattle.yspec_run.specs.RefusalData.{cause_of}
 use Rattle.yspec_run.specs.Script.{telling_code}
@@ -44,10 +46,19 @@ abbrev pub listed_text : Schema → Tree → List Fault → ℕ → Text
 listed_text schema tree faults count = codes "{\"faults\":[" ++ (items_text schema tree faults
     ++ (codes "],\"count\":" ++ (decimal count ++ codes "}")))
 
+-- how many faults there were and are, those that are new with the later document, and those that are gone with the earlier one
+abbrev pub changes_text : Schema → Tree → Tree → ℕ → ℕ → Difference → Text
+changes_text schema earlier later before after d = codes "{\"before\":" ++ (decimal before ++ (codes ",\"after\":" ++ (decimal after
+    ++ (codes ",\"told\":[" ++ (items_text schema later d.told ++ (codes "],\"gone\":[" ++ (items_text schema earlier d.gone ++ codes "]}")))))))
+
 -- ---- of documents
 
 abbrev pub document_text : Schema → Tree → Text
 document_text schema tree = codes "{\"document\":" ++ (written_text schema tree ++ codes "}")
+
+-- of a stored node with all that stands below it
+abbrev pub value_text : Schema → Branch → Text
+value_text schema b = codes "{\"value\":" ++ (stored_text schema b.label b.below ++ codes "}")
 
 -- ---- of other requests
 

@@ -11,7 +11,7 @@ ghost use Rattle.ysay_session.specs.AnswerText as spec;
 use itoa::Buffer;
 use std::alloc::{AllocError, Global};
 use ycheck::Fault;
-use yinst_tree::{Tree, write};
+use yinst_tree::{Stored, Tree, write, write_node};
 use ysay_json::json_line;
 use yschema_model::Schema;
 
@@ -112,6 +112,41 @@ pub fn listed_text(
     .concat(alloc)
 }
 
+/// How many faults there were and are, those that are new with the later document, and those that are gone with the earlier one,
+/// where the rows of both stand in the order of their schema.
+pub fn changes_text(
+    alloc: Global,
+    schema: &Schema,
+    earlier: &Tree,
+    later: &Tree,
+    before: usize,
+    after: usize,
+    told: &[Fault],
+    gone: &[Fault],
+) -> Result<String, AllocError>
+    ensures { let e = document_view.tree_view earlier.now in let l = document_view.tree_view later.now in
+        IfOk result (λ text. IsSorted e → IsSorted l → string_bytes text
+        ≡ spec.changes_text (schema_view.view schema.now) e l before after
+        (record { told = fault_view.views told.now; gone = fault_view.views gone.now })) }
+{
+    let new = items_text(alloc, schema, later, told)?;
+    let old = items_text(alloc, schema, earlier, gone)?;
+    let mut first = Buffer::new();
+    let mut second = Buffer::new();
+    [
+        "{\"before\":",
+        first.format(before),
+        ",\"after\":",
+        second.format(after),
+        ",\"told\":[",
+        new.as_str(),
+        "],\"gone\":[",
+        old.as_str(),
+        "]}",
+    ]
+    .concat(alloc)
+}
+
 /// A document whose rows stand in the order of its schema.
 pub fn document_text(alloc: Global, schema: &Schema, tree: &Tree) -> Result<String, AllocError>
     ensures { let t = document_view.tree_view tree.now in
@@ -120,4 +155,14 @@ pub fn document_text(alloc: Global, schema: &Schema, tree: &Tree) -> Result<Stri
 {
     let text = write(alloc, schema, tree)?;
     ["{\"document\":", text.as_str(), "}"].concat(alloc)
+}
+
+/// A stored node with all that stands below it, in rows in the order of its schema; of an entry or item, this one.
+pub fn value_text(alloc: Global, schema: &Schema, stored: &Stored) -> Result<String, AllocError>
+    ensures { let node = document_view.view stored.now in
+        IfOk result (λ text. IsSorted node.1 → string_bytes text
+        ≡ spec.value_text (schema_view.view schema.now) (record { label = node.0; below = node.1 })) }
+{
+    let text = write_node(alloc, schema, stored)?;
+    ["{\"value\":", text.as_str(), "}"].concat(alloc)
 }

@@ -5,11 +5,12 @@ use Rattle.serde_json.specs.Data.{string}
 use Rattle.serde_json.specs.Written.{compact_text}
 use Rattle.yspec.specs.text.Text.{Text, single_quote, space}
 use Rattle.yspec.specs.types.Types.{Raw, text, empty}
+use Rattle.yspec.specs.schema.Schema.{by_type}
 use Rattle.yspec.specs.document.Writing.{leaf_data}
 
 -- the value of a leaf or an item as its document has it
 abbrev pub value_text : Option Raw → Text
-value_text value = compact_text (leaf_data value)
+value_text value = compact_text (leaf_data by_type value)
 
 -- the same without the quotes of a text; that of `empty` is no text (RFC 7950, 9.11)
 abbrev pub bare_text : Option Raw → Text

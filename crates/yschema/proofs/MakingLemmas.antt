@@ -7,7 +7,7 @@ use Rattle.std.proofs.lemmas.List.{map-append, at_drop_more, at_drop_all, append
 use Rattle.yspec.specs.Forest.{Forest, node, end, size, relabelled}
 use Rattle.yspec.specs.text.Text.{Text}
 use Rattle.yspec.specs.types.Types.{YangType, Val}
-use Rattle.yspec.specs.schema.Schema.{SchemaNode, LeafType, MemberTarget, Status, Kind, leaf, leaf_list, case, Absence, key, mandatory}
+use Rattle.yspec.specs.schema.Schema.{SchemaNode, LeafType, MemberTarget, Status, Kind, leaf, leaf_list, case, Absence, key, mandatory, JsonForm}
 use Rattle.yspec.specs.linking.Keyword as word
 use Rattle.yspec.specs.linking.Source.{Stated}
 use Rattle.yspec.specs.linking.Planned as spec
@@ -51,8 +51,8 @@ nothing_made plan (t ∷ ts) = nothing_made plan ts
 abbrev pub absent_as : Bool → Bool → List Val → Absence
 absent_as is_its_key must values = if is_its_key then key else (if must then mandatory else absent_by (first_value values))
 
-abbrev pub leaf_type_by : Text → YangType → Option ℕ → List (Option MemberTarget) → LeafType
-leaf_type_by name type target targets = record { name = name; type = type; target = target; targets = targets }
+abbrev pub leaf_type_by : JsonForm → Text → YangType → Option ℕ → List (Option MemberTarget) → LeafType
+leaf_type_by form name type target targets = record { name = name; type = type; target = target; targets = targets; form = form }
 
 -- ---- kinds
 

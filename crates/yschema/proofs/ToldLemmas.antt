@@ -13,11 +13,10 @@ use Rattle.yspec.specs.linking.Imports.{import_breaks}
 use Rattle.yspec.specs.linking.Scopes.{lost_breaks}
 use Rattle.yspec.specs.linking.Circles.{import_circles, definition_circles}
 use Rattle.yspec.specs.linking.DerivedTypes.{type_breaks}
-use Rattle.yspec.specs.linking.NodeBreaks.{name_breaks}
 use Rattle.yspec.specs.linking.NodeCounts.{node_count}
 use Rattle.yspec.specs.linking.Planned.{Plan, at_top, planned}
 use Rattle.yspec.proofs.LinkingProofs.BreakLemmas.{none_second, none_told}
-use Rattle.yspec_wide.specs.Compiling.{linked_in, compiled_in, linking_phases_in, meanings_phase_in, names_phase_in, phases_in, phases_of_plan_in, plan_in, schema_in, schema_of_plan_in, whole_plan}
+use Rattle.yspec_wide.specs.Compiling.{linked_in, compiled_in, linking_phases_in, meanings_phase_in, names_phase_in, phases_in, phases_of_plan_in, place_phase_in, plan_in, schema_in, schema_of_plan_in, whole_plan}
 use Rattle.yspec_wide.specs.Features.{condition_breaks}
 use Rattle.yspec_wide.specs.Expansion.{augmented_in}
 use Rattle.yspec_wide.specs.Language.{Language, core}
@@ -116,7 +115,7 @@ module _ (language : Language) where
   module _ (f : Forest Statement) where
     module _ (s : Forest Source) (s_is : s ≡ sources_in language f) (first : None ≡ first_broken (linking_phases_in language f)) where
       behind : Forest Source → List (List Break)
-      behind m = name_breaks (whole_plan language m) ∷ rule_part language f (whole_plan language m) (plan_in language m)
+      behind m = place_phase_in language (whole_plan language m) ∷ rule_part language f (whole_plan language m) (plan_in language m)
 
       expansion : linking_phases_in language f ++ (expansion_part language f s ++ behind s) ≡ phases_in language f
       unfolding behind
@@ -136,10 +135,10 @@ module _ (language : Language) where
       targets_told t few e = e ∙ (sym (told_last (target_breaks language s))
           ∙ sym (told_later (limit_breaks (nat_lt node_limit (node_count s)) f) (first_broken (target_breaks language s ∷ [])) few))
 
-    -- and then names
-    pub names_told : (whole : Plan) (t : Option Break) → None ≡ first_broken (expansion_part language f whole.modules) → t ≡ least_from None (name_breaks whole)
+    -- and then names and places
+    pub names_told : (whole : Plan) (t : Option Break) → None ≡ first_broken (expansion_part language f whole.modules) → t ≡ least_from None (place_phase_in language whole)
         → t ≡ first_broken (plan_part language f whole)
-    names_told whole t none e = e ∙ (sym (told_last (name_breaks whole)) ∙ sym (told_then (expansion_part language f whole.modules) (name_breaks whole ∷ []) none))
+    names_told whole t none e = e ∙ (sym (told_last (place_phase_in language whole)) ∙ sym (told_then (expansion_part language f whole.modules) (place_phase_in language whole ∷ []) none))
 
     module _ (whole p : Plan) (whole_is : whole ≡ whole_plan language (sources_in language f)) (p_is : p ≡ plan_in language (sources_in language f))
         (first : None ≡ first_broken (linking_phases_in language f)) where

@@ -8,10 +8,9 @@ use Rattle.yspec.specs.schema.Breaks.{Break, least_from, limit_breaks, node_limi
 use Rattle.yspec.specs.linking.Source.{Source}
 use Rattle.yspec.specs.linking.NodeCounts.{node_count}
 use Rattle.yspec.specs.linking.Planned.{Plan, nodes_of}
-use Rattle.yspec.specs.linking.NodeBreaks.{name_breaks}
-use Rattle.yspec.specs.linking.Compiling.{is_too_deep}
+use Rattle.yspec_wide.specs.Compiling.{is_too_deep_in}
 use Rattle.yspec_wide.specs.Additions.{addition_breaks_in}
-use Rattle.yspec_wide.specs.Compiling.{node_breaks_in}
+use Rattle.yspec_wide.specs.Compiling.{node_breaks_in, place_phase_in}
 use Rattle.yspec_wide.specs.Expansion.{augment_breaks_in, unfit_breaks_in}
 use Rattle.yspec_wide.specs.Language.{Language}
 use Rattle.ylink_grammar.specs.BreakView.{break_view, seen}
@@ -26,19 +25,19 @@ abbrev pub expansion_part : Language → Forest Statement → Forest Source → 
 expansion_part language modules sources =
     limit_breaks (nat_lt node_limit (node_count sources)) modules ∷ target_breaks language sources ∷ []
 
--- and of the names of all nodes
+-- and of the names of all nodes, and operations out of place
 abbrev pub plan_part : Language → Forest Statement → Plan → List (List Break)
-plan_part language modules whole = expansion_part language modules whole.modules ++ name_breaks whole ∷ []
+plan_part language modules whole = expansion_part language modules whole.modules ++ place_phase_in language whole ∷ []
 
 -- of what all nodes add, and of those that stand
 abbrev pub rule_part : Language → Forest Statement → Plan → Plan → List (List Break)
-rule_part language modules whole plan = node_breaks_in language whole plan ∷ limit_breaks (is_too_deep plan.nodes) modules ∷ []
+rule_part language modules whole plan = node_breaks_in language whole plan ∷ limit_breaks (is_too_deep_in language plan) modules ∷ []
 
 abbrev pub all_addition_breaks : Language → Plan → List Break
 all_addition_breaks language whole = flat_map (addition_breaks_in language whole) (nodes_of whole)
 
--- what is told of all nodes of a set: of their names, and else of what augments add
+-- what is told of all nodes of a set: of their names and places, and else of what augments add
 abbrev pub Judges : Result (Option BrokenRule) BrokenRule → Language → Plan → Type 0
-Judges (Ok added) language whole = (None ≡ least_from None (name_breaks whole))
+Judges (Ok added) language whole = (None ≡ least_from None (place_phase_in language whole))
     × (seen added ≡ least_from None (all_addition_breaks language whole))
-Judges (Err found) language whole = Some (break_view found) ≡ least_from None (name_breaks whole)
+Judges (Err found) language whole = Some (break_view found) ≡ least_from None (place_phase_in language whole)

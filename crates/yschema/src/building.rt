@@ -1,6 +1,7 @@
 //! From modules to their schema.
 
 ghost use Rattle.std.specs.Prelude.{◌≡◌, ◌≤◌, [], true, Ok, Some, None, IfOk, nat_lt, map};
+ghost use Rattle.std.specs.List.{list_any};
 ghost use Rattle.yspec.specs.Forest.{levels};
 ghost use Rattle.yspec.specs.Results.{Gives};
 ghost use Rattle.yspec.specs.document.Fitting.{LeafsAreBare};
@@ -13,9 +14,10 @@ ghost use Rattle.yspec.specs.linking.NodeCounts.{node_count};
 ghost use Rattle.yspec.specs.linking.Planned as planned;
 ghost use Rattle.yspec.specs.linking.Planned.{nodes_of};
 ghost use Rattle.yspec_fit.specs.Fit.{IsFit};
-ghost use Rattle.yspec_wide.specs.Compiling.{compiled_in, linked_in, linking_phases_in, plan_in, schema_of_plan_in, whole_plan};
+ghost use Rattle.yspec_wide.specs.Compiling.{compiled_in, is_too_deep_in, linked_in, linking_phases_in, plan_in, schema_of_plan_in, whole_plan};
 ghost use Rattle.yspec_wide.specs.Expansion.{augmented_in};
 ghost use Rattle.yspec_wide.specs.Language.{core};
+ghost use Rattle.yspec_wide.specs.Sources as wide_words;
 ghost use Rattle.yspec_wide.specs.Sources.{sources_in};
 ghost use Rattle.yspec_wide.specs.Standing.{standing};
 ghost use Rattle.yschema.specs.Added.{HoldsThose};
@@ -33,15 +35,16 @@ ghost use Rattle.yschema_expand.specs.AugmentView.{augments_seen};
 ghost use Rattle.yschema_expand.specs.Knowing.{AreCounts};
 ghost use Rattle.yschema_expand.specs.NamedView.{modules_of};
 ghost use Rattle.yschema_expand.specs.TableView.{parts_in};
+ghost use Rattle.yschema_plan.specs.PlannedView.{part_at};
 ghost use Rattle.yschema_plan.specs.PlanView as plans;
 ghost use Rattle.yschema_resolve.specs.ResolvedView.{IsOf};
 ghost use Rattle.yschema_model.specs.View.{view, module_view};
 
 use crate::augmenting::{Added, augments_in};
-use crate::limits::{LEVEL_LIMIT, NODE_LIMIT};
+use crate::limits::{LEVEL_LIMIT, LOW_LEVEL_LIMIT, NODE_LIMIT};
 use crate::making::slots_of;
 use std::alloc::{AllocError, Global};
-use ybase_preorder::Node;
+use ybase_preorder::{Node, Slot};
 use ybase_words::Keyword;
 use ylink::{CompileFault, Linked, link_in};
 use ylink_features::Versions;
@@ -53,8 +56,8 @@ use yschema_augment::augmented;
 use yschema_cut::{cut, standing_in, unguarded_in};
 use yschema_expand::{Groupings, Named, NodeTable, augments_of};
 use yschema_model::{Schema, SchemaModule};
-use yschema_plan::{Plan, broken_name_rule};
-use yschema_resolve::{Resolved, broken_addition_rule, broken_node_rule};
+use yschema_plan::{Plan, Planned, broken_name_rule};
+use yschema_resolve::{Resolved, broken_addition_rule, broken_node_rule, broken_place_rule};
 use ytext::Module;
 
 /// The schema of a set of modules of the core, or the least broken rule, by module, line and number, of the first phase that has
@@ -69,8 +72,8 @@ pub fn compile(alloc: Global, modules: &[Module]) -> Result<Schema, CompileFault
     compile_in(alloc, modules, &Language::Core)
 }
 
-/// The same of modules that are read in a language. Behind the names of siblings what features take away is cut (RFC 7950,
-/// 7.20.2), and of what is left is told what nodes state and refer to; what an `augment` adds is judged whether its target is left
+/// The same of modules that are read in a language. With the names of siblings it is told which operations are out of place (7.15,
+/// 7.16); then operations and what features take away are cut (RFC 7950, 7.20.2), and of what is left is told what nodes state and refer to; what an `augment` adds is judged whether its target is left
 /// or not.
 pub fn compile_in(
     alloc: Global,
@@ -179,7 +182,7 @@ fn compile_standing<'t>(
     }
 }
 
-/// What is told of the names of all nodes, and else of what augments add to nodes of other modules, in this phase or a later
+/// What is told of the names and places of all nodes, and else of what augments add to nodes of other modules, in this phase or a later
 /// one.
 fn judged_whole<'t>(
     alloc: Global,
@@ -196,10 +199,12 @@ fn judged_whole<'t>(
         (whole_plan (language_view language.now) (statements.view linked.now))) }
 {
     let whole = Plan::of(alloc, linked.sources(), linked.prefixes(), nodes)?;
-    if let Some(found) = broken_name_rule(&whole) {
+    let named = broken_name_rule(&whole);
+    let told = broken_place_rule(alloc, language, &whole, named)?;
+    if let Some(found) = told {
         return Ok(Err(found));
     }
-    let standing = standing_in(alloc, linked.sources(), features, nodes)?;
+    let standing = standing_in(alloc, language, linked.sources(), features, nodes)?;
     let versions = Versions::of(alloc, language, linked.sources())?;
     let added = broken_addition_rule(alloc, language, &versions, &whole, standing.as_slice())?;
     Ok(Ok(added))
@@ -294,6 +299,46 @@ fn broken_count_rule<'a, 't>(
     at_last(modules, count as usize > NODE_LIMIT)
 }
 
+/// Whether a planned node is an `anydata` or `anyxml`.
+fn is_anything(language: &Language, planned: &Planned<'_, '_>) -> bool
+    ensures { result ≡ wide_words.is_anything (language_view language.now) (part_at planned.now).source }
+{
+    planned.is_anydata(language) || planned.is_anyxml(language)
+}
+
+/// Whether the node of a row is one.
+fn any_anything(language: &Language, rows: &[Slot<Planned<'_, '_>>]) -> bool
+    ensures { result ≡ list_any (λ r. wide_words.is_anything (language_view language.now) (part_at r.label).source)
+        rows.now }
+{
+    for row in rows {
+        if is_anything(language, &row.label) {
+            return true;
+        }
+    }
+    false
+}
+
+/// Whether a node of a plan is one.
+fn has_anything(language: &Language, plan: &Plan<'_, '_>) -> bool
+    ensures { result ≡ list_any (λ p. wide_words.is_anything (language_view language.now) p.part.source)
+        (nodes_of (plans.view plan.now)) }
+{
+    any_anything(language, plan.slots())
+}
+
+/// Whether a plan has too many nodes or levels, of which fewer may be where values nest below them.
+fn is_too_deep_in(language: &Language, plan: &Plan<'_, '_>) -> bool
+    ensures { result ≡ is_too_deep_in (language_view language.now) (plans.view plan.now) }
+{
+    match language {
+        Language::Core => is_too_deep(plan),
+        Language::Rfc(_) => {
+            is_too_deep(plan) || (plan.is_deeper(LOW_LEVEL_LIMIT) && has_anything(language, plan))
+        }
+    }
+}
+
 /// Whether a plan has too many nodes or levels.
 fn is_too_deep(plan: &Plan<'_, '_>) -> bool
     ensures { result ≡ spec.is_too_deep (plans.view plan.now).nodes }
@@ -319,7 +364,7 @@ fn broken_rule<'t>(
     if let Some(found) = told {
         return Ok(Some(found));
     }
-    Ok(at_last(modules, is_too_deep(plan)))
+    Ok(at_last(modules, is_too_deep_in(language, plan)))
 }
 
 /// The module that a statement defines, with its augments.

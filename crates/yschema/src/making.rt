@@ -12,14 +12,14 @@ ghost use Rattle.yschema_plan.specs.NodesView as plans;
 ghost use Rattle.yschema_plan.specs.PlannedView.{planned_view};
 ghost use Rattle.yschema_plan.specs.PlanView as plan_view;
 ghost use Rattle.yschema_resolve.specs.ResolvedView.{IsOf};
-ghost use Rattle.yschema_model.specs.Layout.{absence_view, amount_view, kind_view, laid, leaf_type_view, node_view, place_of, places};
+ghost use Rattle.yschema_model.specs.Layout.{absence_view, amount_view, form_view, kind_view, laid, leaf_type_view, node_view, place_of, places, type_name_view};
 ghost use Rattle.yschema_model.specs.Lookup.{names_in};
 ghost use Rattle.yschema.specs.Made.{place_made, planned_place};
 
 use std::alloc::{AllocError, Global};
 use ybase_words::Keyword;
 use ylink_grammar::Language;
-use yschema_model::{Absence, Amount, Kind, LeafType, SchemaNode, Slot, TypeName, id_of};
+use yschema_model::{Absence, Amount, JsonForm, Kind, LeafType, SchemaNode, Slot, TypeName, id_of};
 use yschema_plan::{Plan, PlanNode, Planned};
 use yschema_resolve::{Resolved, default_values, tuples_of};
 use ytype::{Val, YType};
@@ -93,6 +93,32 @@ fn type_or_text(alloc: Global, value_type: Option<&YType>) -> Result<YType, Allo
     value_type.clone()
 }
 
+/// How documents have what a node holds (RFC 7951, 5.5, 5.6 and 6).
+fn form_of(language: &Language, planned: &Planned<'_, '_>) -> JsonForm
+    ensures { (number : _) → form_view result
+        ≡ wide.form_of (language_view language.now) (planned_view number planned.now).part.source }
+{
+    if planned.is_anydata(language) {
+        JsonForm::AnyObject
+    } else if planned.is_anyxml(language) {
+        JsonForm::AnyValue
+    } else {
+        JsonForm::ByType
+    }
+}
+
+/// The name of a type as it is written, or what stands for it.
+fn name_in(alloc: Global, form: JsonForm, name: &str) -> Result<TypeName, AllocError>
+    ensures { IfOk result
+        (λ made. type_name_view made ≡ wide.form_name (form_view form) name.now) }
+{
+    match form {
+        JsonForm::ByType => TypeName::of(alloc, name),
+        JsonForm::AnyValue => Ok(TypeName::Derived(String::from_str(alloc, "<anyxml>")?)),
+        JsonForm::AnyObject => Ok(TypeName::Derived(String::from_str(alloc, "<anydata>")?)),
+    }
+}
+
 /// The type of a leaf or of items, and to which nodes it and its members refer.
 fn leaf_type_of<'a, 't>(
     alloc: Global,
@@ -107,7 +133,8 @@ fn leaf_type_of<'a, 't>(
     ensures { IfOk result (λ made. leaf_type_view made
         ≡ wide.leaf_type_in (language_view language.now) (plan_view.view plan.now) (plans.node_view node.entry)) }
 {
-    let name = TypeName::of(alloc, node.planned.type_name())?;
+    let form = form_of(language, &node.planned);
+    let name = name_in(alloc, form, node.planned.type_name())?;
     let value_type = type_or_text(alloc, resolved.value_type(node.number))?;
     let targets = Vec::from_slice(alloc, resolved.member_targets(node.number))?;
     Ok(LeafType {
@@ -115,6 +142,7 @@ fn leaf_type_of<'a, 't>(
         value_type,
         target: id_of(resolved.target(node.number)),
         targets,
+        form,
     })
 }
 

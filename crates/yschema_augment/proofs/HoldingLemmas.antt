@@ -15,7 +15,7 @@ use Rattle.yschema_expand.specs.AugmentView.{augment_view, augments_seen}
 use Rattle.yschema_expand.specs.NodeView.{part_view}
 use Rattle.yschema_expand.specs.declared.nodes.ExpandedNode.{ExpandedNode}
 use Rattle.yschema_augment.specs.Picking.{given_at, holds_at, home_at, nothing, source_at}
-use Rattle.yschema_augment.specs.Resolving.{may_take}
+use Rattle.yschema_augment.specs.Resolving.{Asking, may_hold}
 
 pub as_in_no_choice : (old b : Bool) → b ≡ (b && not (old && false))
 as_in_no_choice old false = refl
@@ -33,20 +33,20 @@ source_is slots target = by (slice_get slots target)
     by None = refl
     by (Some r) = refl
 
-pub none_holds : (olds : ℕ → Bool) (slots : List (Slot ExpandedNode)) (augments : List (Node held.Source)) (target j : ℕ) → label_at slots target ≡ None
-    → false ≡ holds_at olds slots (augments_seen augments) target j
-none_holds olds slots augments target j none =
+pub none_holds : (askings : ℕ → Asking) (slots : List (Slot ExpandedNode)) (augments : List (Node held.Source)) (target j : ℕ) → label_at slots target ≡ None
+    → false ≡ holds_at askings slots (augments_seen augments) target j
+none_holds askings slots augments target j none =
     let all = augments_seen augments in
-    sym (ap (λ (s : Source). may_take (olds (home_at all j)) s.keyword (given_at all j))
+    sym (ap (λ (s : Source). may_hold (askings (home_at all j)) s (given_at all j))
     (source_is slots target ∙ ap (λ o. option_map_or (λ l. (part_view l).source) o nothing) none))
 
-pub held_there : (olds : ℕ → Bool) (slots : List (Slot ExpandedNode)) (augments : List (Node held.Source)) (target j : ℕ)
+pub held_there : (askings : ℕ → Asking) (slots : List (Slot ExpandedNode)) (augments : List (Node held.Source)) (target j : ℕ)
     (n : Node held.Source) → slice_get augments j ≡ Some n → (x : ExpandedNode) → label_at slots target ≡ Some x
-    → may_take (olds n.label.now.home) (part_view x).source.keyword (row_by source_view n.children) ≡ holds_at olds slots (augments_seen augments) target j
-held_there olds slots augments target j n there x is =
+    → may_hold (askings n.label.now.home) (part_view x).source (row_by source_view n.children) ≡ holds_at askings slots (augments_seen augments) target j
+held_there askings slots augments target j n there x is =
     let all = augments_seen augments in
     let seen : slice_get all j ≡ Some (augment_view n) = slice_get-map augment_view augments j ∙ ap (option_map augment_view) there in
     let source = source_is slots target ∙ ap (λ o. option_map_or (λ l. (part_view l).source) o nothing) is in
-    sym (ap₂ (λ h g. may_take (olds h) (source_at slots target).keyword g)
+    sym (ap₂ (λ h g. may_hold (askings h) (source_at slots target) g)
     (ap (λ o. option_map_or (λ a. a.source.home) o 0) seen) (ap (λ o. option_map_or (λ a. a.given) o end) seen)
-    ∙ ap (λ (s : Source). may_take (olds n.label.now.home) s.keyword (row_by source_view n.children)) source)
+    ∙ ap (λ (s : Source). may_hold (askings n.label.now.home) s (row_by source_view n.children)) source)

@@ -12,6 +12,7 @@ use Rattle.ybase_preorder.specs.declared.slot.Slot.{Slot}
 use Rattle.yschema_augment.specs.Searching.{reached, target_in}
 use Rattle.yschema_augment.specs.SearchView.{look_by, name_by, names_by, path_at, key_by, Takes, Ends}
 use Rattle.yschema_augment.specs.Settling.{Among, Paths, leads, has_arrived, Settled, Sound}
+use Rattle.yschema_augment.specs.Resolving.{Asking}
 use Rattle.yschema_augment.specs.Picking.{holds_at, refused_by, is_waiting, found_at, AllSettled, NoneIs, Passes}
 use Rattle.yschema_augment.specs.WaitingView.{waiters_at}
 use Rattle.yschema_expand.specs.declared.nodes.ExpandedNode.{ExpandedNode}
@@ -41,11 +42,11 @@ settled_through refused paths old new index names waiting j come (inr (none, (pl
       ),
     )
 
-module _ (old_ones : ℕ → Bool) (slots : List (Slot ExpandedNode)) (augments : List Augment) (paths : Paths) (waits : List Bool) where
+module _ (askings : ℕ → Asking) (slots : List (Slot ExpandedNode)) (augments : List Augment) (paths : Paths) (waits : List Bool) where
   -- where its steps lead decides whether it is found
   found_by : (s : Search) (j : ℕ) (o : Option (Option ℕ)) → leads s paths j ≡ o
-      → found_at old_ones slots augments paths s j ≡ option_map_or (λ n. holds_at old_ones slots augments n j) (option_and_then (λ p. p) o) false
-  found_by s j o e = ap (λ q. option_map_or (λ n. holds_at old_ones slots augments n j) (option_and_then (λ p. p) q) false) e
+      → found_at askings slots augments paths s j ≡ option_map_or (λ n. holds_at askings slots augments n j) (option_and_then (λ p. p) o) false
+  found_by s j o e = ap (λ q. option_map_or (λ n. holds_at askings slots augments n j) (option_and_then (λ p. p) q) false) e
 
   is_false : (b : Bool) → not b ≡ true → b ≡ false
   is_false true e = absurd (false≢true e)
@@ -55,38 +56,38 @@ module _ (old_ones : ℕ → Bool) (slots : List (Slot ExpandedNode)) (augments 
   is_true b e = ap not e
 
   -- one that is settled and hasn't arrived isn't found
-  pub unfound : (s : Search) (j : ℕ) → Settled (refused_by old_ones slots augments) paths s j → (has_arrived s j ≡ true → ⊥) → found_at old_ones slots augments paths s j ≡ false
+  pub unfound : (s : Search) (j : ℕ) → Settled (refused_by askings slots augments) paths s j → (has_arrived s j ≡ true → ⊥) → found_at askings slots augments paths s j ≡ false
   unfound s j (inl (p, there, inl here)) absent = absurd (absent here)
-  unfound s j (inl (p, there, inr unfit)) absent = found_by s j (Some p) there ∙ is_false (option_map_or (λ n. holds_at old_ones slots augments n j) p false) unfit
+  unfound s j (inl (p, there, inr unfit)) absent = found_by s j (Some p) there ∙ is_false (option_map_or (λ n. holds_at askings slots augments n j) p false) unfit
   unfound s j (inr (none, lacks)) absent = found_by s j None none
 
-  pub passed_over : (k : ℕ) (old new : Search) → Takes k old new → (is_waiting waits k ≡ true → found_at old_ones slots augments paths old k ≡ false)
-      → AllSettled old_ones slots augments paths waits old → AllSettled old_ones slots augments paths waits new
+  pub passed_over : (k : ℕ) (old new : Search) → Takes k old new → (is_waiting waits k ≡ true → found_at askings slots augments paths old k ≡ false)
+      → AllSettled askings slots augments paths waits old → AllSettled askings slots augments paths waits new
   passed_over k old new takes unfit settled j waiting =
-      settled_through (refused_by old_ones slots augments) paths old new takes.index takes.names takes.waiting j
+      settled_through (refused_by askings slots augments) paths old new takes.index takes.names takes.waiting j
       (λ p there here. by p there here (cases_eq j k)) (settled j waiting)
     where
-      by : (p : Option ℕ) → leads old paths j ≡ Some p → has_arrived old j ≡ true → ((j ≡ k) ⊎ (j ≡ k → ⊥)) → (has_arrived new j ≡ true) ⊎ (refused_by old_ones slots augments j p ≡ true)
-      by p there here (inl same) = inr (is_true (option_map_or (λ n. holds_at old_ones slots augments n j) p false)
-          (sym (found_by old j (Some p) there) ∙ subst (λ i. found_at old_ones slots augments paths old i ≡ false) (sym same) (unfit (subst (λ i. is_waiting waits i ≡ true) same waiting))))
+      by : (p : Option ℕ) → leads old paths j ≡ Some p → has_arrived old j ≡ true → ((j ≡ k) ⊎ (j ≡ k → ⊥)) → (has_arrived new j ≡ true) ⊎ (refused_by askings slots augments j p ≡ true)
+      by p there here (inl same) = inr (is_true (option_map_or (λ n. holds_at askings slots augments n j) p false)
+          (sym (found_by old j (Some p) there) ∙ subst (λ i. found_at askings slots augments paths old i ≡ false) (sym same) (unfit (subst (λ i. is_waiting waits i ≡ true) same waiting))))
       by p there here (inr other) = inl (takes.others j other ∙ here)
 
   -- once one is taken that is found, the others are still settled
-  pub others_settled : (k : ℕ) (old new : Search) → Takes k old new → AllSettled old_ones slots augments paths waits old
-      → (j : ℕ) → is_waiting waits j ≡ true → (j ≡ k → ⊥) → Settled (refused_by old_ones slots augments) paths new j
+  pub others_settled : (k : ℕ) (old new : Search) → Takes k old new → AllSettled askings slots augments paths waits old
+      → (j : ℕ) → is_waiting waits j ≡ true → (j ≡ k → ⊥) → Settled (refused_by askings slots augments) paths new j
   others_settled k old new takes settled j waiting other =
-      settled_through (refused_by old_ones slots augments) paths old new takes.index takes.names takes.waiting j (λ p there here. inl (takes.others j other ∙ here)) (settled j waiting)
+      settled_through (refused_by askings slots augments) paths old new takes.index takes.names takes.waiting j (λ p there here. inl (takes.others j other ∙ here)) (settled j waiting)
 
   -- none before the first that has arrived is found
-  pub none_before : (k : ℕ) (old new : Search) → Takes k old new → AllSettled old_ones slots augments paths waits old
-      → (i : ℕ) → i < k → is_waiting waits i ≡ true → found_at old_ones slots augments paths new i ≡ false
+  pub none_before : (k : ℕ) (old new : Search) → Takes k old new → AllSettled askings slots augments paths waits old
+      → (i : ℕ) → i < k → is_waiting waits i ≡ true → found_at askings slots augments paths new i ≡ false
   none_before k old new takes settled i less waiting =
-      subst (λ (x : NodeIndex). option_map_or (λ n. holds_at old_ones slots augments n i) (target_in (look_by x) (names_by (texts_of x) (path_at paths i))) false ≡ false) (sym takes.index)
+      subst (λ (x : NodeIndex). option_map_or (λ n. holds_at askings slots augments n i) (target_in (look_by x) (names_by (texts_of x) (path_at paths i))) false ≡ false) (sym takes.index)
       (unfound old i (settled i waiting) (λ here. absurd (omega (arith, less, takes.least i here))))
 
-  pub none_left : (old new : Search) → Ends old new → AllSettled old_ones slots augments paths waits old → NoneIs old_ones slots augments paths waits new
+  pub none_left : (old new : Search) → Ends old new → AllSettled askings slots augments paths waits old → NoneIs askings slots augments paths waits new
   none_left old new ends settled i waiting =
-      subst (λ (x : NodeIndex). option_map_or (λ n. holds_at old_ones slots augments n i) (target_in (look_by x) (names_by (texts_of x) (path_at paths i))) false ≡ false) (sym ends.index)
+      subst (λ (x : NodeIndex). option_map_or (λ n. holds_at askings slots augments n i) (target_in (look_by x) (names_by (texts_of x) (path_at paths i))) false ≡ false) (sym ends.index)
       (unfound old i (settled i waiting) (λ here. false≢true (sym (ap (λ ks. list_any_of i ks) ends.none) ∙ here)))
     where
       list_any_of : ℕ → List ℕ → Bool

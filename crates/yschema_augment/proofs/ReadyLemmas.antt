@@ -18,7 +18,7 @@ use Rattle.yschema_expand.specs.NumberedView.{Numbered}
 use Rattle.yschema_augment.specs.Searching.{Lookup, target_in, Agrees, AgreesAll, looked_behind}
 use Rattle.yschema_augment.specs.Arranging.{taken_for}
 use Rattle.yschema_expand.specs.Bodies.{body_of}
-use Rattle.yschema_augment.specs.Resolving.{is_old, may_hold, is_found, hung_by, row_for, Stands, AreApart}
+use Rattle.yschema_augment.specs.Resolving.{asking_in, may_hold, is_found, hung_by, row_for, Stands, AreApart}
 use Rattle.yschema_augment.proofs.HangingLemmas.{Nodes}
 use Rattle.yschema_augment.proofs.PathLemmas.{part_plain, changed_plain}
 use Rattle.yschema_augment.proofs.SearchLemmas.{target_found, label_known, agrees_other}
@@ -41,9 +41,9 @@ ready_found look source language modules a f agrees =
 
     by : (o : Option (Numbered Part)) → label_at steps f ≡ o → option_map (λ l. l.number) o ≡ target_in look steps
         → option_map_or (may_take_in language modules a) (option_map (λ l. l.label) o) false ≡ is_found look source language modules a
-    by None e is = ap (λ t. option_map_or (λ n. may_hold (is_old language modules a.source.home) (source n) a.given) t false) is
-    by (Some l) e is = ap (λ s. may_hold (is_old language modules a.source.home) s a.given) (label_known look source steps f l agrees.1 e)
-        ∙ ap (λ t. option_map_or (λ n. may_hold (is_old language modules a.source.home) (source n) a.given) t false) is
+    by None e is = ap (λ t. option_map_or (λ n. may_hold (asking_in language modules a.source.home) (source n) a.given) t false) is
+    by (Some l) e is = ap (λ s. may_hold (asking_in language modules a.source.home) s a.given) (label_known look source steps f l agrees.1 e)
+        ∙ ap (λ t. option_map_or (λ n. may_hold (asking_in language modules a.source.home) (source n) a.given) t false) is
 
 -- the node at the target's number
 pub label_of_target : (look : Lookup) (source : ℕ → Source) (language : Language) (modules : Forest Source) (a : Augment) (target : ℕ) (f : Parts) → AgreesAll look source f
@@ -70,10 +70,10 @@ none_of k given e = by (first_with k given) e
     by None e = refl
     by (Some s) e = absurd cc
 
-taken_is : (language : Language) (modules : Forest Source) (a : Augment) (s : Source) (rows : Parts) → plain rows ≡ body_of language modules a → may_hold (is_old language modules a.source.home) s a.given ≡ true
+taken_is : (language : Language) (modules : Forest Source) (a : Augment) (s : Source) (rows : Parts) → plain rows ≡ body_of language modules a → may_hold (asking_in language modules a.source.home) s a.given ≡ true
     → marked a.source.number (within s (added_nodes_in language modules a)) ≡ plain (row_for a rows s)
 taken_is language modules a s rows is holds =
-    by (is_source_of word.choice_word s) (and_parts _ _ (and_parts _ _ holds).1).0 ∙ sym (plain_marked a.source.number (taken_for s rows))
+    by (is_source_of word.choice_word s) (and_parts _ _ (and_parts _ _ (and_parts _ _ holds).0).1).0 ∙ sym (plain_marked a.source.number (taken_for s rows))
   where
     by : (b : Bool) → not (is_some (first_with (cond b word.uses_word word.case_word) a.given)) ≡ true
         → marked a.source.number (cond b (as_cases (added_nodes_in language modules a)) (added_nodes_in language modules a)) ≡ marked a.source.number (plain (cond b rows (inner rows)))
@@ -84,13 +84,13 @@ taken_is language modules a s rows is holds =
         ∙ (ap inner (sym is) ∙ sym (plain_inner rows)))
 
 pub applied_there : (look : Lookup) (source : ℕ → Source) (language : Language) (modules : Forest Source) (a : Augment) (rows : Parts) (target : ℕ) (f : Parts) → AgreesAll look source f
-    → times target f ≤ 1 → plain rows ≡ body_of language modules a → target_in look (target_steps modules a) ≡ Some target → may_hold (is_old language modules a.source.home) (source target) a.given ≡ true
+    → times target f ≤ 1 → plain rows ≡ body_of language modules a → target_in look (target_steps modules a) ≡ Some target → may_hold (asking_in language modules a.source.home) (source target) a.given ≡ true
     → applied_in language modules a (plain f) ≡ plain (put (hung_by a rows target) f)
 applied_there look source language modules a rows target f agrees few is found holds =
     let there = label_of_target look source language modules a target f agrees found in
     let l = there.0 in
     changed_plain (target_steps modules a) (hung_by a rows target) (added_below_in language a (added_nodes_in language modules a)) l
-    (λ below after. ap (λ g. node l.label (join below g) after) (taken_is language modules a l.label.source rows is (ap (λ s. may_hold (is_old language modules a.source.home) s a.given) there.3 ∙ holds)))
+    (λ below after. ap (λ g. node l.label (join below g) after) (taken_is language modules a l.label.source rows is (ap (λ s. may_hold (asking_in language modules a.source.home) s a.given) there.3 ∙ holds)))
     f there.1 there.2 few
 
 -- ---- once it is hung there

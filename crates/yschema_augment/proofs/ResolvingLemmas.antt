@@ -18,7 +18,7 @@ use Rattle.yschema_expand.specs.NumberedView.{Numbered}
 use Rattle.yschema_augment.specs.Searching.{Lookup, first_in, target_in, Agrees, AgreesAll, looked_behind}
 use Rattle.yschema_augment.specs.Arranging.{rows_of, own_rows, taken_for, hung_view}
 use Rattle.yschema_expand.specs.Bodies.{body_of}
-use Rattle.yschema_augment.specs.Resolving.{is_old, may_hold, hung_by, row_for, Stands}
+use Rattle.yschema_augment.specs.Resolving.{Asking, asking_in, may_hold, hung_by, row_for, Stands}
 use Rattle.yschema_augment.specs.Picking.{source_at, given_at, home_at, holds_at, refused_by, is_waiting, found_at, left_of, count_left, IsNext, NoneIs, Passes}
 use Rattle.ybase_index.specs.Index.{texts_of}
 use Rattle.yspec.specs.linking.Planned.{same_number}
@@ -77,7 +77,7 @@ home_is : (augments : List Augment) (j : ℕ) → j < length augments → home_a
 home_is augments j less = ap (λ o. option_map_or (λ a. a.source.home) o 0) (slice_get-get_or augments j no_augment less)
 
 -- whether its target may take it, by its statement
-held_is : (old : ℕ → Bool) (s : Source) (augments : List Augment) (j : ℕ) → j < length augments
+held_is : (old : ℕ → Asking) (s : Source) (augments : List Augment) (j : ℕ) → j < length augments
     → may_hold (old (home_at augments j)) s (given_at augments j) ≡ may_hold (old (augment_at augments j).source.home) s (augment_at augments j).given
 held_is old s augments j less = ap₂ (λ h g. may_hold (old h) s g) (home_is augments j less) (given_is augments j less)
 
@@ -87,12 +87,12 @@ module _ (language : Language) (modules : Forest Source) (augments : List Augmen
 
   -- one that is found is ready
   pub found_ready : (s : Search) (f : Parts) (j : ℕ) → j < length augments → steps_of s paths j ≡ target_steps modules (augment_at augments j)
-      → AgreesAll (look_in s) source f → found_at (is_old language modules) slots augments paths s j ≡ is_ready_in language modules (plain f) (augment_at augments j)
+      → AgreesAll (look_in s) source f → found_at (asking_in language modules) slots augments paths s j ≡ is_ready_in language modules (plain f) (augment_at augments j)
   found_ready s f j less steps agrees =
       let a = augment_at augments j in
-      ap₂ (λ h g. option_map_or (λ n. may_hold (is_old language modules h) (source n) g) (target_in (look_in s) (steps_of s paths j)) false)
+      ap₂ (λ h g. option_map_or (λ n. may_hold (asking_in language modules h) (source n) g) (target_in (look_in s) (steps_of s paths j)) false)
       (home_is augments j less) (given_is augments j less)
-      ∙ (ap (λ names. option_map_or (λ n. may_hold (is_old language modules a.source.home) (source n) a.given) (target_in (look_in s) names) false) steps
+      ∙ (ap (λ names. option_map_or (λ n. may_hold (asking_in language modules a.source.home) (source n) a.given) (target_in (look_in s) names) false) steps
       ∙ sym (ready_found (look_in s) source language modules a f agrees))
 
   -- the target stands in the forest once
@@ -107,8 +107,8 @@ module _ (language : Language) (modules : Forest Source) (augments : List Augmen
   pub turn : (s : Search) (f : Parts) (waits : List Bool) (j target : ℕ) → length waits ≡ length augments
       → ((i : ℕ) → i < length augments → steps_of s paths i ≡ target_steps modules (augment_at augments i))
       → plain (rows j) ≡ body_of language modules (augment_at augments j) → AgreesAll (look_in s) source f → ((n : ℕ) → times n f ≤ 1)
-      → is_waiting waits j ≡ true → target_in (look_in s) (steps_of s paths j) ≡ Some target → holds_at (is_old language modules) slots augments target j ≡ true
-      → ((i : ℕ) → i < j → is_waiting waits i ≡ true → found_at (is_old language modules) slots augments paths s i ≡ false)
+      → is_waiting waits j ≡ true → target_in (look_in s) (steps_of s paths j) ≡ Some target → holds_at (asking_in language modules) slots augments target j ≡ true
+      → ((i : ℕ) → i < j → is_waiting waits i ≡ true → found_at (asking_in language modules) slots augments paths s i ≡ false)
       → in_turn (is_ready_in language modules) (applied_in language modules) (count_left waits) (plain f) (left_of waits augments)
       ≡ in_turn (is_ready_in language modules) (applied_in language modules) (count_left (set waits j false)) (plain (put (hung_by (augment_at augments j) (rows j) target) f))
       (left_of (set waits j false) augments)
@@ -116,9 +116,9 @@ module _ (language : Language) (modules : Forest Source) (augments : List Augmen
       let a = augment_at augments j in
       let less : j < length augments = omega (arith, same, within waits j waiting) in
       let at_target : target_in (look_in s) (target_steps modules a) ≡ Some target = ap (target_in (look_in s)) (sym (steps j less)) ∙ found in
-      let held : may_hold (is_old language modules a.source.home) (source target) a.given ≡ true = sym (held_is (is_old language modules) (source target) augments j less) ∙ holds in
+      let held : may_hold (asking_in language modules a.source.home) (source target) a.given ≡ true = sym (held_is (asking_in language modules) (source target) augments j less) ∙ holds in
       let fit : is_ready_in language modules (plain f) a ≡ true = ready_found (look_in s) source language modules a f agrees
-      ∙ (ap (λ o. option_map_or (λ n. may_hold (is_old language modules a.source.home) (source n) a.given) o false) at_target ∙ held) in
+      ∙ (ap (λ o. option_map_or (λ n. may_hold (asking_in language modules a.source.home) (source n) a.given) o false) at_target ∙ held) in
       let first = first_left (is_ready_in language modules (plain f)) waits augments j no_augment same waiting fit
       (λ i below waits_too. let small : i < length augments = omega (arith, same, within waits i waits_too) in
       sym (found_ready s f i small (steps i small) agrees) ∙ before i below waits_too) in
@@ -130,7 +130,7 @@ module _ (language : Language) (modules : Forest Source) (augments : List Augmen
   -- none is left that could be applied
   pub turns_end : (s : Search) (f : Parts) (waits : List Bool) → length waits ≡ length augments
       → ((i : ℕ) → i < length augments → steps_of s paths i ≡ target_steps modules (augment_at augments i)) → AgreesAll (look_in s) source f
-      → ((i : ℕ) → is_waiting waits i ≡ true → found_at (is_old language modules) slots augments paths s i ≡ false)
+      → ((i : ℕ) → is_waiting waits i ≡ true → found_at (asking_in language modules) slots augments paths s i ≡ false)
       → in_turn (is_ready_in language modules) (applied_in language modules) (count_left waits) (plain f) (left_of waits augments) ≡ (plain f, left_of waits augments)
   turns_end s f waits same steps agrees none = turns_over (is_ready_in language modules) (applied_in language modules) (count_left waits) (plain f) (left_of waits augments)
       (none_first (is_ready_in language modules (plain f)) waits augments no_augment same
@@ -166,8 +166,8 @@ module _ (language : Language) (modules : Forest Source) (augments : List Augmen
       ∙ ap (λ h. put h (placed starts slots augments order)) (hung_is a less))
 
   pub goes_on : (first s next now : Search) (waits : List Bool) (order : List Applied) (a : Applied) → Prepared language modules augments slots starts paths first
-      → Goes language modules augments slots starts paths first waits order s → Passes s next → IsNext (is_old language modules) slots augments paths waits next a
-      → ((j : ℕ) → is_waiting waits j ≡ true → (j ≡ a.augment → ⊥) → Settled (refused_by (is_old language modules) slots augments) paths next j)
+      → Goes language modules augments slots starts paths first waits order s → Passes s next → IsNext (asking_in language modules) slots augments paths waits next a
+      → ((j : ℕ) → is_waiting waits j ≡ true → (j ≡ a.augment → ⊥) → Settled (refused_by (asking_in language modules) slots augments) paths next j)
       → Hangs paths a.target (taken_for (source_at slots a.target) (rows_of starts slots a.augment)) next now
       → Goes language modules augments slots starts paths first (set waits a.augment false) (order ++ a ∷ []) now
   goes_on first s next now waits order a prepared goes passes is_next others hangs =
@@ -193,14 +193,14 @@ module _ (language : Language) (modules : Forest Source) (augments : List Augmen
             (λ above name. hangs.look above name ∙ ap (λ o. first_of (look_in next above name) (cond (same_number above (Some a.target)) o None))
             (sym (first_marked here.source.number name (taken_for (source_at slots a.target) (rows j))))) put_there);
         sound = hangs.sound;
-        settled = λ i e. let still = waits_still waits j i waiting e in hangs.kept (refused_by (is_old language modules) slots augments) i (others i still.0 still.1);
+        settled = λ i e. let still = waits_still waits j i waiting e in hangs.kept (refused_by (asking_in language modules) slots augments) i (others i still.0 still.1);
         so_far = ap (λ g. in_turn (is_ready_in language modules) (applied_in language modules) (count_left (set waits j false)) (plain g) (left_of (set waits j false) augments)) more
             ∙ (sym (turn language modules augments slots paths rows next f waits j a.target goes.lengths steps (prepared.bodies j less) stands.agrees stands.few waiting is_next.1 is_next.2 is_next.3)
             ∙ goes.so_far);
       }
 
   pub goes_first : (s now : Search) (woken : List Waiter) → Prepared language modules augments slots starts paths s → Moves paths woken s now
-      → ((j : ℕ) → j < length augments → Settled (refused_by (is_old language modules) slots augments) paths now j) → Goes language modules augments slots starts paths s (replicate (length augments) true) [] now
+      → ((j : ℕ) → j < length augments → Settled (refused_by (asking_in language modules) slots augments) paths now j) → Goes language modules augments slots starts paths s (replicate (length augments) true) [] now
   goes_first s now woken prepared moves settled =
       record {
         lengths = length-replicate (length augments) true;
@@ -214,7 +214,7 @@ module _ (language : Language) (modules : Forest Source) (augments : List Augmen
       }
 
   pub goes_end : (first s next : Search) (waits : List Bool) (order : List Applied) → Prepared language modules augments slots starts paths first
-      → Goes language modules augments slots starts paths first waits order s → Passes s next → NoneIs (is_old language modules) slots augments paths waits next
+      → Goes language modules augments slots starts paths first waits order s → Passes s next → NoneIs (asking_in language modules) slots augments paths waits next
       → (plain (placed starts slots augments order), left_of waits augments)
       ≡ in_turn (is_ready_in language modules) (applied_in language modules) (length augments) (plain (own_rows starts slots)) augments
   goes_end first s next waits order prepared goes passes none =

@@ -9,7 +9,7 @@ use Rattle.ybase_preorder.specs.declared.slot.Slot.{Slot}
 use Rattle.yschema_expand.specs.NodeView.{part_view}
 use Rattle.yschema_expand.specs.NamedView.{language_of, modules_of}
 use Rattle.yschema_expand.specs.declared.named.Named.{Named}
-use Rattle.yschema_augment.specs.Resolving.{is_old, may_hold}
+use Rattle.yschema_augment.specs.Resolving.{Asking, asking_in, may_hold}
 use Rattle.yschema_augment.specs.Searching.{target_in}
 use Rattle.yschema_augment.specs.SearchView.{look_in}
 use Rattle.yschema_augment.specs.Settling.{Paths, steps_of, Settled}
@@ -33,36 +33,36 @@ given_at augments j = option_map_or (λ a. a.given) (slice_get augments j) end
 abbrev pub home_at : List Augment → ℕ → ℕ
 home_at augments j = option_map_or (λ a. a.source.home) (slice_get augments j) 0
 
--- which modules of a set are of YANG 1
-abbrev pub are_old : Named → ℕ → Bool
-are_old n = is_old (language_of n) (modules_of n)
+-- how an augment is asked in the module of a number
+abbrev pub askings_of : Named → ℕ → Asking
+askings_of n = asking_in (language_of n) (modules_of n)
 
-abbrev pub holds_at : (ℕ → Bool) → List (Slot ExpandedNode) → List Augment → ℕ → ℕ → Bool
-holds_at olds slots augments target j = may_hold (olds (home_at augments j)) (source_at slots target) (given_at augments j)
+abbrev pub holds_at : (ℕ → Asking) → List (Slot ExpandedNode) → List Augment → ℕ → ℕ → Bool
+holds_at askings slots augments target j = may_hold (askings (home_at augments j)) (source_at slots target) (given_at augments j)
 
 -- whether the node to which its steps lead can't take it
-abbrev pub refused_by : (ℕ → Bool) → List (Slot ExpandedNode) → List Augment → ℕ → Option ℕ → Bool
-refused_by olds slots augments j p = not (option_map_or (λ n. holds_at olds slots augments n j) p false)
+abbrev pub refused_by : (ℕ → Asking) → List (Slot ExpandedNode) → List Augment → ℕ → Option ℕ → Bool
+refused_by askings slots augments j p = not (option_map_or (λ n. holds_at askings slots augments n j) p false)
 
 abbrev pub is_waiting : List Bool → ℕ → Bool
 is_waiting waits j = get_or waits j false
 
 -- whether its target is found and may take it
-abbrev pub found_at : (ℕ → Bool) → List (Slot ExpandedNode) → List Augment → Paths → Search → ℕ → Bool
-found_at olds slots augments paths s j =
-    option_map_or (λ n. holds_at olds slots augments n j) (target_in (look_in s) (steps_of s paths j)) false
+abbrev pub found_at : (ℕ → Asking) → List (Slot ExpandedNode) → List Augment → Paths → Search → ℕ → Bool
+found_at askings slots augments paths s j =
+    option_map_or (λ n. holds_at askings slots augments n j) (target_in (look_in s) (steps_of s paths j)) false
 
-abbrev pub AllSettled : (ℕ → Bool) → List (Slot ExpandedNode) → List Augment → Paths → List Bool → Search → Type 0
-AllSettled olds slots augments paths waits s = (j : ℕ) → is_waiting waits j ≡ true → Settled (refused_by olds slots augments) paths s j
+abbrev pub AllSettled : (ℕ → Asking) → List (Slot ExpandedNode) → List Augment → Paths → List Bool → Search → Type 0
+AllSettled askings slots augments paths waits s = (j : ℕ) → is_waiting waits j ≡ true → Settled (refused_by askings slots augments) paths s j
 
 -- the first that waits and whose target may take it
-abbrev pub IsNext : (ℕ → Bool) → List (Slot ExpandedNode) → List Augment → Paths → List Bool → Search → Applied → Type 0
-IsNext olds slots augments paths waits s a = (is_waiting waits a.augment ≡ true)
-    × (target_in (look_in s) (steps_of s paths a.augment) ≡ Some a.target) × (holds_at olds slots augments a.target a.augment ≡ true)
-    × ((i : ℕ) → i < a.augment → is_waiting waits i ≡ true → found_at olds slots augments paths s i ≡ false)
+abbrev pub IsNext : (ℕ → Asking) → List (Slot ExpandedNode) → List Augment → Paths → List Bool → Search → Applied → Type 0
+IsNext askings slots augments paths waits s a = (is_waiting waits a.augment ≡ true)
+    × (target_in (look_in s) (steps_of s paths a.augment) ≡ Some a.target) × (holds_at askings slots augments a.target a.augment ≡ true)
+    × ((i : ℕ) → i < a.augment → is_waiting waits i ≡ true → found_at askings slots augments paths s i ≡ false)
 
-abbrev pub NoneIs : (ℕ → Bool) → List (Slot ExpandedNode) → List Augment → Paths → List Bool → Search → Type 0
-NoneIs olds slots augments paths waits s = (i : ℕ) → is_waiting waits i ≡ true → found_at olds slots augments paths s i ≡ false
+abbrev pub NoneIs : (ℕ → Asking) → List (Slot ExpandedNode) → List Augment → Paths → List Bool → Search → Type 0
+NoneIs askings slots augments paths waits s = (i : ℕ) → is_waiting waits i ≡ true → found_at askings slots augments paths s i ≡ false
 
 -- some that have arrived are passed over; nothing else changes
 pub record Passes (old new : Search) : Type 0 where
@@ -71,10 +71,10 @@ pub record Passes (old new : Search) : Type 0 where
   pub waiting : new.waiting ≡ old.waiting
 
 -- what comes of picking the next
-abbrev pub Picks : (ℕ → Bool) → List (Slot ExpandedNode) → List Augment → Paths → List Bool → Option Applied → Search → Search → Type 0
-Picks olds slots augments paths waits None old new = Passes old new × NoneIs olds slots augments paths waits new
-Picks olds slots augments paths waits (Some a) old new = Passes old new × IsNext olds slots augments paths waits new a
-    × ((j : ℕ) → is_waiting waits j ≡ true → (j ≡ a.augment → ⊥) → Settled (refused_by olds slots augments) paths new j)
+abbrev pub Picks : (ℕ → Asking) → List (Slot ExpandedNode) → List Augment → Paths → List Bool → Option Applied → Search → Search → Type 0
+Picks askings slots augments paths waits None old new = Passes old new × NoneIs askings slots augments paths waits new
+Picks askings slots augments paths waits (Some a) old new = Passes old new × IsNext askings slots augments paths waits new a
+    × ((j : ℕ) → is_waiting waits j ≡ true → (j ≡ a.augment → ⊥) → Settled (refused_by askings slots augments) paths new j)
 
 -- ---- those that wait
 

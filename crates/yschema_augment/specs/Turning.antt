@@ -13,7 +13,7 @@ use Rattle.yschema_expand.specs.Bodies.{body_of}
 use Rattle.yschema_augment.specs.Hanging.{hung, plain}
 use Rattle.yschema_expand.specs.NumberedView.{Numbered}
 use Rattle.yschema_augment.specs.Picking.{nothing, source_at, is_waiting, left_of, count_left, AllSettled}
-use Rattle.yschema_augment.specs.Resolving.{is_old, Stands, AreApart}
+use Rattle.yschema_augment.specs.Resolving.{asking_in, Stands, AreApart}
 use Rattle.yschema_augment.specs.SearchView.{look_in, AreTexts}
 use Rattle.yschema_augment.specs.Settling.{Paths, steps_of, Ranged, Sound}
 use Rattle.yschema_augment.specs.declared.applied.Applied.{Applied}
@@ -50,6 +50,6 @@ pub record Goes (language : Language) (modules : Forest Source) (augments : List
   pub texts : texts_of s.index ≡ texts_of first.index
   pub stands : Stands (source_at slots) (rows_of starts slots) (is_waiting waits) (look_in s) (placed starts slots augments order)
   pub sound : Sound paths s
-  pub settled : AllSettled (is_old language modules) slots augments paths waits s
+  pub settled : AllSettled (asking_in language modules) slots augments paths waits s
   pub so_far : in_turn (is_ready_in language modules) (applied_in language modules) (count_left waits) (plain (placed starts slots augments order)) (left_of waits augments)
       ≡ in_turn (is_ready_in language modules) (applied_in language modules) (length augments) (plain (own_rows starts slots)) augments

@@ -3,11 +3,17 @@
 ghost use Rattle.std.specs.Prelude.{◌≡◌, ◌<◌, ◌&&◌, ℕ, length, true, not, is_some, replicate, IfOk};
 ghost use Rattle.yspec.specs.linking.Keyword.{case_word, choice_word, uses_word};
 ghost use Rattle.yspec.specs.linking.Source.{first_with};
+ghost use Rattle.yspec_wide.specs.Expansion as spec;
+ghost use Rattle.yspec_wide.specs.Sources as sources;
+ghost use Rattle.std.specs.List.{list_any};
+ghost use Rattle.yspec.specs.Forest.{row};
+ghost use Rattle.yschema_expand.specs.NodeView.{part_view};
 ghost use Rattle.ybase_preorder.specs.View.{row_by};
 ghost use Rattle.ybase_words.specs.KeywordView.{keyword_view};
 ghost use Rattle.ylink_features.specs.VersionView.{AreVersionsOf};
+ghost use Rattle.ylink_grammar.specs.LanguageView.{language_view};
 ghost use Rattle.ylink_grammar.specs.SourceView.{source_view};
-ghost use Rattle.yschema_augment.specs.Resolving.{may_take};
+ghost use Rattle.yschema_augment.specs.Resolving.{may_hold, may_take};
 ghost use Rattle.yschema_augment.specs.Settling.{Among};
 ghost use Rattle.yschema_expand.specs.NamedView.{language_of, modules_of};
 
@@ -19,8 +25,8 @@ use std::alloc::{AllocError, Global};
 use ybase_preorder::{Node, Siblings};
 use ybase_words::Keyword;
 use ylink_features::Versions;
-use ylink_grammar::{Source, first_with};
-use yschema_expand::{Named, NodeTable};
+use ylink_grammar::{Language, Source, first_with, is_operation};
+use yschema_expand::{ExpandedNode, Named, NodeTable};
 
 /// The augments of a set with the paths to their targets, and the nodes among which these are.
 #[derive(Drop)]
@@ -88,6 +94,54 @@ fn node_takes(statements: Siblings<'_, Source<'_>>) -> bool
     first_with(Keyword::Case, statements).is_none()
 }
 
+/// Whether one of some statements is an operation of a language.
+fn bears_operations(language: &Language, statements: Siblings<'_, Source<'_>>) -> bool
+    ensures { result ≡ list_any (sources.is_operation (language_view language.now)) (row (row_by source_view statements.entry)) }
+{
+    for statement in statements {
+        if is_operation(language, statement.label()) {
+            return true;
+        }
+    }
+    false
+}
+
+/// Whether a node takes operations: containers and lists do, and not those that are parts of operations themselves.
+fn takes_operations(language: &Language, node: &ExpandedNode<'_, '_>) -> bool
+    ensures { result ≡ spec.takes_operations (language_view language.now) (part_view node.now).source }
+{
+    let keyword = node.keyword();
+    !node.is_operation_part(language)
+        && (Keyword::Container.is(keyword) || Keyword::List.is(keyword))
+}
+
+/// Whether a node is closed to the statements of an augment: an `rpc` or an `action`, or one that takes no operations where some
+/// are among them.
+fn is_closed(
+    language: &Language,
+    node: &ExpandedNode<'_, '_>,
+    statements: Siblings<'_, Source<'_>>,
+) -> bool
+    ensures { result ≡ spec.is_closed (language_view language.now) (row_by source_view statements.entry) (part_view node.now).source }
+{
+    let bears = bears_operations(language, statements);
+    node.is_call(language) || (bears && !takes_operations(language, node))
+}
+
+/// Whether a node may take the statements of an augment, given whether they stand in a module of YANG 1.
+fn holds_by(
+    language: &Language,
+    old: bool,
+    node: &ExpandedNode<'_, '_>,
+    statements: Siblings<'_, Source<'_>>,
+) -> bool
+    ensures { result ≡ may_hold (record { language = language_view language.now; is_old = old })
+        (part_view node.now).source (row_by source_view statements.entry) }
+{
+    let takes = may_take(old, node.keyword(), statements);
+    takes && !is_closed(language, node, statements)
+}
+
 /// Whether a node of a keyword may take the statements of an augment, given whether they stand in a module of YANG 1.
 fn may_take(old: bool, keyword: Keyword, statements: Siblings<'_, Source<'_>>) -> bool
     ensures { result ≡ may_take old (keyword_view keyword) (row_by source_view statements.entry) }
@@ -111,7 +165,7 @@ impl<'b, 'a, 't> Targets<'b, 'a, 't> {
     ghost use Rattle.yspec.specs.linking.Keyword.{choice_word};
     ghost use Rattle.yspec.specs.linking.Source.{is_source_of};
     ghost use Rattle.yschema_expand.specs.AugmentView.{augments_seen};
-    ghost use Rattle.yschema_augment.specs.Picking.{are_old, found_at, holds_at, is_waiting, left_of, source_at, AllSettled, Picks};
+    ghost use Rattle.yschema_augment.specs.Picking.{askings_of, found_at, holds_at, is_waiting, left_of, source_at, AllSettled, Picks};
     ghost use Rattle.yschema_expand.specs.TableView.{slots_of};
     ghost use Rattle.yschema_expand.specs.NamedView.{language_of, modules_of};
     ghost use Rattle.yschema_augment.specs.Hanging.{plain};
@@ -122,14 +176,14 @@ impl<'b, 'a, 't> Targets<'b, 'a, 't> {
     /// Whether the node of a number may take what an augment states.
     fn may_hold(&self, target: u32, augment: usize) -> bool
         requires { augment < length self.now.augments.now }
-        ensures { result ≡ holds_at (are_old self.now.named.now) (slots_of self.now.nodes.now) (augments_seen self.now.augments.now) target augment }
+        ensures { result ≡ holds_at (askings_of self.now.named.now) (slots_of self.now.nodes.now) (augments_seen self.now.augments.now) target augment }
     {
         let augment = self.augments[augment];
         let old = self.versions.is_yang_1(augment.label().home);
         let Some(node) = self.nodes.node(target) else {
             return false;
         };
-        may_take(old, node.keyword(), augment.children())
+        holds_by(self.named.language(), old, node, augment.children())
     }
 
     /// The node below which an augment that waits may be applied now.
@@ -137,10 +191,10 @@ impl<'b, 'a, 't> Targets<'b, 'a, 't> {
         requires { length waits.now ≡ length self.now.paths.now }
         ensures { MatchOption result
             (is_waiting waits.now augment ≡ true
-            → found_at (are_old self.now.named.now) (slots_of self.now.nodes.now) (augments_seen self.now.augments.now) self.now.paths.now search.now augment ≡ false)
+            → found_at (askings_of self.now.named.now) (slots_of self.now.nodes.now) (augments_seen self.now.augments.now) self.now.paths.now search.now augment ≡ false)
             (λ target. (is_waiting waits.now augment ≡ true)
             × (target_in (look_in search.now) (steps_of search.now self.now.paths.now augment) ≡ Some target)
-            × (holds_at (are_old self.now.named.now) (slots_of self.now.nodes.now) (augments_seen self.now.augments.now) target augment ≡ true)) }
+            × (holds_at (askings_of self.now.named.now) (slots_of self.now.nodes.now) (augments_seen self.now.augments.now) target augment ≡ true)) }
     {
         if waits.get(augment) != Some(&true) {
             return None;
@@ -156,9 +210,9 @@ impl<'b, 'a, 't> Targets<'b, 'a, 't> {
     /// The first augment that waits and may be applied now; those before it that have arrived are passed over.
     fn next(&self, waits: &[bool], search: &mut Search<'t>) -> Option<Applied>
         requires lengths { length waits.now ≡ length self.now.paths.now }
-        requires settled { AllSettled (are_old self.now.named.now) (slots_of self.now.nodes.now) (augments_seen self.now.augments.now)
+        requires settled { AllSettled (askings_of self.now.named.now) (slots_of self.now.nodes.now) (augments_seen self.now.augments.now)
             self.now.paths.now waits.now search.old }
-        ensures { Picks (are_old self.now.named.now) (slots_of self.now.nodes.now) (augments_seen self.now.augments.now)
+        ensures { Picks (askings_of self.now.named.now) (slots_of self.now.nodes.now) (augments_seen self.now.augments.now)
             self.now.paths.now waits.now result search.old search.new }
     {
         while let Some(augment) = search.pop() {

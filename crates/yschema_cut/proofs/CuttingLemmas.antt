@@ -4,7 +4,6 @@ use Rattle.std.proofs.Common.{◌≡◌, ℕ, zero, suc, ◌+◌, ◌≤◌, Boo
 use Rattle.std.specs.Prelude.{◌==◌}
 use Rattle.std.proofs.Math.Seq.{drop-cons}
 use Rattle.yspec.specs.Forest.{Forest}
-use Rattle.yspec.specs.linking.Source.{Source}
 use Rattle.yspec.specs.linking.Parts.{Part}
 use Rattle.yspec_wide.specs.Standing.{standing_by}
 use Rattle.ybase_preorder.specs.Layout.{Place, places, laid, seen}
@@ -22,7 +21,7 @@ use Rattle.yschema_expand.specs.TableView.{changed_place}
 
 -- ---- the same of what lies in a table and of its parts
 
-fates_told : (holds : Forest Source → Bool) (k : ℕ) (slots : List (Slot ExpandedNode))
+fates_told : (holds : Part → Bool) (k : ℕ) (slots : List (Slot ExpandedNode))
     → totals_by (map (λ (r : Slot ExpandedNode). fate_of holds (part_view r.label)) slots) (laid slots) ≡ totals_of holds (seen numbered_part k (laid slots))
 fates_told holds k [] = refl
 fates_told holds k (r ∷ slots) =
@@ -108,7 +107,7 @@ same_length off old new is =
 
 -- ---- all of it
 
-pub all_cut : (holds : Forest Source → Bool) (f : Forest Part) (old mid made : List (Slot ExpandedNode)) (fates : List Fate) (totals : List ℕ) (standing off : List Bool)
+pub all_cut : (holds : Part → Bool) (f : Forest Part) (old mid made : List (Slot ExpandedNode)) (fates : List Fate) (totals : List ℕ) (standing off : List Bool)
     → seen numbered_part 0 (laid old) ≡ places None 0 f
     → fates ≡ map (λ (r : Slot ExpandedNode). fate_of holds (part_view r.label)) old
     → totals ≡ totals_by fates (laid old)

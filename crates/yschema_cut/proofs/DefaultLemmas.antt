@@ -35,7 +35,7 @@ take_front zero xs ys within = refl
 take_front (suc n) [] ys within = absurd (omega (arith, within))
 take_front (suc n) (x ∷ xs) ys within = ap (λ rest. x ∷ rest) (take_front n xs ys (omega (arith, within)))
 
-module _ (holds : Forest Source → Bool) where
+module _ (holds : Part → Bool) where
   -- ---- which stand
 
   own_none : (p : Part) (below : Forest Part) → not (is_none (standing_by holds (node p below end))) ≡ stays holds p below

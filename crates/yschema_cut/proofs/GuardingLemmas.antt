@@ -8,10 +8,9 @@ use Rattle.yspec.specs.linking.Parts.{Part}
 use Rattle.yspec.specs.linking.Scopes.{Placed, statements_of}
 use Rattle.yspec.specs.linking.Source.{Source}
 use Rattle.yspec_wide.specs.Expansion.{augmented_in}
-use Rattle.yspec_wide.specs.Features.{stands}
 use Rattle.yspec_wide.specs.Language.{Language, core, rfc}
 use Rattle.yspec_wide.specs.Sources.{is_condition, is_when, bears_when}
-use Rattle.yspec_wide.specs.Standing.{standing}
+use Rattle.yspec_wide.specs.Standing.{is_standing, standing}
 use Rattle.ybase_preorder.specs.Layout.{forest_of, numbered_by}
 use Rattle.ybase_preorder.specs.declared.slot.Slot.{Slot}
 use Rattle.ylink_grammar.specs.SourceView.{source_view}
@@ -84,7 +83,7 @@ module _ (language : Language) (slots : List (Slot held.Source)) (others : List 
       → map (λ (p : Part). kept_hold (holds_in others) p.own) (preorder (standing language modules (augmented_in language modules).0))
       ≡ map (λ (p : Part). not (bears_when language p.own)) (preorder (standing language modules (augmented_in language modules).0))
   own_unguarded kept =
-      own_alike (Right language others says) (kept_hold (holds_in others)) (λ own. not (bears_when language own)) row_unguarded
+      own_alike (Right language others says) (λ p. true) (kept_hold (holds_in others)) (λ own. not (bears_when language own)) row_unguarded
       (standing language modules (augmented_in language modules).0)
-      (own_left_standing (Right language others says) (stands language modules) (augmented_in language modules).0
+      (own_left_standing (Right language others says) (is_standing language modules) (augmented_in language modules).0
       (own_augmented (Right language others says) language modules (each_right language others says [] modules says_other kept)))

@@ -10,8 +10,8 @@ use Rattle.yspec.specs.linking.Parts.{Part}
 use Rattle.yspec_wide.specs.Language.{Language}
 use Rattle.yspec_wide.specs.Expansion.{augmented_in}
 use Rattle.yspec_wide.specs.Features.{condition_holds, all_hold, stands}
-use Rattle.yspec_wide.specs.Sources.{is_condition, is_when}
-use Rattle.yspec_wide.specs.Standing.{left_with, standing, standing_by}
+use Rattle.yspec_wide.specs.Sources.{is_condition, is_operation, is_when}
+use Rattle.yspec_wide.specs.Standing.{is_standing, left_with, standing, standing_by}
 use Rattle.ybase_preorder.specs.Layout.{forest_of, numbered_by}
 use Rattle.ybase_preorder.specs.declared.slot.Slot.{Slot}
 use Rattle.ybase_preorder.proofs.NumberLemmas.{stands_there}
@@ -29,7 +29,7 @@ use Rattle.ylink_standing.proofs.PlaceLemmas.{first_there, under_first, behind_f
 use Rattle.yschema_given.specs.Holding.{holds_in, kept_hold}
 use Rattle.yschema_given.specs.Keeping.{are_kept_right, is_kept, is_kept_right}
 use Rattle.yschema_given.proofs.KeepingLemmas.{as_kept, kept_parts}
-use Rattle.yschema_cut.specs.Cutting.{told_from}
+use Rattle.yschema_cut.specs.Cutting.{stands_by, told_from}
 use Rattle.yschema_cut.proofs.OwnLemmas.{Each, EachOwn, own_augmented}
 
 -- ---- one statement alone
@@ -99,25 +99,30 @@ module _ (language : Language) (holding : List Bool) (says : Source → Bool) wh
 
 -- ---- what two say alike of all that nodes state
 
-module _ (P : Source → Type 0) (first second : Forest Source → Bool) (same : (own : Forest Source) → Each P own → first own ≡ second own) where
-  alike : (f : Forest Part) → EachOwn P f → standing_by first f ≡ standing_by second f
+-- where something else is asked of their nodes besides
+module _ (P : Source → Type 0) (free : Part → Bool) (first second : Forest Source → Bool) (same : (own : Forest Source) → Each P own → first own ≡ second own) where
+  abbrev by_first : Part → Bool
+  by_first p = free p && first p.own
+
+  abbrev by_second : Part → Bool
+  by_second p = free p && second p.own
+
+  alike : (f : Forest Part) → EachOwn P f → standing_by by_first f ≡ standing_by by_second f
   unfolding standing_by
   alike end right = refl
   alike (node p below after) right =
-      let here = same p.own right.0 in
+      let here = ap (λ b. free p && b) (same p.own right.0) in
       let inside = alike below right.1 in
       let rest = alike after right.2 in
-      ap₂ (λ b f. cond b (left_with p below f (standing_by first after)) (standing_by first after)) here inside
-      ∙ ap (λ f. cond (second p.own) (left_with p below (standing_by second below) f) f) rest
+      ap₂ (λ b f. cond b (left_with p below f (standing_by by_first after)) (standing_by by_first after)) here inside
+      ∙ ap (λ f. cond (by_second p) (left_with p below (standing_by by_second below) f) f) rest
 
-  pub own_alike : (f : Forest Part) → EachOwn P f → map (λ (p : Part). first p.own) (preorder f) ≡ map (λ (p : Part). second p.own) (preorder f)
+  pub own_alike : (f : Forest Part) → EachOwn P f → map by_first (preorder f) ≡ map by_second (preorder f)
   own_alike end right = refl
   own_alike (node p below after) right =
-      let all : (test : Forest Source → Bool) → map (λ (q : Part). test q.own) (preorder below ++ preorder after)
-      ≡ map (λ (q : Part). test q.own) (preorder below) ++ map (λ (q : Part). test q.own) (preorder after) =
-      λ test. map-append (λ (q : Part). test q.own) (preorder below) (preorder after) in
-      ap₂ (λ b bs. b ∷ bs) (same p.own right.0)
-      (all first ∙ (ap₂ (λ xs ys. xs ++ ys) (own_alike below right.1) (own_alike after right.2) ∙ sym (all second)))
+      ap₂ (λ b bs. b ∷ bs) (ap (λ b. free p && b) (same p.own right.0))
+      (map-append by_first (preorder below) (preorder after)
+      ∙ (ap₂ (λ xs ys. xs ++ ys) (own_alike below right.1) (own_alike after right.2) ∙ sym (map-append by_second (preorder below) (preorder after))))
 
 module _ (language : Language) (features : FeaturesOn) (slots : List (Slot held.Source)) (holding : List Bool) where
   abbrev modules : Forest Source
@@ -165,18 +170,21 @@ module _ (language : Language) (features : FeaturesOn) (slots : List (Slot held.
       plain : (n : ℕ) → 0 + n ≡ n
       plain n = omega arith
 
+  abbrev free : Part → Bool
+  free p = not (is_operation language p.source)
+
   -- whether the parts of a set stand themselves
   pub own_standing : holding ≡ told_from (holds_at features.conditions.items on) 0 slots → IsOf features language modules → are_kept_right language modules ≡ true
-      → map (λ (p : Part). kept_hold (holds_in holding) p.own) (preorder (augmented_in language modules).0)
-      ≡ map (λ (p : Part). stands language modules p.own) (preorder (augmented_in language modules).0)
+      → map (stands_by language holding) (preorder (augmented_in language modules).0)
+      ≡ map (is_standing language modules) (preorder (augmented_in language modules).0)
   own_standing holding_is is kept =
-      own_alike (Right language holding says) (kept_hold (holds_in holding)) (stands language modules)
+      own_alike (Right language holding says) free (kept_hold (holds_in holding)) (stands language modules)
       (λ own right. row_holds own right ∙ tells_standing language modules on is.tells own)
       (augmented_in language modules).0 (own_augmented (Right language holding says) language modules (all_right holding_is is kept))
 
   pub standing_same : holding ≡ told_from (holds_at features.conditions.items on) 0 slots → IsOf features language modules → are_kept_right language modules ≡ true
-      → standing_by (kept_hold (holds_in holding)) (augmented_in language modules).0 ≡ standing language modules (augmented_in language modules).0
+      → standing_by (stands_by language holding) (augmented_in language modules).0 ≡ standing language modules (augmented_in language modules).0
   standing_same holding_is is kept =
-      alike (Right language holding says) (kept_hold (holds_in holding)) (stands language modules)
+      alike (Right language holding says) free (kept_hold (holds_in holding)) (stands language modules)
       (λ own right. row_holds own right ∙ tells_standing language modules on is.tells own)
       (augmented_in language modules).0 (own_augmented (Right language holding says) language modules (all_right holding_is is kept))

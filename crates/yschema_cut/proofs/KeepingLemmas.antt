@@ -4,7 +4,6 @@ use Rattle.std.specs.Prelude.{◌==◌, option_map}
 use Rattle.std.proofs.lemmas.Bool.{eq-eqb, ne_eqb}
 use Rattle.std.proofs.lemmas.List.{append-nil}
 use Rattle.yspec.specs.Forest.{Forest, node, end, size}
-use Rattle.yspec.specs.linking.Source.{Source}
 use Rattle.yspec.specs.linking.Parts.{Part}
 use Rattle.yspec_wide.specs.Standing.{with_default_on, standing_by}
 use Rattle.ybase_preorder.specs.Layout.{Place, places}
@@ -21,7 +20,7 @@ skipped_all t number (q ∷ qs) ps =
     let next : number + 1 + length qs ≡ number + suc (length qs) = omega arith in
     skipped_all t (number + 1) qs ps ∙ ap (λ n. kept_from t n 0 ps) next
 
-module _ (holds : Forest Source → Bool) where
+module _ (holds : Part → Bool) where
   pub size_on : (f : Forest Part) → size (with_defaults_on holds f) ≡ size f
   size_on end = refl
   size_on (node p below after) = ap₂ (λ m n. suc (m + n)) (size_on below) (size_on after)

@@ -323,10 +323,10 @@ module _ (P : Source → Type 0) where
       by true = rest
       by false = (each_left p below standing own, inner, rest)
 
-  pub own_left_standing : (holds : Forest Source → Bool) (f : Forest Part) → EachOwn f → EachOwn (standing_by holds f)
+  pub own_left_standing : (holds : Part → Bool) (f : Forest Part) → EachOwn f → EachOwn (standing_by holds f)
   unfolding standing_by
   own_left_standing holds end all = tt
-  own_left_standing holds (node p below after) all = by (holds p.own) (own_left_standing holds below all.1) (own_left_standing holds after all.2)
+  own_left_standing holds (node p below after) all = by (holds p) (own_left_standing holds below all.1) (own_left_standing holds after all.2)
     where
       by : (b : Bool) → EachOwn (standing_by holds below) → EachOwn (standing_by holds after)
           → EachOwn (cond b (left_with p below (standing_by holds below) (standing_by holds after)) (standing_by holds after))

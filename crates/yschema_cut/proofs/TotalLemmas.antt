@@ -4,7 +4,6 @@ use Rattle.std.specs.Prelude.{◌==◌, nat_lt}
 use Rattle.std.proofs.lemmas.Bool.{eq-eqb, ne_eqb}
 use Rattle.std.proofs.lemmas.Bool.Decides.{nat_tests}
 use Rattle.yspec.specs.Forest.{Forest, node, end, size}
-use Rattle.yspec.specs.linking.Source.{Source}
 use Rattle.yspec.specs.linking.Parts.{Part}
 use Rattle.yspec_wide.specs.Standing.{is_implied_case, is_none, is_all_cut, left_with, with_default_on, standing_by}
 use Rattle.ybase_preorder.specs.Layout.{Place, places}
@@ -26,15 +25,15 @@ swapped true false = refl
 swapped false true = refl
 swapped false false = refl
 
-module _ (holds : Forest Source → Bool) where
+module _ (holds : Part → Bool) where
   -- whether a node stands where the one above it does
   abbrev pub stays : Part → Forest Part → Bool
-  stays p below = holds p.own && not (is_implied_case p && is_all_cut below (standing_by holds below))
+  stays p below = holds p && not (is_implied_case p && is_all_cut below (standing_by holds below))
 
   pub standing_node : (p : Part) (below after : Forest Part) → standing_by holds (node p below after)
       ≡ cond (stays p below) (node (with_default_on p below (standing_by holds below)) (standing_by holds below) (standing_by holds after)) (standing_by holds after)
   unfolding standing_by
-  standing_node p below after = by (holds p.own) (is_implied_case p && is_all_cut below (standing_by holds below))
+  standing_node p below after = by (holds p) (is_implied_case p && is_all_cut below (standing_by holds below))
     where
       by : (h c : Bool)
           → cond h (cond c (standing_by holds after) (node (with_default_on p below (standing_by holds below)) (standing_by holds below) (standing_by holds after))) (standing_by holds after)
@@ -91,7 +90,7 @@ module _ (holds : Forest Source → Bool) where
 
   -- one more, as the code tells it
   pub one_is : (p : Part) (below : Forest Part) (later : List ℕ)
-      → one_more (holds p.own) (is_implied_case p) (size below) (totals_from holds below later)
+      → one_more (holds p) (is_implied_case p) (size below) (totals_from holds below later)
       ≡ size (standing_by holds (node p below end)) + at later 0
   one_is p below later =
       let s = size (standing_by holds below) in
@@ -102,7 +101,7 @@ module _ (holds : Forest Source → Bool) where
       let cut : (nat_lt 0 (size below) && (at u 0 == at u (size below))) ≡ is_all_cut below (standing_by holds below) =
       ap₂ (λ a b. a && b) (some_sized below) (ap₂ (λ a b. a == b) inside behind ∙ none_sized (standing_by holds below) n)
       ∙ swapped (not (is_none below)) (is_none (standing_by holds below)) in
-      ap (λ c. cond (holds p.own && not (is_implied_case p && c)) (at u 0 + 1) (at u (size below))) cut
+      ap (λ c. cond (holds p && not (is_implied_case p && c)) (at u 0 + 1) (at u (size below))) cut
       ∙ (by (stays p below) inside behind ∙ ap (λ k. k + n) (sym (own_size p below)))
     where
       by : (b : Bool) → at (totals_from holds below later) 0 ≡ size (standing_by holds below) + at later 0
@@ -121,6 +120,6 @@ module _ (holds : Forest Source → Bool) where
       ap (totals_of holds) (append_assoc (places (Some number) (number + 1) below) behind ps)
       ∙ (totals_are below (Some number) (number + 1) (behind ++ ps)
       ∙ ap (totals_from holds below) (totals_are after parent (number + suc (size below)) ps)) in
-      ap (λ later. one_more (holds p.own) (is_implied_case p) (size below) later ∷ later) rest
+      ap (λ later. one_more (holds p) (is_implied_case p) (size below) later ∷ later) rest
       ∙ ap (λ k. k ∷ totals_from holds below (totals_from holds after (totals_of holds ps)))
       (one_is p below (totals_from holds after (totals_of holds ps)))

@@ -48,7 +48,7 @@ with_off [] (p ∷ ps) = p ∷ ps
 with_off (b ∷ off) (p ∷ ps) =
     (if b then record p { label = record p.label { own = without_default p.label.own } } else p) ∷ with_off off ps
 
-module _ (holds : Forest Source → Bool) where
+module _ (holds : Part → Bool) where
   -- of each node of a forest
   abbrev pub off_of : Forest Part → List Bool
   off_of end = []

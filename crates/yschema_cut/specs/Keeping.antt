@@ -1,7 +1,6 @@
 -- Tables without the nodes that don't stand.
 use Rattle.std.specs.Prelude.{ℕ, zero, suc, ◌+◌, ◌-◌, ◌==◌, Bool, List, [], ◌∷◌, option_map, if◌then◌else◌}
 use Rattle.yspec.specs.Forest.{Forest, end, node}
-use Rattle.yspec.specs.linking.Source.{Source}
 use Rattle.yspec.specs.linking.Parts.{Part}
 use Rattle.yspec_wide.specs.Standing.{standing_by, with_default_on}
 use Rattle.ybase_preorder.specs.Layout.{Place}
@@ -23,7 +22,7 @@ module _ {L : Type 0} (totals : List ℕ) where
   kept_from number zero (p ∷ ps) = if at totals number == at totals (number + 1 + p.below)
       then kept_from (number + 1) p.below ps else moved number p ∷ kept_from (number + 1) 0 ps
 
-module _ (holds : Forest Source → Bool) where
+module _ (holds : Part → Bool) where
   -- a forest with its default cases that don't stand as no defaults
   abbrev pub with_defaults_on : Forest Part → Forest Part
   with_defaults_on end = end

@@ -1,7 +1,6 @@
 -- How many nodes stand from each on.
 use Rattle.std.specs.Prelude.{ℕ, ◌+◌, ◌++◌, ◌&&◌, ◌==◌, Bool, false, not, List, [], ◌∷◌, drop, get_or, nat_lt, if◌then◌else◌}
 use Rattle.yspec.specs.Forest.{Forest, end, node, size}
-use Rattle.yspec.specs.linking.Source.{Source}
 use Rattle.yspec.specs.linking.Parts.{Part}
 use Rattle.yspec_wide.specs.Standing.{is_implied_case, is_none, standing_by}
 use Rattle.ybase_preorder.specs.Layout.{Place}
@@ -38,16 +37,16 @@ standing_in totals number [] = []
 standing_in totals number (p ∷ ps) =
     not (at totals number == at totals (number + 1 + p.below)) ∷ standing_in totals (number + 1) ps
 
-module _ (holds : Forest Source → Bool) where
+module _ (holds : Part → Bool) where
   -- what is told of a node
   abbrev pub fate_of : Part → Fate
-  fate_of p = record { holds = holds p.own; is_implied = is_implied_case p }
+  fate_of p = record { holds = holds p; is_implied = is_implied_case p }
 
   -- from each node of a table on, and from its end
   abbrev pub totals_of : List (Place Part) → List ℕ
   totals_of [] = 0 ∷ []
   totals_of (p ∷ ps) = let later = totals_of ps in
-      one_more (holds p.label.own) (is_implied_case p.label) p.below later ∷ later
+      one_more (holds p.label) (is_implied_case p.label) p.below later ∷ later
 
   -- the same from each node of a forest on, given how many stand from each behind it on
   abbrev pub totals_from : Forest Part → List ℕ → List ℕ

@@ -13,7 +13,7 @@ ghost use Rattle.yschema_cut.specs.Cutting.{TellsUnguarded};
 ghost use Rattle.yschema_expand.specs.TableView.{parts_in};
 ghost use Rattle.yschema_given.specs.Keeping.{are_kept_right};
 
-use crate::nodes::own_standing_of;
+use crate::nodes::own_holding_of;
 use std::alloc::{AllocError, Global};
 use ylink_grammar::{Language, Sources, is_when};
 use yschema_expand::NodeTable;
@@ -48,5 +48,5 @@ pub fn unguarded_in(
         → IfOk result (λ unguarded. TellsUnguarded unguarded.items l (standing l m (augmented_in l m).0)) }
 {
     let others = others_in(alloc, language, sources)?;
-    own_standing_of(alloc, table.slots(), others.as_slice())
+    own_holding_of(alloc, table.slots(), others.as_slice())
 }

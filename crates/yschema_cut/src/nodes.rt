@@ -6,6 +6,8 @@ ghost use Rattle.yspec.specs.linking.Source.{Source};
 ghost use Rattle.yspec_wide.specs.Standing.{is_implied_case, without_default};
 ghost use Rattle.yschema_given.specs.GivenView.{stated_with};
 ghost use Rattle.ybase_preorder.specs.Layout.{laid, seen};
+ghost use Rattle.ylink_grammar.specs.LanguageView.{language_view};
+ghost use Rattle.yschema_cut.specs.Cutting.{stands_by};
 ghost use Rattle.yschema_cut.specs.Defaults.{without_default_part};
 ghost use Rattle.yschema_cut.specs.Totals.{fate_of};
 ghost use Rattle.yschema_expand.specs.NodeView.{numbered_part, part_view, plain_part};
@@ -16,6 +18,7 @@ use crate::totals::Fate;
 use std::alloc::{AllocError, Global};
 use ybase_preorder::Slot;
 use ybase_words::Keyword;
+use ylink_grammar::Language;
 use yschema_expand::ExpandedNode;
 use yschema_given::{Given, kept_hold};
 
@@ -40,6 +43,13 @@ fn holds(node: &ExpandedNode<'_, '_>, holding: &[bool]) -> bool
     holds
 }
 
+/// Whether a node stands, whatever stands above it: it is no operation, and all its conditions hold.
+fn stands(language: &Language, node: &ExpandedNode<'_, '_>, holding: &[bool]) -> bool
+    ensures { result ≡ stands_by (language_view language.now) holding.now (part_view node.now) }
+{
+    !node.is_operation(language) && holds(node, holding)
+}
+
 /// Whether a node is a case that isn't written.
 fn is_implied(node: &ExpandedNode<'_, '_>) -> bool
     ensures { result ≡ is_implied_case (part_view node.now) }
@@ -50,36 +60,54 @@ fn is_implied(node: &ExpandedNode<'_, '_>) -> bool
 /// What is told of the nodes of a table.
 pub(crate) fn fates_of(
     alloc: Global,
+    language: &Language,
     slots: &[Slot<ExpandedNode<'_, '_>>],
     holding: &[bool],
 ) -> Result<Vec<Fate>, AllocError>
     ensures { IfOk result (λ fates. fates.items
-        ≡ map (λ r. fate_of (spec.kept_hold (spec.holds_in holding.now)) (part_view r.label)) slots.now) }
+        ≡ map (λ r. fate_of (stands_by (language_view language.now) holding.now) (part_view r.label)) slots.now) }
 {
     let mut fates = Vec::with_capacity(alloc, slots.len())?;
     for slot in slots {
         fates.push(Fate {
-            holds: holds(&slot.label, holding),
+            holds: stands(language, &slot.label, holding),
             is_implied: is_implied(&slot.label),
         })?;
     }
     Ok(fates)
 }
 
-/// Whether all conditions of each node of a table itself hold.
+/// Whether each node of a table stands, whatever stands above it.
 pub(crate) fn own_standing_of(
     alloc: Global,
+    language: &Language,
     slots: &[Slot<ExpandedNode<'_, '_>>],
     holding: &[bool],
 ) -> Result<Vec<bool>, AllocError>
     ensures { IfOk result (λ standing. standing.items
-        ≡ map (λ r. spec.kept_hold (spec.holds_in holding.now) (part_view r.label).own) slots.now) }
+        ≡ map (λ r. stands_by (language_view language.now) holding.now (part_view r.label)) slots.now) }
 {
     let mut standing = Vec::with_capacity(alloc, slots.len())?;
     for slot in slots {
-        standing.push(holds(&slot.label, holding))?;
+        standing.push(stands(language, &slot.label, holding))?;
     }
     Ok(standing)
+}
+
+/// Whether all conditions of each node of a table itself hold.
+pub(crate) fn own_holding_of(
+    alloc: Global,
+    slots: &[Slot<ExpandedNode<'_, '_>>],
+    holding: &[bool],
+) -> Result<Vec<bool>, AllocError>
+    ensures { IfOk result (λ held. held.items
+        ≡ map (λ r. spec.kept_hold (spec.holds_in holding.now) (part_view r.label).own) slots.now) }
+{
+    let mut held = Vec::with_capacity(alloc, slots.len())?;
+    for slot in slots {
+        held.push(holds(&slot.label, holding))?;
+    }
+    Ok(held)
 }
 
 /// That a node has no default.

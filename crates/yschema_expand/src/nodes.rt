@@ -3,7 +3,10 @@
 use std::alloc::{AllocError, Global};
 use ybase_preorder::{Node, Siblings};
 use ybase_words::Keyword;
-use ylink_grammar::{BrokenRule, CompileCode, Language, Source, argument_of, broken};
+use ylink_grammar::{
+    BrokenRule, CompileCode, Language, Source, argument_of, broken, is_action, is_anydata,
+    is_anyxml, is_call, is_operation, is_operation_part,
+};
 use yschema_given::Given;
 
 /// A node that a statement defines, or the case that a single node of a choice stands for (RFC 7950, 7.9.2), where a module
@@ -25,6 +28,8 @@ pub struct ExpandedNode<'a, 't> {
 impl<'a, 't> ExpandedNode<'a, 't> {
     ghost use Rattle.std.specs.Prelude.{◌≡◌, ◌++◌, ◌∷◌, [], IfOk, OnOk, true};
     ghost use Rattle.yspec.specs.linking.Source as sources;
+    ghost use Rattle.yspec_wide.specs.Sources as spec;
+    ghost use Rattle.yspec_wide.specs.Words.{action_word, anydata_word, anyxml_word};
     ghost use Rattle.yspec.specs.schema.Breaks as breaks;
     ghost use Rattle.ylink_grammar.specs.BreakView.{break_view, code_number};
     ghost use Rattle.ybase_preorder.specs.View.{row_by, label_by};
@@ -147,6 +152,53 @@ impl<'a, 't> ExpandedNode<'a, 't> {
         ensures { result.now ≡ sources.argument_in (part_view self.now).source }
     {
         argument_of(self.source)
+    }
+
+    /// Whether it is an `rpc` or an `action` of a language.
+    pub fn is_call(&self, language: &Language) -> bool
+        ensures { result ≡ spec.is_call (language_view language.now) (part_view self.now).source }
+    {
+        is_call(language, self.source.label())
+    }
+
+    /// Whether it is an operation of a language: an `rpc`, an `action` or a `notification`.
+    pub fn is_operation(&self, language: &Language) -> bool
+        ensures { result
+            ≡ spec.is_operation (language_view language.now) (part_view self.now).source }
+    {
+        is_operation(language, self.source.label())
+    }
+
+    /// Whether it is an `action` of a language.
+    pub fn is_action(&self, language: &Language) -> bool
+        ensures { result
+            ≡ spec.is_added (language_view language.now) action_word (part_view self.now).source }
+    {
+        is_action(language, self.source.label())
+    }
+
+    /// Whether it is an operation of a language, or the `input` or the `output` of one.
+    pub fn is_operation_part(&self, language: &Language) -> bool
+        ensures { result
+            ≡ spec.is_operation_part (language_view language.now) (part_view self.now).source }
+    {
+        is_operation_part(language, self.source.label())
+    }
+
+    /// Whether it is an `anydata` of a language.
+    pub fn is_anydata(&self, language: &Language) -> bool
+        ensures { result
+            ≡ spec.is_added (language_view language.now) anydata_word (part_view self.now).source }
+    {
+        is_anydata(language, self.source.label())
+    }
+
+    /// Whether it is an `anyxml` of a language.
+    pub fn is_anyxml(&self, language: &Language) -> bool
+        ensures { result
+            ≡ spec.is_added (language_view language.now) anyxml_word (part_view self.now).source }
+    {
+        is_anyxml(language, self.source.label())
     }
 
     /// A rule that it breaks, which is told at its statement, wherever that stands.

@@ -1,10 +1,12 @@
 //! Refines (RFC 7950, 7.13.2).
 
-ghost use Rattle.std.specs.Prelude.{◌≡◌, ◌++◌, ◌&&◌, ℕ, List, Option, Some, None, IfOk, IfSome, OnOk, false, length, not, option_and_then, true, if◌then◌else◌};
+ghost use Rattle.std.specs.Prelude.{◌≡◌, ◌++◌, ◌&&◌, ℕ, List, Option, Some, None, IfOk, IfSome, OnOk, false, is_some, length, not, option_and_then, true, if◌then◌else◌};
 ghost use Rattle.std.specs.Option.{option_map_or};
 ghost use Rattle.yspec.specs.Forest.{Forest};
 ghost use Rattle.yspec.specs.linking.Expansion.{is_refine};
 ghost use Rattle.yspec_wide.specs.Expansion as spec;
+ghost use Rattle.yspec_wide.specs.Sources.{is_anything};
+ghost use Rattle.yspec.specs.linking.Keyword.{default_word};
 ghost use Rattle.yspec.specs.linking.Parts.{Part};
 ghost use Rattle.yspec.specs.linking.Source as sources;
 ghost use Rattle.yspec.specs.schema.Breaks.{broken, when};
@@ -14,6 +16,7 @@ ghost use Rattle.ylink_grammar.specs.LanguageView.{language_view};
 ghost use Rattle.ylink_grammar.specs.SourceView.{source_view};
 ghost use Rattle.ylink_names.specs.PrefixView.{IsOf};
 ghost use Rattle.yschema_expand.specs.Indexing.{part_in, Indexes};
+ghost use Rattle.yschema_expand.specs.NodeView.{part_view};
 ghost use Rattle.yschema_expand.specs.TableView.{parts_in, slots_of};
 ghost use Rattle.yschema_expand.specs.Targets.{target_in};
 ghost use Rattle.yschema_expand.specs.Walk.{Changes};
@@ -21,18 +24,52 @@ ghost use Rattle.yschema_given.specs.Keeping.{are_kept_right};
 
 use crate::expanding::Made;
 use crate::indexing::TargetIndex;
+use crate::nodes::ExpandedNode;
 use crate::table::NodeTable;
 use crate::target::{LastNodes, number_at};
 use std::alloc::{AllocError, Global};
 use ybase_preorder::{Node, Siblings};
 use ybase_words::Keyword;
 use ylink_arguments::relative_path;
-use ylink_grammar::{CompileCode, Language, Source, argument_of, broken, least};
+use ylink_grammar::{CompileCode, Language, Source, argument_of, broken, first_with, least};
 use ylink_names::Prefixes;
-use yschema_given::may_bear_in;
+use yschema_given::{are_remarks, may_bear_in};
 
 /// How many statements a `uses` has at least whose refines find their targets by an index.
 const MANY: usize = 64;
+
+/// Whether a refine gives a default to a node without a type.
+fn is_default_of_anything(
+    language: &Language,
+    node: &ExpandedNode<'_, '_>,
+    given: Siblings<'_, Source<'_>>,
+) -> bool
+    ensures { result ≡ (is_anything (language_view language.now) (part_view node.now).source
+        && is_some (sources.first_with default_word (row_by source_view given.entry))) }
+{
+    (node.is_anydata(language) || node.is_anyxml(language))
+        && first_with(Keyword::Default, given).is_some()
+}
+
+/// Whether a node may bear what a refine gives: one of an operation remarks alone.
+fn node_bears(
+    alloc: Global,
+    language: &Language,
+    node: &ExpandedNode<'_, '_>,
+    given: Siblings<'_, Source<'_>>,
+) -> Result<bool, AllocError>
+    requires { are_kept_right (language_view language.now) (row_by source_view given) ≡ true }
+    ensures { IfOk result (λ may. may ≡ spec.may_bear_in (language_view language.now) (part_view node.now)
+        (row_by source_view given.entry)) }
+{
+    if node.is_operation_part(language) {
+        Ok(are_remarks(given))
+    } else if is_default_of_anything(language, node, given) {
+        Ok(false)
+    } else {
+        may_bear_in(alloc, language, node.keyword(), given)
+    }
+}
 
 /// Whether the node of a number may bear what a refine gives.
 fn bears(
@@ -48,7 +85,7 @@ fn bears(
         (part_in (slots_of table.now) number) false) }
 {
     match table.node(number) {
-        Some(node) => may_bear_in(alloc, language, node.keyword(), given),
+        Some(node) => node_bears(alloc, language, node, given),
         None => Ok(false),
     }
 }

@@ -1,9 +1,9 @@
 //! Conditions among the statements that nodes are given (RFC 7950, 7.20.2 and 7.21.5).
 
-ghost use Rattle.std.specs.Prelude.{◌≡◌, ◌≤◌, IfOk, length, true};
+ghost use Rattle.std.specs.Prelude.{◌≡◌, ◌≤◌, ℕ, IfOk, length, true};
 ghost use Rattle.std.specs.List.{list_all};
 ghost use Rattle.yspec.specs.Forest.{row, size};
-ghost use Rattle.yspec_wide.specs.Expansion.{is_borne_in};
+ghost use Rattle.yspec_wide.specs.Expansion.{is_borne_in, is_remark};
 ghost use Rattle.yspec_wide.specs.Sources as spec;
 ghost use Rattle.ybase_preorder.specs.View.{row_by, row_view};
 ghost use Rattle.ybase_words.specs.KeywordView.{keyword_view};
@@ -83,6 +83,25 @@ fn may_bear_conditions(
 {
     let others = others_of(alloc, language, given)?;
     Ok(may_bear(keyword, Siblings::new(&others, 0)))
+}
+
+/// Whether a statement says something to people alone.
+fn is_remark(statement: &Source<'_>) -> bool
+    ensures { (number : ℕ) → result ≡ is_remark (source_view number statement.now) }
+{
+    Keyword::Description.is(statement.keyword) || Keyword::Reference.is(statement.keyword)
+}
+
+/// Whether all statements of a row do.
+pub fn are_remarks(statements: Siblings<'_, Source<'_>>) -> bool
+    ensures { result ≡ list_all is_remark (row (row_by source_view statements.entry)) }
+{
+    for statement in statements {
+        if !is_remark(statement.label()) {
+            return false;
+        }
+    }
+    true
 }
 
 /// Whether a node of a keyword may have all that a refine gives (RFC 7950, 7.13.2).

@@ -6,7 +6,7 @@ mod given;
 mod given_row;
 mod holding;
 
-pub use conditions::{bears_guard, bears_when, may_bear_in};
+pub use conditions::{are_remarks, bears_guard, bears_when, may_bear_in};
 pub use given::Given;
 pub use given_row::GivenRow;
 pub use holding::kept_hold;

@@ -17,6 +17,8 @@ use Rattle.yschema_model.specs.declared.node.TypeName.TheVariants as type_names
 use Rattle.yschema_model.specs.declared.node.MemberTarget.{MemberTarget}
 use Rattle.yschema_model.specs.declared.node.MemberTargets.{MemberTargets}
 use Rattle.yschema_model.specs.declared.node.MemberTargets.TheVariants as targets
+use Rattle.yschema_model.specs.declared.node.JsonForm.{JsonForm}
+use Rattle.yschema_model.specs.declared.node.JsonForm.TheVariants as forms
 use Rattle.yschema_model.specs.declared.node.LeafType.{LeafType}
 use Rattle.yschema_model.specs.declared.node.Reference.{Reference}
 use Rattle.yschema_model.specs.declared.node.Absence.{Absence}
@@ -53,12 +55,18 @@ each_target (targets.All target count is_required) =
 abbrev pub targets_view : List MemberTargets → List (Option spec.MemberTarget)
 targets_view = flat_map each_target
 
+abbrev pub form_view : JsonForm → spec.JsonForm
+form_view forms.ByType = spec.by_type
+form_view forms.AnyValue = spec.any_value
+form_view forms.AnyObject = spec.any_object
+
 abbrev pub leaf_type_view : LeafType → spec.LeafType
 leaf_type_view t = record {
   name = type_name_view t.name;
   type = t.value_type;
   target = number_of t.target;
   targets = targets_view t.targets.items;
+  form = form_view t.form;
 }
 
 abbrev pub reference_view : Reference → references.Reference

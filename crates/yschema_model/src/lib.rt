@@ -12,8 +12,8 @@ mod written;
 pub use children::{Child, Children, Slot};
 pub use index::id_of;
 pub use node::{
-    Absence, Amount, Kind, LeafType, MemberTarget, MemberTargets, Reference, SchemaId, SchemaNode,
-    Tuples, TypeName,
+    Absence, Amount, JsonForm, Kind, LeafType, MemberTarget, MemberTargets, Reference, SchemaId,
+    SchemaNode, Tuples, TypeName,
 };
 pub use schema::{Augment, Schema, SchemaModule};
 pub use ybase_words::{BuiltIn, Status};

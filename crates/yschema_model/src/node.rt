@@ -162,6 +162,17 @@ impl MemberTargets {
     }
 }
 
+/// How a document has a value.
+#[derive(Clone, Copy, Debug, PartialEq, Eq)]
+pub enum JsonForm {
+    /// As its type says (RFC 7951, 6).
+    ByType,
+    /// It has any JSON value, whose compact text the value is: an `anyxml` (RFC 7951, 5.6).
+    AnyValue,
+    /// It has any object: an `anydata` (RFC 7951, 5.5).
+    AnyObject,
+}
+
 /// The type of a leaf or of items, and its name in the `type` statement; of a leafref it is that of its target, which
 /// stands beside it (RFC 7950, 9.9). Beside a union with leafrefs stands what its members refer to, those of the targets'
 /// types being its own; beside any other, nothing.
@@ -171,6 +182,7 @@ pub struct LeafType {
     pub value_type: YType,
     pub target: Option<SchemaId>,
     pub targets: Vec<MemberTargets>,
+    pub form: JsonForm,
 }
 
 /// What a value refers to: a schema node, the value that an instance of it has, and whether there must be one.
@@ -284,7 +296,7 @@ pub enum Kind {
     Container {
         presence: bool,
     },
-    /// RFC 7950, 7.6.
+    /// A leaf, an `anydata` or an `anyxml` (RFC 7950, 7.6, 7.10 and 7.11).
     Leaf {
         leaf_type: LeafType,
         absence: Absence,
@@ -311,7 +323,7 @@ pub enum Kind {
 impl Kind {
     ghost use Rattle.std.specs.Prelude.{◌≡◌, option_map};
     ghost use Rattle.yspec.specs.schema.Schema as spec;
-    ghost use Rattle.yschema_model.specs.Layout.{kind_view, leaf_type_view, numbers_of};
+    ghost use Rattle.yschema_model.specs.Layout.{form_view, kind_view, leaf_type_view, numbers_of};
 
     /// Whether it stands in documents: all but choices and cases.
     pub fn is_data(&self) -> bool
@@ -352,6 +364,16 @@ impl Kind {
         match self {
             Kind::Leaf { leaf_type, .. } | Kind::LeafList { leaf_type, .. } => Some(leaf_type),
             _ => None,
+        }
+    }
+
+    /// How a document has its values; as its type says where it has none.
+    pub fn form(&self) -> JsonForm
+        ensures { form_view result ≡ spec.form_in (kind_view self.now) }
+    {
+        match self {
+            Kind::Leaf { leaf_type, .. } | Kind::LeafList { leaf_type, .. } => leaf_type.form,
+            _ => JsonForm::ByType,
         }
     }
 }

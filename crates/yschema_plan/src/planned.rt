@@ -3,7 +3,7 @@
 use crate::own::OwnStatements;
 use ybase_preorder::Node;
 use ybase_words::Keyword;
-use ylink_grammar::{BrokenRule, CompileCode, Source};
+use ylink_grammar::{BrokenRule, CompileCode, Language, Source};
 use yschema_expand::ExpandedNode;
 
 /// A schema node, with what stands around it.
@@ -28,6 +28,9 @@ impl<'a, 't> Planned<'a, 't> {
     ghost use Rattle.yspec.specs.linking.Parts.{defines_node};
     ghost use Rattle.yspec.specs.linking.Planned as spec;
     ghost use Rattle.yspec.specs.linking.Source as sources;
+    ghost use Rattle.yspec_wide.specs.Sources as words;
+    ghost use Rattle.yspec_wide.specs.Words.{action_word, anydata_word, anyxml_word};
+    ghost use Rattle.ylink_grammar.specs.LanguageView.{language_view};
     ghost use Rattle.ybase_words.specs.KeywordView.{keyword_view};
     ghost use Rattle.ylink_grammar.specs.SourceView.{node_view};
     ghost use Rattle.yschema_expand.specs.NodeView.{part_view};
@@ -132,11 +135,65 @@ impl<'a, 't> Planned<'a, 't> {
         self.node.broken(code)
     }
 
+    /// Whether it is an operation of a language: an `rpc`, an `action` or a `notification`.
+    pub fn is_operation(&self, language: &Language) -> bool
+        ensures { result
+            ≡ words.is_operation (language_view language.now) (part_at self.now).source }
+    {
+        self.node.is_operation(language)
+    }
+
+    /// Whether it is an `action` of a language.
+    pub fn is_action(&self, language: &Language) -> bool
+        ensures { result
+            ≡ words.is_added (language_view language.now) action_word (part_at self.now).source }
+    {
+        self.node.is_action(language)
+    }
+
+    /// Whether it is an operation of a language, or the `input` or the `output` of one.
+    pub fn is_operation_part(&self, language: &Language) -> bool
+        ensures { result
+            ≡ words.is_operation_part (language_view language.now) (part_at self.now).source }
+    {
+        self.node.is_operation_part(language)
+    }
+
     /// Whether it holds values.
     pub fn is_leaf_or_leaf_list(&self) -> bool
         ensures { (number : _) → result ≡ spec.is_leaf_or_leaf_list (planned_view number self.now) }
     {
         matches!(self.keyword(), Keyword::Leaf | Keyword::LeafList)
+    }
+
+    /// Whether it is an `anydata` of a language.
+    pub fn is_anydata(&self, language: &Language) -> bool
+        ensures { result
+            ≡ words.is_added (language_view language.now) anydata_word (part_at self.now).source }
+    {
+        self.node.is_anydata(language)
+    }
+
+    /// Whether it is an `anyxml` of a language.
+    pub fn is_anyxml(&self, language: &Language) -> bool
+        ensures { result
+            ≡ words.is_added (language_view language.now) anyxml_word (part_at self.now).source }
+    {
+        self.node.is_anyxml(language)
+    }
+
+    /// Whether it has a type, as a leaf and a leaf-list have, and an `anydata` and an `anyxml` don't.
+    pub fn is_typed(&self) -> bool
+        ensures { (number : _) → result ≡ spec.is_typed (planned_view number self.now) }
+    {
+        self.own_argument(Keyword::Type).is_some()
+    }
+
+    /// Whether it is a leaf, and no `anydata` or `anyxml`.
+    pub fn is_leaf(&self) -> bool
+        ensures { (number : _) → result ≡ spec.is_leaf (planned_view number self.now) }
+    {
+        Keyword::Leaf.is(self.keyword()) && self.is_typed()
     }
 
     /// Whether it stands in documents: all but choices and cases.

@@ -1,5 +1,5 @@
 -- What is told at the `augment` that adds a node, and of all nodes by which of them stand.
-use Rattle.std.proofs.Common.{◌≡◌, ℕ, suc, Bool, true, false, cond, not, ◌&&◌, ◌||◌, List, [], ◌∷◌, ◌++◌, get_or, Option, Some, None, refl, sym, ap, ap₂, ◌∙◌, arith}
+use Rattle.std.proofs.Common.{◌≡◌, ℕ, suc, Bool, true, false, cond, not, ◌&&◌, ◌||◌, List, [], ◌∷◌, ◌++◌, get_or, map, Option, Some, None, refl, sym, ap, ap₂, ◌∙◌, arith}
 use Rattle.std.specs.Prelude.{option_map, option_and_then, slice_get}
 use Rattle.std.specs.List.{Contains, flat_map}
 use Rattle.std.specs.Option.{option_map_or}
@@ -14,6 +14,7 @@ use Rattle.yspec.specs.linking.NodeBreaks.{broken_in, is_foreign, must_be, row_b
 use Rattle.yspec_wide.specs.Guards.{is_let_add}
 use Rattle.yspec_wide.specs.Language.{Language, is_yang_1, version_of}
 use Rattle.yspec_wide.specs.Sources.{bears_when}
+use Rattle.yspec_wide.specs.Operations.{is_in_operation}
 use Rattle.yspec_wide.specs.Additions.{stands_itself, has_mandatory_standing, broken_unless_let, addition_breaks_in}
 use Rattle.ybase_preorder.specs.Layout.{forest_of, numbered_by}
 use Rattle.ybase_preorder.specs.View.{forest_in}
@@ -25,7 +26,8 @@ use Rattle.yschema_plan.specs.Needs.{has_mandatory_by, is_told, needs_below, sta
 use Rattle.yschema_plan.specs.PlanView.{view}
 use Rattle.yschema_plan.specs.declared.plan.Plan as code
 use Rattle.yschema_plan.proofs.NeedLemmas.{told_at}
-use Rattle.yschema_resolve.specs.Standing.{TellsStanding, addition_breaks_unless_let}
+use Rattle.yschema_resolve.specs.Standing.{TellsStanding, addition_breaks_outside, is_told_of}
+use Rattle.yschema_resolve.proofs.GuardLemmas.{told_of}
 use Rattle.yschema_types.proofs.TypeLemmas.{number_is}
 
 told_in : Source → List Break
@@ -146,10 +148,11 @@ module _ (language : Language) (plan : Plan) where
   mandatory_is (node p below after) = ap₂ (λ inside later. (stands_itself language plan p && must_be p inside) || later)
       (mandatory_is below) (mandatory_is after)
 
-pub breaks_same : (language : Language) (plan : code.Plan) (standing : List Bool) → TellsStanding standing language (view plan)
-    → flat_map (addition_breaks_unless_let language (stands_in standing) (view plan)) (nodes_of (view plan))
+pub breaks_same : (language : Language) (plan : code.Plan) (standing inside : List Bool) → TellsStanding standing language (view plan)
+    → inside ≡ map (is_in_operation language (view plan)) (nodes_of (view plan))
+    → flat_map (addition_breaks_outside language (stands_in standing) inside (view plan)) (nodes_of (view plan))
     ≡ flat_map (addition_breaks_in language (view plan)) (nodes_of (view plan))
-breaks_same language plan standing tells =
+breaks_same language plan standing inside tells inside_is =
     let v = view plan in
     let each : (p : Planned) → Contains (nodes_of v) p → stands_in standing p ≡ stands_itself language v p =
     λ p at.
@@ -159,6 +162,9 @@ breaks_same language plan standing tells =
     let below : (n : ℕ) → has_mandatory_by (stands_in standing) (row_below v n) ≡ has_mandatory_standing language v (row_below v n) =
     λ n. sym (told_at (stands_in standing) (forest_in plan.table) n) ∙ (ap (λ told. is_told told n) needs
     ∙ (told_at (stands_itself language v) (forest_in plan.table) n ∙ mandatory_is language v (row_below v n))) in
-    same_of_all (addition_breaks_unless_let language (stands_in standing) v) (addition_breaks_in language v) (nodes_of v) (λ p at.
-    ap₂ (λ own inside. when (is_foreign p (option_and_then (node_of v) p.parent) && (p.config && (own && must_be p inside)))
-    (option_map_or (broken_unless_let language v) p.part.added_by [])) (each p at) (below p.number))
+    let within : (p : Planned) → Contains (nodes_of v) p → is_told_of inside p ≡ is_in_operation language v p =
+    λ p at. told_of inside (is_in_operation language v) plan inside_is at.0 p (slice_get-get_or (nodes_of v) at.0 p at.1 ∙ ap Some at.2) in
+    same_of_all (addition_breaks_outside language (stands_in standing) inside v) (addition_breaks_in language v) (nodes_of v) (λ p at.
+    ap₂ (λ b told. cond b [] told) (within p at)
+    (ap₂ (λ own under. when (is_foreign p (option_and_then (node_of v) p.parent) && (p.config && (own && must_be p under)))
+    (option_map_or (broken_unless_let language v) p.part.added_by [])) (each p at) (below p.number)))

@@ -9,9 +9,9 @@ use Rattle.yspec.specs.linking.Planned.{Around, Plan, Planned, around_below, at_
 use Rattle.yspec.specs.linking.Source.{Source}
 use Rattle.yspec.specs.schema.Breaks.{Break, least_from, or_told}
 use Rattle.yspec.proofs.SchemaProofs.LeastLemmas.{least_of_both}
-use Rattle.yspec_wide.specs.Features.{stands}
 use Rattle.yspec_wide.specs.Language.{Language, core}
 use Rattle.yspec_wide.specs.Sources.{bears_when}
+use Rattle.yspec_wide.specs.Standing.{is_standing}
 use Rattle.yspec_wide.proofs.CoreLinkingLemmas.{all_stand_in_core}
 use Rattle.yspec_wide.proofs.LeastLemmas.{told_in_two}
 use Rattle.yschema_plan.specs.PlanView.{plan_with}
@@ -48,9 +48,9 @@ told_of_parts told test modules parts tells number p at =
     ∙ (slice_get-map (λ (q : Planned). q.part) (nodes_of (plan_with modules parts)) number ∙ ap (option_map (λ (q : Planned). q.part)) at))
 
 pub parts_told : (standing : List Bool) (language : Language) (modules : Forest Source) (parts : Forest Part)
-    → ((number : ℕ) (p : Part) → slice_get (preorder parts) number ≡ Some p → get_or standing number true ≡ stands language modules p.own)
+    → ((number : ℕ) (p : Part) → slice_get (preorder parts) number ≡ Some p → get_or standing number true ≡ is_standing language modules p)
     → TellsStanding standing language (plan_with modules parts)
-parts_told standing language modules parts told = told_of_parts standing (λ (p : Part). stands language modules p.own) modules parts told
+parts_told standing language modules parts told = told_of_parts standing (is_standing language modules) modules parts told
 
 pub unguarded_told : (unguarded : List Bool) (language : Language) (modules : Forest Source) (parts : Forest Part)
     → ((number : ℕ) (p : Part) → slice_get (preorder parts) number ≡ Some p → get_or unguarded number true ≡ not (bears_when language p.own))

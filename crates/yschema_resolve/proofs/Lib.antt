@@ -10,3 +10,4 @@ pub mod GuardLemmas
 pub mod WidthLemmas
 pub mod CallerLemmas
 pub mod MemberLemmas
+pub mod PlaceLemmas

@@ -7,9 +7,9 @@ use Rattle.std.specs.Ordering.{is_eq, nat_cmp}
 use Rattle.std.specs.BTreeSet.{BTreeSet, Updates, contains}
 use Rattle.std.proofs.lemmas.Bool.Decides.{nat_tests}
 use Rattle.std.proofs.lemmas.List.{append_assoc, map-append}
-use Rattle.yspec.specs.linking.Keyword.{key_word, leaf_word, container_word}
+use Rattle.yspec.specs.linking.Keyword.{key_word, container_word}
 use Rattle.yspec.specs.linking.Planned as spec
-use Rattle.yspec.specs.linking.Planned.{Planned, child_called, is_a}
+use Rattle.yspec.specs.linking.Planned.{Planned, child_called, is_a, is_leaf}
 use Rattle.yspec.specs.linking.SchemaNodes.{key_names, key_numbers, nodes_named}
 use Rattle.yspec.specs.linking.Arguments.{key_of}
 use Rattle.yspec.specs.linking.NodeBreaks.{has_twice, leaf_behind, is_key_leaf, is_wrong_key}
@@ -106,14 +106,14 @@ last_by : (b all c : Bool) (q : Planned) (o : Option Planned) → o ≡ cond (al
 last_by true all c q o e = e
 last_by false all c q o e = refl
 
-leaf_last : (ps : List Planned) (q : Planned) → leaf_behind (ps ++ q ∷ []) ≡ cond (list_all (is_a container_word) ps && is_a leaf_word q) (Some q) None
+leaf_last : (ps : List Planned) (q : Planned) → leaf_behind (ps ++ q ∷ []) ≡ cond (list_all (is_a container_word) ps && is_leaf q) (Some q) None
 leaf_last [] q = refl
-leaf_last (p ∷ []) q = last_by (is_a container_word p) true (is_a leaf_word q) q (cond (is_a leaf_word q) (Some q) None) refl
+leaf_last (p ∷ []) q = last_by (is_a container_word p) true (is_leaf q) q (cond (is_leaf q) (Some q) None) refl
 leaf_last (p ∷ r ∷ ps) q =
-    last_by (is_a container_word p) (list_all (is_a container_word) (r ∷ ps)) (is_a leaf_word q) q (leaf_behind (r ∷ (ps ++ q ∷ []))) (leaf_last (r ∷ ps) q)
+    last_by (is_a container_word p) (list_all (is_a container_word) (r ∷ ps)) (is_leaf q) q (leaf_behind (r ∷ (ps ++ q ∷ []))) (leaf_last (r ∷ ps) q)
 
 pub config_last : (above : List PlanNode) (last : PlanNode) (nodes : List PlanNode) (b c : Bool) → nodes ≡ above ++ last ∷ []
-    → b ≡ list_all (is_a container_word) (map node_view above) → c ≡ is_a leaf_word (node_view last)
+    → b ≡ list_all (is_a container_word) (map node_view above) → c ≡ is_leaf (node_view last)
     → cond (b && c) (Some last.planned.config) None ≡ option_map (λ p. p.config) (leaf_behind (map node_view nodes))
 config_last above last nodes b c split all leaf =
     told (b && c)

@@ -4,3 +4,4 @@ pub mod ResolvedView
 pub mod Guarding
 pub mod Standing
 pub mod UnfitKeys
+pub mod Placing

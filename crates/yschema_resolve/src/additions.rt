@@ -20,6 +20,7 @@ ghost use Rattle.yschema_plan.specs.PlannedView.{planned_view};
 ghost use Rattle.yschema_plan.specs.PlanView.{view};
 ghost use Rattle.yschema_resolve.specs.Standing as spec;
 
+use crate::placing::{inside_of, is_told};
 use std::alloc::{AllocError, Global};
 use ylink_features::Versions;
 use ylink_grammar::{BrokenRule, CompileCode, Language, broken, least_when};
@@ -152,29 +153,56 @@ fn least_unless_let<'a, 't>(
     }
 }
 
-/// The least of all that are told, where it is told of each node whether one right below it must be stored.
+/// The same, unless the node is in an operation, as it is told of each.
+fn least_outside<'a, 't>(
+    language: &Language,
+    versions: &Versions,
+    plan: &Plan<'a, 't>,
+    standing: &[bool],
+    needs: &[bool],
+    inside: &[bool],
+    node: PlanNode<'a, 't>,
+    so_far: Option<BrokenRule>,
+) -> Option<BrokenRule>
+    requires needs { needs.now ≡ needs_below (stands_in standing.now) (view plan.now).nodes }
+    requires versions { AreVersionsOf versions.now (language_view language.now) (view plan.now).modules }
+    ensures { seen result ≡ least_from (seen so_far) (spec.addition_breaks_outside
+        (language_view language.now) (stands_in standing.now) inside.now (view plan.now) (node_view node.entry)) }
+{
+    if is_told(inside, node.number) {
+        so_far
+    } else {
+        least_unless_let(language, versions, plan, standing, needs, node, so_far)
+    }
+}
+
+/// The least of all that are told, where it is told of each node whether one right below it must be stored, and whether it is in
+/// an operation.
 fn least_of_all(
     language: &Language,
     versions: &Versions,
     plan: &Plan<'_, '_>,
     standing: &[bool],
     needs: &[bool],
+    inside: &[bool],
 ) -> Option<BrokenRule>
     requires needs { needs.now ≡ needs_below (stands_in standing.now) (view plan.now).nodes }
     requires versions { AreVersionsOf versions.now (language_view language.now) (view plan.now).modules }
     ensures { let p = view plan.now in seen result ≡ least_from None
-        (flat_map (spec.addition_breaks_unless_let (language_view language.now) (stands_in standing.now) p) (nodes_of p)) }
+        (flat_map (spec.addition_breaks_outside (language_view language.now) (stands_in standing.now) inside.now p) (nodes_of p)) }
 {
     let mut told = None;
     for node in plan.iter() {
-        told = least_unless_let(language, versions, plan, standing, needs, node, told);
+        told = least_outside(
+            language, versions, plan, standing, needs, inside, node, told,
+        );
     }
     told
 }
 
 /// The least of the configuration that must be stored, added to nodes of other modules, of all that a set of modules defines:
 /// whether what it is added to stands or not. It is told by number which nodes stand themselves; those of which nothing is told
-/// do. An `augment` with a `when` may add such in YANG 1.1.
+/// do. An `augment` with a `when` may add such in YANG 1.1, and an operation holds no configuration.
 pub fn broken_addition_rule(
     alloc: Global,
     language: &Language,
@@ -188,5 +216,13 @@ pub fn broken_addition_rule(
         ≡ least_from None (flat_map (addition_breaks_in l p) (nodes_of p))) }
 {
     let needs = plan.needs_standing(alloc, standing)?;
-    Ok(least_of_all(language, versions, plan, standing, needs.as_slice()))
+    let inside = inside_of(alloc, language, plan)?;
+    Ok(least_of_all(
+        language,
+        versions,
+        plan,
+        standing,
+        needs.as_slice(),
+        inside.as_slice(),
+    ))
 }

@@ -11,7 +11,7 @@ use ybase_words::Keyword;
 use yschema_plan::{Plan, Planned};
 
 /// Whether it is a list that states no key.
-fn lacks_key(planned: &Planned<'_, '_>) -> bool
+pub(crate) fn lacks_key(planned: &Planned<'_, '_>) -> bool
     ensures { (number : _) → let p = planned_view number planned.now in
         result ≡ (is_a list_word p && not (is_some (stated_in key_word p))) }
 {

@@ -1,4 +1,4 @@
-//! Which nodes hang on a `when`, their own or that of a node above them (RFC 7950, 7.21.5).
+//! Which nodes pass a test, as that they bear a `when` (RFC 7950, 7.21.5), or stand below one that does.
 
 ghost use Rattle.std.specs.Prelude.{◌≡◌, IfOk, get_or, map, true};
 ghost use Rattle.yspec.specs.linking.Planned.{nodes_of};
@@ -10,14 +10,14 @@ use crate::unfit_keys::node_above;
 use std::alloc::{AllocError, Global};
 use yschema_plan::{Plan, PlanNode};
 
-/// Whether the node of a number bears none itself; one of which nothing is told doesn't.
+/// Whether the node of a number doesn't pass itself; one of which nothing is told doesn't.
 fn is_unguarded(unguarded: &[bool], number: usize) -> bool
     ensures { result ≡ get_or unguarded.now number true }
 {
     unguarded.get(number).copied().unwrap_or(true)
 }
 
-/// Whether one of so many nodes on the way up from a node, itself among them, bears one.
+/// Whether one of so many nodes on the way up from a node, itself among them, passes.
 fn is_guarded_within<'a, 't>(
     plan: &Plan<'a, 't>,
     unguarded: &[bool],
@@ -38,7 +38,7 @@ fn is_guarded_within<'a, 't>(
     }
 }
 
-/// Of each node of a plan whether it hangs on one, where it is told by number which bear none themselves.
+/// Of each node of a plan whether it passes or stands below one that does, where it is told by number which don't themselves.
 pub(crate) fn guarded_of(
     alloc: Global,
     plan: &Plan<'_, '_>,

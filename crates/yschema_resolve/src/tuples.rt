@@ -311,11 +311,18 @@ fn has_twice(alloc: Global, numbers: &[u32]) -> Result<bool, AllocError>
     Ok(false)
 }
 
+/// Whether a node is a leaf, and no `anydata` or `anyxml`.
+fn is_leaf<'a, 't>(node: &PlanNode<'a, 't>) -> bool
+    ensures { result ≡ planned.is_leaf (node_view node.now) }
+{
+    node.planned.is_leaf()
+}
+
 /// Whether a child may be named by the key of a list: a leaf of its module, configuration where the list is.
 fn is_key_leaf<'a, 't>(list: &PlanNode<'a, 't>, child: &PlanNode<'a, 't>) -> bool
     ensures { result ≡ breaks.is_key_leaf (node_view list.now) (node_view child.now) }
 {
-    Keyword::Leaf.is(child.planned.keyword())
+    is_leaf(child)
         && child.planned.owner() == list.planned.owner()
         && list.planned.config == child.planned.config
 }
@@ -370,7 +377,7 @@ fn leaf_config<'a, 't>(way: &[PlanNode<'a, 't>]) -> Option<bool>
     ensures { result ≡ option_map (λ p. p.config) (breaks.leaf_behind (map node_view way.now)) }
 {
     let (last, above) = way.split_last()?;
-    if are_containers(above) && Keyword::Leaf.is(last.planned.keyword()) {
+    if are_containers(above) && last.planned.is_leaf() {
         Some(last.planned.config)
     } else {
         None

@@ -18,7 +18,7 @@ use Rattle.yspec.specs.linking.Prefixes.{NodeName, node_name}
 use Rattle.yspec.specs.linking.TypeStatements as stated
 use Rattle.yspec.specs.linking.TypeStatements.{own, of_target, of_union, own_member, leafref_member}
 use Rattle.yspec.specs.linking.Planned as spec
-use Rattle.yspec.specs.linking.Planned.{nodes_of, is_data, same_number, is_called, data_child_called, data_node_at, leaf_found, is_leaf_or_leaf_list, meant_in, is_on_circle, path_target, member_target, targets_of, union_targets}
+use Rattle.yspec.specs.linking.Planned.{nodes_of, is_data, same_number, is_called, data_child_called, data_node_at, leaf_found, is_typed, meant_in, is_on_circle, path_target, member_target, targets_of, union_targets}
 use Rattle.yspec.specs.linking.SchemaNodes.{number_in}
 use Rattle.yspec_wide.specs.Types.{Keeping, is_wide_over, meant_in_of, type_of_kept, type_within_of}
 use Rattle.ybase_graph.specs.Edges.{AreWithin, IsEdgeWithin, edge_view}
@@ -90,7 +90,7 @@ module _ (plan : Plan) where
 
   leaf_stands : (o : Option spec.Planned) (t : spec.Planned) → leaf_found o ≡ Some t → o ≡ Some t
   leaf_stands None t e = absurd cc
-  leaf_stands (Some q) t e = by (is_leaf_or_leaf_list q) e
+  leaf_stands (Some q) t e = by (is_typed q) e
     where
       by : (b : Bool) → cond b (Some q) None ≡ Some t → Some q ≡ Some t
       by true h = h

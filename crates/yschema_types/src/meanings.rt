@@ -107,7 +107,7 @@ fn leaf_found<'a, 't>(found: Option<PlanNode<'a, 't>>) -> Option<PlanNode<'a, 't
 {
     match found {
         Some(node) => {
-            if node.planned.is_leaf_or_leaf_list() {
+            if node.planned.is_typed() {
                 Some(node)
             } else {
                 None

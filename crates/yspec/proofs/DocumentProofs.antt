@@ -27,3 +27,4 @@ pub mod WrittenExactLemmas
 pub mod JsonTextLemmas
 pub mod JsonValueLemmas
 pub mod ReadTextLemmas
+pub mod WholeTextLemmas

@@ -5,7 +5,7 @@ ghost use Rattle.yspec.specs.schema.Schema.{Schema};
 ghost use Rattle.yspec.specs.Forest.{size};
 ghost use Rattle.yspec.specs.document.Document.{Tree, document_limit};
 ghost use Rattle.yspec.specs.document.FaultCode.{V1, V3};
-ghost use Rattle.yspec.specs.document.Fitting.{IsNumbered, Fits};
+ghost use Rattle.yspec.specs.document.Fitting.{IsNumbered, LeafsAreBare, Fits};
 ghost use Rattle.yspec.specs.document.Sorting.{IsSorted};
 ghost use Rattle.yspec.specs.document.Writing.{NamesDiffer, IsDocument};
 ghost use Rattle.yspec.specs.edit.Editing.{after, applied};
@@ -20,10 +20,10 @@ pub fn edited_documents_fit()
         → Fits schema (after schema tree edits) }
 {}
 
-/// It does so in its values too, where no two siblings are written with one name.
+/// It does so in its values too, where no two siblings are written with one name and below a leaf stands nothing.
 pub fn edited_documents_are_whole()
     ensures { (schema : Schema) (tree : Tree) (edits : List Edit) → IsNumbered 0 schema.nodes
-        → NamesDiffer schema
+        → NamesDiffer schema → LeafsAreBare schema.nodes
         → IsDocument schema tree → IsDocument schema (after schema tree edits) }
 {}
 

@@ -17,21 +17,21 @@ pub fn read_documents_fit()
     ensures sorted { (schema : Schema) (tree : Tree) → Fits schema tree → IsSorted tree }
 {}
 
-/// It does so in its values too, where no two siblings are written with one name.
+/// It does so in its values too, where no two siblings are written with one name and below a leaf stands nothing.
 pub fn read_documents_are_whole()
     ensures { (schema : Schema) (bytes : List ℕ) (tree : Tree) → IsNumbered 0 schema.nodes
-        → NamesDiffer schema
+        → NamesDiffer schema → LeafsAreBare schema.nodes
         → document_of schema bytes ≡ Ok tree → IsDocument schema tree }
 {}
 
 /// Then each of its nodes is visited once: there are as many right visits as nodes, and not more than the limit.
 pub fn read_nodes_are_visited()
     ensures visited { (schema : Schema) (bytes : List ℕ) (value : Data) (tree : Tree)
-        → NamesDiffer schema
+        → NamesDiffer schema → LeafsAreBare schema.nodes
         → json_of bytes ≡ Some value → document_of schema bytes ≡ Ok tree
         → right_nodes (visits schema value) ≡ size tree }
     ensures within { (schema : Schema) (bytes : List ℕ) (tree : Tree) → NamesDiffer schema
-        → document_of schema bytes ≡ Ok tree → size tree ≤ document_limit }
+        → LeafsAreBare schema.nodes → document_of schema bytes ≡ Ok tree → size tree ≤ document_limit }
 {}
 
 /// A text with the value that is written for a document within the limit reads as that document.

@@ -5,7 +5,7 @@ use Rattle.yspec.specs.text.Text.{Text}
 use Rattle.yspec.specs.types.Ranges as ranges
 use Rattle.yspec.specs.types.Ranges.{Part}
 use Rattle.yspec.specs.types.Types.{Base, integer_base, decimal_base, string_base, boolean_base, empty_base, uint8, uint16, uint32, uint64, Shape, single, union, YangType, plain, Val, value, number_value}
-use Rattle.yspec.specs.schema.Schema.{Schema, SchemaModule, Augment, SchemaNode, Kind, container, leaf, leaf_list, list, choice, case, LeafType, own_type, allowed, default_used, mandatory, key, Amount, current}
+use Rattle.yspec.specs.schema.Schema.{Schema, SchemaModule, Augment, SchemaNode, Kind, container, leaf, leaf_list, list, choice, case, LeafType, own_type, allowed, default_used, mandatory, key, Amount, current, by_type}
 use Rattle.yspec.specs.document.Document.{Tree}
 use Rattle.yspec.specs.document.Reading.{Refusal, json_of, visits, first_refusal, document_of}
 use Rattle.yspec.specs.document.Writing.{written_text}
@@ -35,7 +35,7 @@ of_base name base = own_type name (plain base)
 
 -- a leafref that requires an instance
 abbrev pub referring : Shape → ℕ → LeafType
-referring shape target = record { name = codes "leafref"; type = record { shape = shape; requires_instance = Some true }; target = Some target; targets = [] }
+referring shape target = record { name = codes "leafref"; type = record { shape = shape; requires_instance = Some true }; target = Some target; targets = []; form = by_type }
 
 abbrev pub any_amount : Amount
 any_amount = record { min_elements = 0; max_elements = None }

@@ -120,5 +120,5 @@ pub fn kept_statements()
         ∷ codes "module h { contact; }" ∷ [])
         ≡ (0, (codes "module", (codes "a", 0))) ∷ (1, (codes "prefix", (codes "c", 0)))
         ∷ (2, (codes "description", (codes "d", 0))) ∷ (3, (codes "leaf", (codes "g", 0)))
-        ∷ (4, (codes "module", (codes "h", 1))) ∷ (5, (codes "contact", ([], 1))) ∷ [] }
+        ∷ (4, (codes "module", (codes "h", 1))) ∷ (5, (codes "contact", (codes "contact", 1))) ∷ [] }
 {}

@@ -1,9 +1,9 @@
 -- What a schema asks of configuration alone has what the whole schema has.
 use Rattle.std.proofs.Common.{◌≡◌, ℕ, ◌≤◌, Bool, true, false, cond, Option, Some, None, refl, sym, ap, ap₂, ◌∙◌, subst}
-use Rattle.std.specs.Prelude.{◌==◌, option_map}
+use Rattle.std.specs.Prelude.{◌==◌, option_map, ◌||◌}
 use Rattle.yspec.specs.Forest.{Forest, end, node, join, size, levels, relabelled, find_label, first_of}
 use Rattle.yspec.specs.text.Text.{Text}
-use Rattle.yspec.specs.schema.Schema.{Schema, SchemaNode, Kind, container, leaf, leaf_list, list, choice, case, is_data, has_value, node_at, data_row, written_name}
+use Rattle.yspec.specs.schema.Schema.{Schema, SchemaNode, Kind, container, leaf, leaf_list, list, choice, case, is_data, has_value, node_at, data_row, written_name, form_in, is_anything, has_anything}
 use Rattle.yspec.specs.schema.Configuration.{unasked, asked_node, configuration_schema}
 use Rattle.yspec.specs.document.Fitting.{LeafsAreBare}
 use Rattle.yspec.specs.document.Writing.{IsNew, RowDiffers, AllDiffer, NamesDiffer, NodesAreNamed}
@@ -34,6 +34,17 @@ pub value_kept : (n : SchemaNode) → has_value (asked_node n).kind ≡ has_valu
 value_kept n = kept_by has_value by n
   where
     by : (k : Kind) → has_value (unasked k) ≡ has_value k
+    by (container presence) = refl
+    by (leaf type absence) = refl
+    by (leaf_list type defaults amount) = refl
+    by (list tuples amount) = refl
+    by (choice default_case is_mandatory) = refl
+    by case = refl
+
+pub form_kept : (n : SchemaNode) → form_in (asked_node n).kind ≡ form_in n.kind
+form_kept n = kept_by form_in by n
+  where
+    by : (k : Kind) → form_in (unasked k) ≡ form_in k
     by (container presence) = refl
     by (leaf type absence) = refl
     by (leaf_list type defaults amount) = refl
@@ -119,3 +130,8 @@ size_kept most s few = subst (λ k. k ≤ most) (sym (relabelled-size asked_node
 
 pub levels_kept : (most : ℕ) (s : Schema) → levels s.nodes ≤ most → levels (configuration_schema s).nodes ≤ most
 levels_kept most s few = subst (λ k. k ≤ most) (sym (relabelled-levels asked_node s.nodes)) few
+
+pub anything_kept : (f : Forest SchemaNode) → has_anything (asked_row f) ≡ has_anything f
+anything_kept end = refl
+anything_kept (node n below after) =
+    ap₂ ◌||◌ (ap is_anything (form_kept n)) (ap₂ ◌||◌ (anything_kept below) (anything_kept after))

@@ -6,9 +6,9 @@ use mathlib.Core.HLevel.{⊥_prop, ×₃_prop}
 use Rattle.std.specs.Coded.{Coded-set, coded_ℕ, coded_bool, ×_prop, Π_prop, →_prop, Unit-prop, le_prop}
 use Rattle.yspec.specs.Forest.{Forest, end, node, levels, size}
 use Rattle.yspec.specs.text.Text.{Text}
-use Rattle.yspec.specs.schema.Schema.{Schema, SchemaNode, Kind, augments_in, data_row, written_name}
+use Rattle.yspec.specs.schema.Schema.{Schema, SchemaNode, Kind, augments_in, data_row, written_name, has_anything}
 use Rattle.yspec.specs.schema.Configuration.{configuration_schema}
-use Rattle.yspec.specs.schema.Breaks.{level_limit, node_limit}
+use Rattle.yspec.specs.schema.Breaks.{level_limit, low_level_limit, node_limit}
 use Rattle.yspec.specs.document.Fitting.{IsBare, LeafsAreBare}
 use Rattle.yspec.specs.document.Writing.{NodesAreNamed, ModulesDiffer, IsNew, RowDiffers, AllDiffer, NamesDiffer}
 use Rattle.yspec.specs.linking.Compiling.{IsCompiled}
@@ -17,7 +17,8 @@ use Rattle.yspec.proofs.LinkingProofs.LinkedNameLemmas.{linked_names, linked_mod
 use Rattle.yspec_fit.specs.Fit.{CasesInChoices, ChoicesHoldCases, Each, PathsWithin, all_ascend, IsFit}
 use Rattle.yspec_fit.proofs.AscendingLemmas.{compiled_ascend}
 use Rattle.yspec_fit.proofs.ChoiceLemmas.{linked_choices, hold-prop, hold_kept}
-use Rattle.yspec_fit.proofs.ConfigurationLemmas.{bare_kept, names_kept, named_kept, size_kept, levels_kept}
+use Rattle.yspec_fit.proofs.ConfigurationLemmas.{bare_kept, names_kept, named_kept, size_kept, levels_kept, anything_kept}
+use Rattle.yspec_fit.proofs.AnythingLemmas.{linked_anything}
 use Rattle.yspec_fit.proofs.PathLemmas.{linked_paths, each_within-prop, paths_kept}
 use Rattle.yspec_fit.proofs.PlacedLemmas.{linked_cases, cases-prop, cases_kept}
 
@@ -31,6 +32,7 @@ compiled_is_fit s c = record {
   named = linked_nodes c.0 s c.1;
   few = linked_few c.0 s c.1;
   within = linked_within c.0 s c.1;
+  low = λ some. let none = linked_anything c.0 s c.1 in absurd cc;
   cases_in_choices = linked_cases c.0 s c.1;
   choices_hold_cases = linked_choices c.0 s c.1;
   paths_within = linked_paths c.0 s c.1;
@@ -45,6 +47,7 @@ configuration_is_fit s fit = record {
   named = named_kept s fit.named;
   few = size_kept node_limit s fit.few;
   within = levels_kept level_limit s fit.within;
+  low = λ some. levels_kept low_level_limit s (fit.low (sym (anything_kept s.nodes) ∙ some));
   cases_in_choices = cases_kept false s.nodes fit.cases_in_choices;
   choices_hold_cases = hold_kept s.nodes fit.choices_hold_cases;
   paths_within = paths_kept s fit.paths_within;
@@ -118,6 +121,9 @@ size_of s fit = ∥∥₁_elim fit le_prop (λ f. f.few)
 
 pub levels_of : (s : Schema) → ∥ IsFit s ∥₁ → levels s.nodes ≤ level_limit
 levels_of s fit = ∥∥₁_elim fit le_prop (λ f. f.within)
+
+pub low_of : (s : Schema) → ∥ IsFit s ∥₁ → has_anything s.nodes ≡ true → levels s.nodes ≤ low_level_limit
+low_of s fit = ∥∥₁_elim fit (→_prop le_prop) (λ f. f.low)
 
 pub cases_of : (s : Schema) → ∥ IsFit s ∥₁ → CasesInChoices false s.nodes
 cases_of s fit = ∥∥₁_elim fit (cases-prop false s.nodes) (λ f. f.cases_in_choices)

@@ -2,8 +2,8 @@
 use Rattle.std.specs.Prelude.{◌≡◌, ◌≤◌, ℕ, suc, ◌&&◌, Bool, true, false, List, [], ◌∷◌, length, nat_le}
 use Rattle.std.specs.List.{AllByRecursion}
 use Rattle.yspec.specs.Forest.{Forest, end, node, levels, size}
-use Rattle.yspec.specs.schema.Breaks.{level_limit, node_limit}
-use Rattle.yspec.specs.schema.Schema.{Schema, SchemaNode, Kind, list, choice, case, LeafPath, Augment, augments_in}
+use Rattle.yspec.specs.schema.Breaks.{level_limit, low_level_limit, node_limit}
+use Rattle.yspec.specs.schema.Schema.{Schema, SchemaNode, Kind, has_anything, list, choice, case, LeafPath, Augment, augments_in}
 use Rattle.yspec.specs.document.Fitting.{LeafsAreBare}
 use Rattle.yspec.specs.document.Writing.{ModulesDiffer, NamesDiffer, NodesAreNamed}
 
@@ -72,6 +72,8 @@ pub record IsFit (schema : Schema) : Type 0 where
   pub named : NodesAreNamed schema schema.nodes
   pub few : size schema.nodes ≤ node_limit
   pub within : levels schema.nodes ≤ level_limit
+  -- values nest below those that are low enough
+  pub low : has_anything schema.nodes ≡ true → levels schema.nodes ≤ low_level_limit
   pub cases_in_choices : CasesInChoices false schema.nodes
   pub choices_hold_cases : ChoicesHoldCases schema.nodes
   -- a path has no more steps than the schema has levels

@@ -10,7 +10,7 @@ use Rattle.yspec.specs.linking.Prefixes.{NodeName, node_name}
 use Rattle.yspec.specs.linking.Source.{Source}
 use Rattle.yspec.specs.linking.TypeStatements.{Member, own_member, leafref_member, Meant, own, of_target, of_union}
 use Rattle.yspec.specs.linking.Identities.{module_name}
-use Rattle.yspec.specs.linking.Planned.{Planned, Plan, nodes_of, data_nodes, data_child_called, data_node_at, is_data, is_leaf_or_leaf_list, leaf_found, meant_in, path_target, referring, member_type, member_types, union_within, type_by, type_within, type_of, same_number, is_called}
+use Rattle.yspec.specs.linking.Planned.{Planned, Plan, nodes_of, data_nodes, data_child_called, data_node_at, is_data, is_typed, leaf_found, meant_in, path_target, referring, member_type, member_types, union_within, type_by, type_within, type_of, same_number, is_called}
 use Rattle.yspec.specs.linking.Compiling.{plan_of}
 use Rattle.yspec.proofs.ForestLemmas.{length-preorder}
 use Rattle.ybase_graph.proofs.AmongLemmas.{Among, among_contained, found_among, passing_among}
@@ -47,7 +47,7 @@ module _ (plan : Plan) where
 
   leaf_inside : (found : Option Planned) (t : Planned) → leaf_found found ≡ Some t → found ≡ Some t
   leaf_inside None t e = absurd cc
-  leaf_inside (Some p) t e = by (is_leaf_or_leaf_list p) e
+  leaf_inside (Some p) t e = by (is_typed p) e
     where
       by : (b : Bool) → cond b (Some p) None ≡ Some t → Some p ≡ Some t
       by true e = e

@@ -3,10 +3,6 @@ use Rattle.std.specs.Prelude.{ℕ, ◌==◌, ◌&&◌, Bool, not, [], codes, if�
 use Rattle.std.specs.List.{starts_with}
 use Rattle.yspec.specs.text.Text.{Text}
 
--- how many edits can be taken back
-abbrev pub most_remembered : ℕ
-most_remembered = 1000
-
 -- why no more requests are answered
 pub data Close : Type 0 where
   -- there are no more, or one asks for the end

@@ -12,6 +12,10 @@ pub record Opening : Type 0 where
   pub language : Language
   -- a document with a member that comes twice is refused
   pub is_strict : Bool
+  -- so many edits can be taken back
+  pub remembers : ℕ
+  -- of each change it is told which faults come and go
+  pub tells_changes : Bool
   pub document : Text
   pub modules : List Text
 

@@ -116,10 +116,10 @@ module _ (language : Language) (document script : Text) (names : List Text) (ans
       let numbered = facts.numbered in
       let differ = facts.differ in
       let lines = lines_of run.files.lines in
-      let whole = lines_keep (IsDocument s) false s (λ t e so. edit_whole s t e numbered differ so) lines run.tree (read_whole s run.files.bytes run.tree numbered differ run.found) in
+      let whole = lines_keep (IsDocument s) false s (λ t e so. edit_whole s t e numbered differ facts.bare so) lines run.tree (read_whole s run.files.bytes run.tree numbered differ facts.bare run.found) in
       let holds = lines_keep (FitsBy HoldsText s.nodes 0) false s (λ t e so. edit_holds s t e numbered so) lines run.tree (read_holds s run.files.bytes run.tree numbered run.found) in
-      let within = lines_keep (λ t. size t ≤ document_limit) false s (λ t e so. edit_within s t e so) lines run.tree (read_within s run.files.bytes run.tree differ run.found) in
-      ended_read s t numbered differ facts.bare facts.within facts.texts whole holds within
+      let within = lines_keep (λ t. size t ≤ document_limit) false s (λ t e so. edit_within s t e so) lines run.tree (read_within s run.files.bytes run.tree differ facts.bare run.found) in
+      ended_read s t numbered differ facts.bare facts.within facts.low facts.texts whole holds within
 
   pub dump_validated : (name : Text) → let shown = outcome (edit language plainly document script names) answers in
       let bytes = (printed false (outcome (edit language as_dump document script names) answers)).output in

@@ -8,8 +8,8 @@ use Rattle.std.specs.Option.{option_map_or}
 use Rattle.yspec.specs.Forest.{Forest, end, node, size, levels, relabelled}
 use Rattle.yspec.specs.text.Text.{Text, continues_identifier, begins_identifier, is_identifier}
 use Rattle.yspec.specs.text.Statement.{Statement}
-use Rattle.yspec.specs.schema.Breaks.{level_limit}
-use Rattle.yspec.specs.schema.Schema.{Schema}
+use Rattle.yspec.specs.schema.Breaks.{level_limit, low_level_limit}
+use Rattle.yspec.specs.schema.Schema.{Schema, has_anything}
 use Rattle.yspec.specs.document.Fitting.{IsNumbered, LeafsAreBare}
 use Rattle.yspec.specs.document.Writing.{NamesDiffer}
 use Rattle.yspec.specs.linking.Source.{Source, argument_in}
@@ -33,6 +33,7 @@ pub record IsReadable (schema : Schema) : Type 0 where
   pub differ : NamesDiffer schema
   pub bare : LeafsAreBare schema.nodes
   pub within : levels schema.nodes ≤ level_limit
+  pub low : has_anything schema.nodes ≡ true → levels schema.nodes ≤ low_level_limit
   pub texts : NamesAreTexts schema
 
 -- ---- identifiers are UTF-8
@@ -104,5 +105,6 @@ readable_in language modules schema e =
       differ = fit.names_differ;
       bare = fit.bare;
       within = fit.within;
+      low = fit.low;
       texts = subst NamesAreTexts i.is (names_texts language modules i.none);
     }

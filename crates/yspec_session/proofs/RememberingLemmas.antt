@@ -1,24 +1,18 @@
 -- What becomes of a session that is kept by the edits since a document.
-use Rattle.std.proofs.Common.{◌≡◌, ◌&&◌, append_assoc, append-nil, subst, ℕ, zero, suc, ◌+◌, ◌-◌, ◌++◌, Bool, true, false, List, [], ◌∷◌, length, Option, Some, None, Ok, map, refl, sym, ap, ap₂, ◌∙◌, ◌≤◌, ◌<◌, arith}
+use Rattle.std.proofs.Common.{◌≡◌, ◌≢◌, ◌&&◌, append_assoc, append-nil, subst, ℕ, zero, suc, ◌+◌, ◌-◌, ◌++◌, Bool, true, false, List, [], ◌∷◌, length, Option, Some, None, Ok, refl, sym, ap, ap₂, ◌∙◌, ◌≤◌, ◌<◌, arith}
 use Rattle.std.specs.Prelude.{if◌then◌else◌, take, drop, nat_lt, nat_le, option_map, is_some, unwrap_or}
 use Rattle.std.specs.List.{flat_map}
 use Rattle.std.proofs.lemmas.Bool.{ltb-true, ltb-false, leb-true}
-use Rattle.std.proofs.lemmas.List.{take-append-le, take-append-drop, length-append, length-take-le}
+use Rattle.std.proofs.lemmas.List.{take-append-le, take-append-drop, drop-append-le, length-append, length-take-le}
 use Rattle.yspec.specs.schema.Schema.{Schema}
 use Rattle.yspec.specs.document.Document.{Tree}
 use Rattle.yspec.specs.edit.EditText.{Edit}
 use Rattle.yspec.specs.edit.Editing.{applied, tree_or, after}
 use Rattle.yspec_session.specs.Carrying.{Turn}
-use Rattle.yspec_session.specs.Session.{Earlier, Begun, Session, with_turns, without_turns, with_remembered, undone, begun_with, committed, fallen}
-use Rattle.yspec_session.specs.Remembering.{Since, Kept, kept_from, behind_groups, befores, one_more, with_group, begun_here, joined, back_to, began_behind, stands_behind, less_groups, counted_from, settled_by, settled, way_from, way_to, Later, until, marked, Leads, trees_of, ground, ground_at, groups_since, kept_since, Remembers}
+use Rattle.yspec_session.specs.Session.{Earlier, Begun, Session, turns_of, turns_to, with_turns, without_turns, with_remembered, undone, begun_with, committed, fallen}
+use Rattle.yspec_session.specs.Remembering.{Since, Kept, kept_from, behind_groups, turns_back, befores, one_more, with_group, begun_here, joined, back_to, began_behind, stands_behind, less_groups, counted_from, settled_by, settled, way_from, way_to, Later, until, marked, Leads, turns_in, begun_at, turns_behind, groups_since, kept_since, Remembers}
 
 -- ---- lists
-
-map_take : {A B : Type 0} (f : A → B) (n : ℕ) (xs : List A) → map f (take n xs) ≡ take n (map f xs)
-map_take f zero [] = refl
-map_take f zero (x ∷ xs) = refl
-map_take f (suc n) [] = refl
-map_take f (suc n) (x ∷ xs) = ap (λ ys. f x ∷ ys) (map_take f n xs)
 
 none_taken : {A : Type 0} (xs : List A) → take 0 xs ≡ []
 none_taken [] = refl
@@ -27,6 +21,10 @@ none_taken (x ∷ xs) = refl
 all_taken : {A : Type 0} (xs : List A) → take (length xs) xs ≡ xs
 all_taken [] = refl
 all_taken (x ∷ xs) = ap (λ ys. x ∷ ys) (all_taken xs)
+
+none_left : {A : Type 0} (xs : List A) → drop (length xs) xs ≡ []
+none_left [] = refl
+none_left (x ∷ xs) = none_left xs
 
 fewer_taken : {A : Type 0} (l k : ℕ) (xs : List A) → l ≤ k → take l (take k xs) ≡ take l xs
 fewer_taken zero k xs le = none_taken (take k xs) ∙ sym (none_taken xs)
@@ -78,10 +76,38 @@ as_one : (schema : Schema) (tree : Tree) (gs : List (List Edit)) → after schem
 as_one schema tree [] = refl
 as_one schema tree (g ∷ gs) = after_both schema tree g (flat_map (λ g. g) gs) ∙ as_one schema (after schema tree g) gs
 
+-- what comes back before a group at a document
+abbrev comes : Schema → List Edit → Tree → Earlier
+comes schema g tree = record { tree = tree; turns = turns_back schema tree g }
+
 before_last : (schema : Schema) (tree : Tree) (gs : List (List Edit)) (g : List Edit)
-    → befores schema tree (gs ++ g ∷ []) ≡ behind_groups schema tree gs ∷ befores schema tree gs
+    → befores schema tree (gs ++ g ∷ []) ≡ comes schema g (behind_groups schema tree gs) ∷ befores schema tree gs
 before_last schema tree [] g = refl
-before_last schema tree (h ∷ gs) g = ap (λ ts. ts ++ tree ∷ []) (before_last schema (after schema tree h) gs g)
+before_last schema tree (h ∷ gs) g = ap (λ ts. ts ++ comes schema h tree ∷ []) (before_last schema (after schema tree h) gs g)
+
+-- the turns of edits as one
+pub turns_both : (schema : Schema) (tree : Tree) (xs ys : List Edit)
+    → turns_back schema tree (xs ++ ys) ≡ turns_back schema (after schema tree xs) ys ++ turns_back schema tree xs
+turns_both schema tree [] ys = sym (append-nil (turns_back schema tree ys))
+turns_both schema tree (x ∷ xs) ys = let next = tree_or (applied schema tree x) tree in
+    ap (λ ts. ts ++ (turns_of schema tree x).back) (turns_both schema next xs ys)
+    ∙ append_assoc (turns_back schema (after schema next xs) ys) (turns_back schema next xs) (turns_of schema tree x).back
+
+all_turns : List Earlier → List Turn
+all_turns es = flat_map (λ turns. turns) (turns_in es)
+
+last_turns : (es : List Earlier) (e : Earlier) → all_turns (es ++ e ∷ []) ≡ all_turns es ++ e.turns
+unfolding all_turns
+last_turns [] e = append-nil e.turns
+last_turns (x ∷ es) e = ap (λ ts. x.turns ++ ts) (last_turns es e) ∙ sym (append_assoc x.turns (all_turns es) e.turns)
+
+turns_as_one : (schema : Schema) (tree : Tree) (gs : List (List Edit))
+    → turns_back schema tree (flat_map (λ g. g) gs) ≡ flat_map (λ turns. turns) (turns_in (befores schema tree gs))
+unfolding all_turns
+turns_as_one schema tree [] = refl
+turns_as_one schema tree (g ∷ gs) = turns_both schema tree g (flat_map (λ g. g) gs)
+    ∙ (ap (λ ts. ts ++ turns_back schema tree g) (turns_as_one schema (after schema tree g) gs)
+    ∙ sym (last_turns (befores schema (after schema tree g) gs) (comes schema g tree)))
 
 -- the last groups as one leave the same document
 joined_same : (schema : Schema) (tree : Tree) (n : ℕ) (gs : List (List Edit))
@@ -90,20 +116,34 @@ joined_same schema tree n gs = behind_both schema tree (take n gs) (flat_map (λ
     ∙ (as_one schema (behind_groups schema tree (take n gs)) (drop n gs)
     ∙ (sym (behind_both schema tree (take n gs) (drop n gs)) ∙ ap (behind_groups schema tree) (take-append-drop n gs)))
 
--- where edits together began nothing changes behind it
-ground_more : (schema : Schema) (base : Tree) (gs more : List (List Edit)) (o : Option Since) → groups_since o ≤ length gs
-    → option_map (ground_at schema base (gs ++ more)) o ≡ option_map (ground_at schema base gs) o
-ground_more schema base gs more None le = refl
-ground_more schema base gs more (Some b) le =
-    ap (λ (xs : List (List Edit)). Some (behind_groups schema base xs, take b.kept (befores schema base xs))) (take-append-le b.groups gs more le)
+-- where edits together began there are the turns of one more group behind it
+begun_more : (schema : Schema) (base : Tree) (gs : List (List Edit)) (g : List Edit) (o : Option Since) → groups_since o ≤ length gs
+    → option_map (begun_at schema base (gs ++ g ∷ [])) o
+    ≡ option_map (with_turns (turns_back schema (behind_groups schema base gs) g)) (option_map (begun_at schema base gs) o)
+begun_more schema base gs g None le = refl
+begun_more schema base gs g (Some b) le =
+    ap₂ (λ (xs ys : List (List Edit)). Some (at xs ys)) (take-append-le b.groups gs (g ∷ []) le) (drop-append-le b.groups gs (g ∷ []) le)
+    ∙ ap (λ ts. Some (since ts)) (ap turns_in (before_last schema there (drop b.groups gs) g)
+    ∙ ap (λ t. turns_back schema t g ∷ turns_in (befores schema there (drop b.groups gs)))
+    (sym (behind_both schema base (take b.groups gs) (drop b.groups gs)) ∙ ap (behind_groups schema base) (take-append-drop b.groups gs)))
+  where
+    there : Tree
+    there = behind_groups schema base (take b.groups gs)
 
-with_ground : (turns : List Turn) (o : Option Begun) → option_map ground (option_map (with_turns turns) o) ≡ option_map ground o
-with_ground turns None = refl
-with_ground turns (Some b) = refl
+    -- with the first groups and those behind
+    at : List (List Edit) → List (List Edit) → Begun
+    at xs ys = record {
+      tree = behind_groups schema base xs;
+      remembered = take b.kept (befores schema base xs);
+      turns = turns_in (befores schema (behind_groups schema base xs) ys);
+    }
 
-without_ground : (o : Option Begun) → option_map ground (option_map without_turns o) ≡ option_map ground o
-without_ground None = refl
-without_ground (Some b) = refl
+    since : List (List Turn) → Begun
+    since ts = record { tree = there; remembered = take b.kept (befores schema base (take b.groups gs)); turns = ts }
+
+one_fewer : (turns : List Turn) (o : Option Begun) → option_map without_turns (option_map (with_turns turns) o) ≡ o
+one_fewer turns None = refl
+one_fewer turns (Some b) = refl
 
 -- ---- the later document
 
@@ -137,15 +177,15 @@ leads_first schema base gs n o within leads = subst (λ hs. Leads schema base hs
 pub starts : (schema : Schema) (tree : Tree) → Remembers schema (kept_from tree) (record { tree = tree; remembered = []; begun = None })
 starts schema tree = record { tree = refl; earlier = refl; begun = refl; room = omega (arith); inner = omega (arith); later = tt }
 
-pub changes : (schema : Schema) (limit : ℕ) (k : Kept) (s : Session) (e : Edit) (later : Tree) (turns : List Turn) → Remembers schema k s
-    → applied schema s.tree e ≡ Ok later → Remembers schema (with_group limit (e ∷ []) k) (with_remembered limit turns later s)
-changes schema limit k s e later turns r is = record {
+pub changes : (schema : Schema) (limit : ℕ) (k : Kept) (s : Session) (e : Edit) (later : Tree) → Remembers schema k s
+    → applied schema s.tree e ≡ Ok later → Remembers schema (with_group limit (e ∷ []) k) (with_remembered limit (turns_of schema s.tree e).back later s)
+changes schema limit k s e later r is = record {
   tree = sym (behind_both schema k.base k.groups ((e ∷ []) ∷ []) ∙ ap (λ answer. tree_or answer here) (ap (λ t. applied schema t e) (sym r.tree) ∙ is));
-  earlier = map_take (λ (x : Earlier). x.tree) limit (record { tree = s.tree; turns = turns } ∷ s.remembered)
-      ∙ (ap₂ (λ (t : Tree) (ts : List Tree). take limit (t ∷ ts)) r.tree r.earlier
-      ∙ (one_in_front limit k.kept here (befores schema k.base k.groups)
-      ∙ ap (take (one_more limit k.kept)) (sym (before_last schema k.base k.groups (e ∷ [])))));
-  begun = with_ground turns s.begun ∙ (r.begun ∙ sym (ground_more schema k.base k.groups ((e ∷ []) ∷ []) k.begun (omega (arith, r.room))));
+  earlier = ap₂ (λ (t : Tree) (es : List Earlier). take limit (comes schema (e ∷ []) t ∷ es)) r.tree r.earlier
+      ∙ (one_in_front limit k.kept (comes schema (e ∷ []) here) (befores schema k.base k.groups)
+      ∙ ap (take (one_more limit k.kept)) (sym (before_last schema k.base k.groups (e ∷ []))));
+  begun = ap₂ (λ (t : Tree) (o : Option Begun). option_map (with_turns (turns_back schema t (e ∷ []))) o) r.tree r.begun
+      ∙ sym (begun_more schema k.base k.groups (e ∷ []) k.begun (omega (arith, r.room)));
   room = omega (arith, r.room, one_more_le limit k.kept, length-append k.groups ((e ∷ []) ∷ []));
   inner = r.inner;
   later = leads_more schema k.base k.groups ((e ∷ []) ∷ []) k.later r.later;
@@ -155,68 +195,126 @@ changes schema limit k s e later turns r is = record {
     here = behind_groups schema k.base k.groups
 
 pub nothing_left : (schema : Schema) (k : Kept) (s : Session) → Remembers schema k s → k.kept ≡ 0 → s.remembered ≡ []
-nothing_left schema k s r none = by s.remembered (r.earlier ∙ (ap (λ n. take n (befores schema k.base k.groups)) none ∙ none_taken (befores schema k.base k.groups)))
-  where
-    by : (es : List Earlier) → trees_of es ≡ [] → es ≡ []
-    by [] e = refl
-    by (x ∷ es) e = absurd cc
+nothing_left schema k s r none = r.earlier ∙ (ap (λ n. take n (befores schema k.base k.groups)) none ∙ none_taken (befores schema k.base k.groups))
 
 -- what is taken back: the last document that is remembered, and the session behind it
-pub record TakenBack (schema : Schema) (k : Kept) (gs : List (List Edit)) (s : Session) : Type 0 where
+pub record TakenBack (schema : Schema) (k : Kept) (gs : List (List Edit)) (g : List Edit) (s : Session) : Type 0 where
   pub earlier : Earlier
   pub others : List Earlier
   pub remembered : s.remembered ≡ earlier ∷ others
   pub tree : earlier.tree ≡ behind_groups schema k.base gs
+  pub turns : earlier.turns ≡ turns_back schema (behind_groups schema k.base gs) g
   pub held : Remembers schema (record k { groups = gs; kept = k.kept - 1; later = until (length gs) k.later }) (undone schema s (earlier ∷ others)).1
 
 pub takes_back : (schema : Schema) (k : Kept) (gs : List (List Edit)) (g : List Edit) (s : Session) → Remembers schema k s
-    → k.groups ≡ gs ++ g ∷ [] → (n : ℕ) → k.kept ≡ suc n → TakenBack schema k gs s
-takes_back schema k gs g s r is n more = by s.remembered refl
-    (r.earlier ∙ (ap₂ (λ (m : ℕ) (hs : List (List Edit)). take m (befores schema k.base hs)) more is ∙ ap (take (suc n)) (before_last schema k.base gs g)))
+    → k.groups ≡ gs ++ g ∷ [] → (n : ℕ) → k.kept ≡ suc n → TakenBack schema k gs g s
+takes_back schema k gs g s r is n more = record {
+  earlier = comes schema g here;
+  others = others;
+  remembered = remembered;
+  tree = refl;
+  turns = refl;
+  held = record {
+    tree = refl;
+    earlier = ap (λ m. take m (befores schema k.base gs)) (omega (arith, more));
+    begun = begun;
+    room = omega (arith, r.room, ap length is, length-append gs (g ∷ []), more);
+    inner = r.inner;
+    later = leads;
+  };
+}
   where
     here : Tree
     here = behind_groups schema k.base gs
 
-    first : Tree → List Tree → Tree
-    first t [] = t
-    first t (u ∷ us) = u
+    others : List Earlier
+    others = take n (befores schema k.base gs)
 
-    rest : List Tree → List Tree
-    rest [] = []
-    rest (u ∷ us) = us
+    remembered : s.remembered ≡ comes schema g here ∷ others
+    remembered = r.earlier
+        ∙ (ap₂ (λ (m : ℕ) (hs : List (List Edit)). take m (befores schema k.base hs)) more is ∙ ap (take (suc n)) (before_last schema k.base gs g))
 
     within : groups_since k.begun ≤ length gs
     within = omega (arith, r.room, ap length is, length-append gs (g ∷ []), more)
 
-    begun : option_map ground (option_map without_turns s.begun) ≡ option_map (ground_at schema k.base gs) k.begun
-    begun = without_ground s.begun ∙ (r.begun ∙ (ap (λ (hs : List (List Edit)). option_map (ground_at schema k.base hs) k.begun) is
-        ∙ ground_more schema k.base gs (g ∷ []) k.begun within))
+    begun : option_map without_turns s.begun ≡ option_map (begun_at schema k.base gs) k.begun
+    begun = ap (option_map without_turns)
+        (r.begun ∙ (ap (λ (hs : List (List Edit)). option_map (begun_at schema k.base hs) k.begun) is ∙ begun_more schema k.base gs g k.begun within))
+        ∙ one_fewer (turns_back schema here g) (option_map (begun_at schema k.base gs) k.begun)
 
     leads : Leads schema k.base gs (until (length gs) k.later)
     leads = subst (λ hs. Leads schema k.base hs (until (length gs) k.later)) (take-append-le (length gs) gs (g ∷ []) (omega arith) ∙ all_taken gs)
         (leads_first schema k.base (gs ++ g ∷ []) (length gs) k.later (omega (arith, length-append gs (g ∷ [])))
         (subst (λ hs. Leads schema k.base hs k.later) is r.later))
 
-    by : (es : List Earlier) → s.remembered ≡ es → trees_of es ≡ take (suc n) (here ∷ befores schema k.base gs) → TakenBack schema k gs s
-    by [] e trees = absurd cc
-    by (x ∷ es) e trees = record {
-      earlier = x;
-      others = es;
-      remembered = e;
-      tree = ap (first here) trees;
-      held = record {
-        tree = ap (first here) trees;
-        earlier = ap rest trees ∙ ap (λ m. take m (befores schema k.base gs)) (omega (arith, more));
-        begun = begun;
-        room = omega (arith, r.room, ap length is, length-append gs (g ∷ []), more);
-        inner = r.inner;
-        later = leads;
-      };
-    }
+-- ---- the last of the groups
+
+-- a list with a last item
+pub record Ends {A : Type 0} (xs : List A) : Type 0 where
+  pub last : A
+  pub is : xs ≡ take (length xs - 1) xs ++ last ∷ []
+
+ends : {A : Type 0} (x : A) (xs : List A) → Ends (x ∷ xs)
+ends x [] = record { last = x; is = refl }
+ends x (y ∷ xs) = let e = ends y xs in
+    let more : length (x ∷ y ∷ xs) - 1 ≡ suc (length (y ∷ xs) - 1) = omega (arith) in
+    record { last = e.last; is = ap (λ ys. x ∷ ys) e.is ∙ ap (λ n. take n (x ∷ y ∷ xs) ++ e.last ∷ []) (sym more) }
+
+pub has_last : {A : Type 0} (xs : List A) → 0 < length xs → Ends xs
+has_last [] lt = absurd (omega (arith, lt))
+has_last (x ∷ xs) lt = ends x xs
+
+last_dropped : {A : Type 0} (xs : List A) (x : A) → drop (length xs) (xs ++ x ∷ []) ≡ x ∷ []
+last_dropped [] x = refl
+last_dropped (y ∷ xs) x = last_dropped xs x
+
+-- how many there are to take back, where that isn't none
+pub some_kept : (n : ℕ) → n ≢ 0 → (m : ℕ) × (n ≡ suc m)
+some_kept zero some = absurd (some refl)
+some_kept (suc n) some = (n, refl)
+
+pub one_group_behind : (schema : Schema) (k : Kept) (g : List Edit) → k.groups ≡ take (length k.groups - 1) k.groups ++ g ∷ [] → 0 < length k.groups
+    → turns_back schema (behind_groups schema k.base (take (length k.groups - 1) k.groups)) g ≡ turns_behind schema (length k.groups - 1) k
+one_group_behind schema k g is some = ap (turns_back schema (behind_groups schema k.base front))
+    (sym (ap (flat_map (λ g. g)) dropped ∙ append-nil g))
+  where
+    front : List (List Edit)
+    front = take (length k.groups - 1) k.groups
+
+    dropped : drop (length k.groups - 1) k.groups ≡ g ∷ []
+    dropped = ap (drop (length k.groups - 1)) is
+        ∙ (ap (λ n. drop n (front ++ g ∷ [])) (sym (length-take-le (length k.groups - 1) k.groups (omega (arith)))) ∙ last_dropped front g)
+
+pub comes_back : (schema : Schema) (k : Kept) (s : Session) (e : Earlier) (others : List Earlier) → Remembers schema k s → s.remembered ≡ e ∷ others
+    → e.turns ≡ turns_behind schema (length k.groups - 1) k
+comes_back schema k s e others r is =
+    ap (λ (es : List Earlier). (first es).turns) (sym is ∙ back.remembered) ∙ (back.turns ∙ one_group_behind schema k end.last end.is some)
+  where
+    first : List Earlier → Earlier
+    first [] = e
+    first (x ∷ es) = x
+
+    none : k.kept ≡ 0 → ⊥
+    none gone = nothing (sym is ∙ nothing_left schema k s r gone)
+      where
+        nothing : e ∷ others ≡ [] → ⊥
+        nothing eq = absurd cc
+
+    more : (m : ℕ) × (k.kept ≡ suc m)
+    more = some_kept k.kept none
+
+    some : 0 < length k.groups
+    some = omega (arith, r.room, more.1)
+
+    end : Ends k.groups
+    end = has_last k.groups some
+
+    back : TakenBack schema k (take (length k.groups - 1) k.groups) end.last s
+    back = takes_back schema k (take (length k.groups - 1) k.groups) end.last s r end.is more.0 more.1
 
 -- edits together have begun in both, or in neither
 pub begun_in_both : (schema : Schema) (k : Kept) (s : Session) → Remembers schema k s → is_some s.begun ≡ is_some k.begun
-begun_in_both schema k s r = sym (kept_some ground s.begun) ∙ (ap is_some r.begun ∙ kept_some (ground_at schema k.base k.groups) k.begun)
+begun_in_both schema k s r = ap is_some r.begun ∙ kept_some (begun_at schema k.base k.groups) k.begun
   where
     kept_some : {A B : Type 0} (f : A → B) (o : Option A) → is_some (option_map f o) ≡ is_some o
     kept_some f None = refl
@@ -226,18 +324,21 @@ pub begins : (schema : Schema) (k : Kept) (s : Session) → Remembers schema k s
 begins schema k s r none = record {
   tree = r.tree;
   earlier = sym (none_taken (befores schema k.base k.groups));
-  begun = ap₂ (λ (t : Tree) (ts : List Tree). Some (t, ts)) r.tree r.earlier
-      ∙ ap (λ (gs : List (List Edit)). Some (behind_groups schema k.base gs, take k.kept (befores schema k.base gs))) (sym (all_taken k.groups));
+  begun = ap₂ (λ (t : Tree) (es : List Earlier). Some (began t es [])) r.tree r.earlier
+      ∙ ap₂ (λ (gs hs : List (List Edit)). Some (began (behind_groups schema k.base gs) (take k.kept (befores schema k.base gs))
+      (turns_in (befores schema (behind_groups schema k.base gs) hs)))) (sym (all_taken k.groups)) (sym (none_left k.groups));
   room = omega (arith);
   inner = omega (arith, r.room);
   later = r.later;
 }
+  where
+    began : Tree → List Earlier → List (List Turn) → Begun
+    began t es turns = record { tree = t; remembered = es; turns = turns }
 
--- the document and what could be taken back where edits together began
+-- what edits together began with, and their turns
 began_so : (schema : Schema) (k : Kept) (s : Session) (b : Begun) (since : Since) → Remembers schema k s → s.begun ≡ Some b → k.begun ≡ Some since
-    → ground b ≡ ground_at schema k.base k.groups since
-began_so schema k s b since r is there = ap (λ o. unwrap_or o (ground b))
-    (ap (option_map ground) (sym is) ∙ (r.begun ∙ ap (option_map (ground_at schema k.base k.groups)) there))
+    → b ≡ begun_at schema k.base k.groups since
+began_so schema k s b since r is there = ap (λ o. unwrap_or o b) (sym is ∙ (r.begun ∙ ap (option_map (begun_at schema k.base k.groups)) there))
 
 since_within : (o : Option Since) (since : Since) (count n : ℕ) → o ≡ Some since → groups_since o + n ≤ count → since.groups ≤ count
 since_within o since count n is le = omega (arith, le, ap groups_since is)
@@ -249,9 +350,10 @@ pub commits : (schema : Schema) (limit : ℕ) (k : Kept) (s : Session) (b : Begu
     → k.begun ≡ Some since → Remembers schema (joined limit since k) (committed limit s (Some b)).1
 commits schema limit k s b since r is there = record {
   tree = r.tree ∙ sym (joined_same schema k.base since.groups k.groups);
-  earlier = map_take (λ (x : Earlier). x.tree) limit (record { tree = b.tree; turns = flat_map (λ turns. turns) b.turns } ∷ b.remembered)
-      ∙ (ap (λ (p : Tree × List Tree). take limit (p.0 ∷ p.1)) (began_so schema k s b since r is there)
-      ∙ (one_in_front limit since.kept (behind_groups schema k.base front) (befores schema k.base front)
+  earlier = ap (λ (b : Begun). take limit (record { tree = b.tree; turns = turns_to b } ∷ b.remembered)) (began_so schema k s b since r is there)
+      ∙ (ap (λ turns. take limit (record { tree = there_tree; turns = turns } ∷ take since.kept (befores schema k.base front)))
+      (sym (turns_as_one schema there_tree (drop since.groups k.groups)))
+      ∙ (one_in_front limit since.kept (comes schema all there_tree) (befores schema k.base front)
       ∙ ap (take (one_more limit since.kept)) (sym (before_last schema k.base front all))));
   begun = refl;
   room = omega (
@@ -268,19 +370,28 @@ commits schema limit k s b since r is there = record {
     front : List (List Edit)
     front = take since.groups k.groups
 
+    there_tree : Tree
+    there_tree = behind_groups schema k.base front
+
     all : List Edit
     all = flat_map (λ g. g) (drop since.groups k.groups)
 
 -- the document where edits together began
 pub back_tree : (schema : Schema) (k : Kept) (s : Session) (b : Begun) (since : Since) → Remembers schema k s → s.begun ≡ Some b → k.begun ≡ Some since
     → b.tree ≡ behind_groups schema k.base (take since.groups k.groups)
-back_tree schema k s b since r is there = ap (λ (p : Tree × List Tree). p.0) (began_so schema k s b since r is there)
+back_tree schema k s b since r is there = ap (λ (b : Begun). b.tree) (began_so schema k s b since r is there)
+
+-- the turns that lead back there
+pub falls_back : (schema : Schema) (k : Kept) (s : Session) (b : Begun) (since : Since) → Remembers schema k s → s.begun ≡ Some b → k.begun ≡ Some since
+    → turns_to b ≡ turns_behind schema since.groups k
+falls_back schema k s b since r is there = ap turns_to (began_so schema k s b since r is there)
+    ∙ sym (turns_as_one schema (behind_groups schema k.base (take since.groups k.groups)) (drop since.groups k.groups))
 
 pub falls : (schema : Schema) (k : Kept) (s : Session) (b : Begun) (since : Since) → Remembers schema k s → s.begun ≡ Some b → k.begun ≡ Some since
     → Remembers schema (back_to since k) (fallen schema s (Some b)).1
 falls schema k s b since r is there = record {
   tree = back_tree schema k s b since r is there;
-  earlier = ap (λ (p : Tree × List Tree). p.1) (began_so schema k s b since r is there);
+  earlier = ap (λ (b : Begun). b.remembered) (began_so schema k s b since r is there);
   begun = refl;
   room = omega (
     arith,
@@ -299,16 +410,22 @@ taken_behind (x ∷ xs) ys zero le = absurd (omega (arith, le))
 taken_behind (x ∷ xs) ys (suc n) le = let same : n - length xs ≡ suc n - suc (length xs) = omega (arith) in
     ap (λ zs. x ∷ zs) (taken_behind xs ys n (omega (arith, le)) ∙ ap (λ m. xs ++ take m ys) same)
 
+dropped_behind : {A : Type 0} (xs ys : List A) (n : ℕ) → length xs ≤ n → drop n (xs ++ ys) ≡ drop (n - length xs) ys
+dropped_behind [] ys n le = let all : n ≡ n - 0 = omega (arith) in ap (λ m. drop m ys) all
+dropped_behind (x ∷ xs) ys zero le = absurd (omega (arith, le))
+dropped_behind (x ∷ xs) ys (suc n) le = let same : n - length xs ≡ suc n - suc (length xs) = omega (arith) in
+    dropped_behind xs ys n (omega (arith, le)) ∙ ap (λ m. drop m ys) same
+
 befores_both : (schema : Schema) (tree : Tree) (gs hs : List (List Edit))
     → befores schema tree (gs ++ hs) ≡ befores schema (behind_groups schema tree gs) hs ++ befores schema tree gs
 befores_both schema tree [] hs = sym (append-nil (befores schema tree hs))
-befores_both schema tree (g ∷ gs) hs = ap (λ ts. ts ++ tree ∷ []) (befores_both schema (after schema tree g) gs hs)
-    ∙ append_assoc (befores schema (behind_groups schema (after schema tree g) gs) hs) (befores schema (after schema tree g) gs) (tree ∷ [])
+befores_both schema tree (g ∷ gs) hs = ap (λ ts. ts ++ comes schema g tree ∷ []) (befores_both schema (after schema tree g) gs hs)
+    ∙ append_assoc (befores schema (behind_groups schema (after schema tree g) gs) hs) (befores schema (after schema tree g) gs) (comes schema g tree ∷ [])
 
 length_befores : (schema : Schema) (tree : Tree) (gs : List (List Edit)) → length (befores schema tree gs) ≡ length gs
 length_befores schema tree [] = refl
 length_befores schema tree (g ∷ gs) =
-    omega (arith, length-append (befores schema (after schema tree g) gs) (tree ∷ []), length_befores schema (after schema tree g) gs)
+    omega (arith, length-append (befores schema (after schema tree g) gs) (comes schema g tree ∷ []), length_befores schema (after schema tree g) gs)
 
 module _ (schema : Schema) (base : Tree) (front rest : List (List Edit)) where
   abbrev there : Tree
@@ -319,12 +436,13 @@ module _ (schema : Schema) (base : Tree) (front rest : List (List Edit)) where
   last_befores n gs le = ap (take n) (befores_both schema base front gs)
       ∙ take-append-le n (befores schema there gs) (befores schema base front) (omega (arith, le, length_befores schema there gs))
 
-  later_ground : (o : Option Since) → began_behind (length front) o ≡ true → groups_since o ≤ length (front ++ rest)
-      → option_map (ground_at schema base (front ++ rest)) o ≡ option_map (ground_at schema there rest) (option_map (less_groups (length front)) o)
-  later_ground None behind within = refl
-  later_ground (Some b) behind within =
+  later_begun : (o : Option Since) → began_behind (length front) o ≡ true → groups_since o ≤ length (front ++ rest)
+      → option_map (begun_at schema base (front ++ rest)) o ≡ option_map (begun_at schema there rest) (option_map (less_groups (length front)) o)
+  later_begun None behind within = refl
+  later_begun (Some b) behind within =
       let enough : length front + b.kept ≤ b.groups = leb-true (length front + b.kept) b.groups behind in
       let middle = take (b.groups - length front) rest in
+      let last = drop (b.groups - length front) rest in
       let long : b.kept ≤ length middle = omega (
         arith,
         enough,
@@ -332,8 +450,12 @@ module _ (schema : Schema) (base : Tree) (front rest : List (List Edit)) where
         length-append front rest,
         length-take-le (b.groups - length front) rest (omega (arith, enough, within, length-append front rest)),
       ) in
-      ap (λ gs. Some (behind_groups schema base gs, take b.kept (befores schema base gs))) (taken_behind front rest b.groups (omega (arith, enough)))
-      ∙ ap₂ (λ t ts. Some (t, ts)) (behind_both schema base front middle) (last_befores b.kept middle long)
+      ap₂ (λ (gs hs : List (List Edit)). Some (began (behind_groups schema base gs) (take b.kept (befores schema base gs)) hs))
+      (taken_behind front rest b.groups (omega (arith, enough))) (dropped_behind front rest b.groups (omega (arith, enough)))
+      ∙ ap₂ (λ t es. Some (began t es last)) (behind_both schema base front middle) (last_befores b.kept middle long)
+    where
+      began : Tree → List Earlier → List (List Edit) → Begun
+      began t es hs = record { tree = t; remembered = es; turns = turns_in (befores schema t hs) }
 
   later_within : (o : Option Since) (n : ℕ) → began_behind (length front) o ≡ true → groups_since o + n ≤ length (front ++ rest) → n ≤ length rest
       → groups_since (option_map (less_groups (length front)) o) + n ≤ length rest
@@ -351,7 +473,7 @@ module _ (schema : Schema) (base : Tree) (front rest : List (List Edit)) where
   later_held kept begun o s r enough behind = record {
     tree = r.tree ∙ behind_both schema base front rest;
     earlier = r.earlier ∙ last_befores kept rest fits;
-    begun = r.begun ∙ later_ground begun behind (omega (arith, r.room));
+    begun = r.begun ∙ later_begun begun behind (omega (arith, r.room));
     room = later_within begun kept behind r.room fits;
     inner = later_inner begun behind;
     later = tt;

@@ -34,20 +34,20 @@ as_many turns (f ∷ fs) later = by (fault_behind turns f) (as_many turns fs lat
     Even : ℕ → List Fault → Difference → Type 0
     Even count later d = count + length d.told ≡ length later + length d.gone
 
-    more : (g : Fault) → Even (length fs) later (difference turns fs later) → Even (length (f ∷ fs)) later (with_gone g (difference turns fs later))
-    more g even = omega (arith, even)
+    more : Even (length fs) later (difference turns fs later) → Even (length (f ∷ fs)) later (with_gone f (difference turns fs later))
+    more even = omega (arith, even)
 
     found : (g : Fault) (b : Bool) → list_any (same_fault g) later ≡ b → Even (length fs) later (difference turns fs later)
         → Even (length fs) (without_one g later) (difference turns fs (without_one g later))
-        → Even (length (f ∷ fs)) later (if b then difference turns fs (without_one g later) else with_gone g (difference turns fs later))
+        → Even (length (f ∷ fs)) later (if b then difference turns fs (without_one g later) else with_gone f (difference turns fs later))
     found g true e even less = omega (arith, one_less g later e, less)
-    found g false e even less = more g even
+    found g false e even less = more even
 
     by : (o : Option Fault) → Even (length fs) later (difference turns fs later)
         → ((g : Fault) → Even (length fs) (without_one g later) (difference turns fs (without_one g later)))
         → Even (length (f ∷ fs)) later (option_map_or (λ g. if list_any (same_fault g) later
-        then difference turns fs (without_one g later) else with_gone g (difference turns fs later)) o (with_gone f (difference turns fs later)))
-    by None even less = more f even
+        then difference turns fs (without_one g later) else with_gone f (difference turns fs later)) o (with_gone f (difference turns fs later)))
+    by None even less = more even
     by (Some g) even less = found g (list_any (same_fault g) later) refl even (less g)
 
 -- ---- the same list

@@ -86,9 +86,9 @@ pub record Difference : Type 0 where
 abbrev pub with_gone : Fault → Difference → Difference
 with_gone f d = record d { gone = f ∷ d.gone }
 
--- A fault whose node is gone is gone, and stands where it stood; the others stand where they would stand now.
+-- A fault whose node is gone is gone. What is gone stands where it stood.
 abbrev pub difference : List Turn → List Fault → List Fault → Difference
 difference turns [] later = record { told = later; gone = [] }
 difference turns (f ∷ fs) later = option_map_or
-    (λ g. if list_any (same_fault g) later then difference turns fs (without_one g later) else with_gone g (difference turns fs later))
+    (λ g. if list_any (same_fault g) later then difference turns fs (without_one g later) else with_gone f (difference turns fs later))
     (fault_behind turns f) (with_gone f (difference turns fs later))

@@ -1,13 +1,14 @@
 -- A session as it may be kept: not the documents that can come back, but one from before them and the edits since, in groups of
--- which each is taken back as one. It is said without the positions that turn, which these edits tell.
+-- which each is taken back as one. The edits tell the positions that turn.
 use Rattle.std.specs.Prelude.{◌≡◌, ◌≤◌, ℕ, ◌+◌, ◌-◌, ◌/◌, ◌++◌, ◌&&◌, Bool, true, is_none, max, nat_le, List, [], ◌∷◌, length, take, drop, map, Option, Some, None, option_map, if◌then◌else◌, nat_lt}
 use Rattle.std.specs.Option.{option_map_or}
 use Rattle.std.specs.List.{flat_map}
 use Rattle.yspec.specs.schema.Schema.{Schema}
 use Rattle.yspec.specs.document.Document.{Tree}
 use Rattle.yspec.specs.edit.EditText.{Edit}
-use Rattle.yspec.specs.edit.Editing.{after}
-use Rattle.yspec_session.specs.Session.{Begun, Session, Earlier}
+use Rattle.yspec.specs.edit.Editing.{after, applied, tree_or}
+use Rattle.yspec_session.specs.Carrying.{Turn}
+use Rattle.yspec_session.specs.Session.{Begun, Session, Earlier, turns_of}
 
 -- where edits stand or fall together: how many groups there were when they began, and how many of them could be taken back
 pub record Since : Type 0 where
@@ -35,10 +36,15 @@ abbrev pub behind_groups : Schema → Tree → List (List Edit) → Tree
 behind_groups schema tree [] = tree
 behind_groups schema tree (g ∷ gs) = behind_groups schema (after schema tree g) gs
 
--- those before each group, the last first
-abbrev pub befores : Schema → Tree → List (List Edit) → List Tree
+-- the turns that lead back over edits of a document, those of the last edit first
+abbrev pub turns_back : Schema → Tree → List Edit → List Turn
+turns_back schema tree [] = []
+turns_back schema tree (e ∷ edits) = turns_back schema (tree_or (applied schema tree e) tree) edits ++ (turns_of schema tree e).back
+
+-- what comes back before each group, the last first
+abbrev pub befores : Schema → Tree → List (List Edit) → List Earlier
 befores schema tree [] = []
-befores schema tree (g ∷ gs) = befores schema (after schema tree g) gs ++ tree ∷ []
+befores schema tree (g ∷ gs) = befores schema (after schema tree g) gs ++ record { tree = tree; turns = turns_back schema tree g } ∷ []
 
 -- ---- what changes it
 
@@ -122,16 +128,21 @@ way_to n k = way_from k.base (take n k.groups) (until n k.later)
 
 -- ---- the session that it is
 
-abbrev pub trees_of : List Earlier → List Tree
-trees_of es = map (λ (e : Earlier). e.tree) es
+abbrev pub turns_in : List Earlier → List (List Turn)
+turns_in es = map (λ (e : Earlier). e.turns) es
 
--- what edits together began with
-abbrev pub ground : Begun → Tree × List Tree
-ground b = (b.tree, trees_of b.remembered)
+-- what edits together began with, and the turns since
+abbrev pub begun_at : Schema → Tree → List (List Edit) → Since → Begun
+begun_at schema base groups since = let there = behind_groups schema base (take since.groups groups) in record {
+  tree = there;
+  remembered = take since.kept (befores schema base (take since.groups groups));
+  turns = turns_in (befores schema there (drop since.groups groups));
+}
 
-abbrev pub ground_at : Schema → Tree → List (List Edit) → Since → Tree × List Tree
-ground_at schema base groups since =
-    let gs = take since.groups groups in (behind_groups schema base gs, take since.kept (befores schema base gs))
+-- the turns that lead back over the groups behind the first ones
+abbrev pub turns_behind : Schema → ℕ → Kept → List Turn
+turns_behind schema n k =
+    turns_back schema (behind_groups schema k.base (take n k.groups)) (flat_map (λ g. g) (drop n k.groups))
 
 abbrev pub groups_since : Option Since → ℕ
 groups_since begun = option_map_or (λ (b : Since). b.groups) begun 0
@@ -144,11 +155,11 @@ abbrev pub Leads : Schema → Tree → List (List Edit) → Option Later → Typ
 Leads schema base groups None = Unit {0}
 Leads schema base groups (Some l) = (l.groups ≤ length groups) × (l.tree ≡ behind_groups schema base (take l.groups groups))
 
--- the same document, the same ones to come back, and the same ones where edits together began
+-- the same document, the same ones to come back, and the same where edits together began
 pub record Remembers (schema : Schema) (k : Kept) (s : Session) : Type 0 where
   pub tree : s.tree ≡ behind_groups schema k.base k.groups
-  pub earlier : trees_of s.remembered ≡ take k.kept (befores schema k.base k.groups)
-  pub begun : option_map ground s.begun ≡ option_map (ground_at schema k.base k.groups) k.begun
+  pub earlier : s.remembered ≡ take k.kept (befores schema k.base k.groups)
+  pub begun : s.begun ≡ option_map (begun_at schema k.base k.groups) k.begun
   pub room : groups_since k.begun + k.kept ≤ length k.groups
   pub inner : kept_since k.begun ≤ groups_since k.begun
   pub later : Leads schema k.base k.groups k.later

@@ -9,6 +9,7 @@ use Rattle.yspec.specs.document.Reading.{document_of}
 use Rattle.yspec.specs.document.FaultCode.{V3}
 use Rattle.yspec.specs.document.Fault.{Fault, plain_fault}
 use Rattle.yspec.specs.edit.Examples.{module_text}
+use Rattle.yspec_session.specs.Carrying.{Turn, closed_up}
 use Rattle.yspec_session.specs.Session.{Answer, changed, refused, edit_refused, opened}
 use Rattle.yspec_session.specs.Requests.{replies}
 
@@ -32,3 +33,7 @@ becomes before after told gone = changed before after (record { told = told; gon
 
 abbrev pub code_refused : ℕ → Answer
 code_refused code = refused (edit_refused (record { code = code; document_code = None }))
+
+-- the first entry is gone
+abbrev pub first_gone : List Turn
+first_gone = record { above = []; number = 0; position = closed_up 1 } ∷ []

@@ -2,7 +2,8 @@
 
 ghost use Rattle.std.specs.Prelude.{◌≡◌, [], ◌∷◌, codes, Some, None};
 ghost use Rattle.yspec_session.specs.Session.{listed, done, refused, nothing_remembered, has_begun, not_begun, not_understood};
-ghost use Rattle.yspec_session.specs.Samples.{talk, lacks, becomes, code_refused};
+ghost use Rattle.yspec_session.specs.Carrying.{difference};
+ghost use Rattle.yspec_session.specs.Samples.{talk, lacks, becomes, code_refused, first_gone};
 
 /// What became wrong and right with an edit, at positions as they are behind it.
 pub fn edits()
@@ -16,6 +17,13 @@ pub fn edits()
         ≡ Some (becomes 1 2 (lacks 1 ∷ []) [] ∷ becomes 2 1 [] (lacks 2 ∷ []) ∷ []) }
     ensures refused_edits { talk (codes "remove /p:l[3]" ∷ codes "remove /p:l[4]" ∷ codes "remove /p:x" ∷ codes "undo" ∷ codes "faults" ∷ [])
         ≡ Some (becomes 1 1 [] [] ∷ code_refused 5 ∷ code_refused 2 ∷ becomes 1 1 [] [] ∷ listed (lacks 2 ∷ []) 1 ∷ []) }
+{}
+
+/// What is gone stands where it stood.
+pub fn gone()
+    ensures stood { difference first_gone (lacks 2 ∷ []) [] ≡ record { told = []; gone = lacks 2 ∷ [] } }
+    ensures stays { difference first_gone (lacks 2 ∷ []) (lacks 1 ∷ []) ≡ record { told = []; gone = [] } }
+    ensures is_gone { difference first_gone (lacks 1 ∷ []) (lacks 1 ∷ []) ≡ record { told = lacks 1 ∷ []; gone = lacks 1 ∷ [] } }
 {}
 
 /// What comes back.
@@ -38,6 +46,10 @@ pub fn together()
         ∷ refused nothing_remembered ∷ []) }
     ensures one_to_take_back { talk (codes "begin" ∷ codes "remove /p:l[3]" ∷ codes "remove /p:l[1]" ∷ codes "commit" ∷ codes "undo" ∷ codes "undo" ∷ [])
         ≡ Some (done ∷ becomes 1 1 [] [] ∷ becomes 1 1 [] [] ∷ done ∷ becomes 1 1 [] [] ∷ refused nothing_remembered ∷ []) }
+    ensures turned_back { talk (codes "begin" ∷ codes "remove /p:l[1]" ∷ codes "move /p:l[1] 2" ∷ codes "back" ∷ [])
+        ≡ Some (done ∷ becomes 1 1 [] [] ∷ becomes 1 1 [] [] ∷ becomes 1 1 [] [] ∷ []) }
+    ensures turned_back_as_one { talk (codes "begin" ∷ codes "remove /p:l[1]" ∷ codes "move /p:l[1] 2" ∷ codes "commit" ∷ codes "undo" ∷ [])
+        ≡ Some (done ∷ becomes 1 1 [] [] ∷ becomes 1 1 [] [] ∷ done ∷ becomes 1 1 [] [] ∷ []) }
     ensures no_further { talk (codes "remove /p:l[1]" ∷ codes "begin" ∷ codes "undo" ∷ [])
         ≡ Some (becomes 1 1 [] [] ∷ done ∷ refused nothing_remembered ∷ []) }
     ensures misplaced { talk (codes "commit" ∷ codes "back" ∷ codes "begin" ∷ codes "begin" ∷ [])

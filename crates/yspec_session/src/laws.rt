@@ -1,6 +1,6 @@
 //! What holds of every session.
 
-ghost use Rattle.std.specs.Prelude.{◌≡◌, ◌+◌, ◌≤◌, ℕ, List, [], ◌∷◌, Some, None, Ok, length, map, take, true};
+ghost use Rattle.std.specs.Prelude.{◌≡◌, ◌+◌, ◌-◌, ◌≤◌, ℕ, List, [], ◌∷◌, Some, None, Ok, length, map, take, true};
 ghost use Rattle.std.specs.List.{list_all};
 ghost use Rattle.yspec.specs.schema.Schema.{Schema};
 ghost use Rattle.yspec.specs.document.Document.{Tree};
@@ -8,8 +8,8 @@ ghost use Rattle.yspec.specs.document.Fault.{Fault};
 ghost use Rattle.yspec.specs.edit.EditText.{Edit};
 ghost use Rattle.yspec.specs.edit.Editing.{after, applied};
 ghost use Rattle.yspec_session.specs.Carrying.{Turn, difference};
-ghost use Rattle.yspec_session.specs.Session.{Begun, Session, Request, Why, accepted, answered, back, begin, begun_with, behind_all, change, committed, fallen, is_inside, refused, undos, with_remembered};
-ghost use Rattle.yspec_session.specs.Remembering.{Since, Kept, Remembers, back_to, begun_here, behind_groups, joined, marked, settled, way_to, with_group};
+ghost use Rattle.yspec_session.specs.Session.{Begun, Earlier, Session, Request, Why, accepted, answered, back, begin, begun_with, behind_all, change, committed, fallen, is_inside, refused, turns_of, turns_to, undos, with_remembered};
+ghost use Rattle.yspec_session.specs.Remembering.{Since, Kept, Remembers, back_to, begun_here, behind_groups, joined, marked, settled, turns_behind, way_to, with_group};
 
 /// What is new and what is gone make up for the difference of both lists.
 pub fn counts()
@@ -47,11 +47,12 @@ pub fn all_fallen()
 {}
 
 /// A session that is kept by the edits since a document stays one: with an edit that is accepted, and where edits together begin,
-/// stand or fall; with a later document; and where it is counted from that one. The nearest document leads to each place.
+/// stand or fall; with a later document; and where it is counted from that one. The nearest document leads to each place. What
+/// comes back and what falls leads back by the turns that the edits tell.
 pub fn remembered()
-    ensures changed { (schema : Schema) (limit : ℕ) (k : Kept) (s : Session) (e : Edit) (later : Tree) (turns : List Turn)
-        → Remembers schema k s → applied schema s.tree e ≡ Ok later
-        → Remembers schema (with_group limit (e ∷ []) k) (with_remembered limit turns later s) }
+    ensures changed { (schema : Schema) (limit : ℕ) (k : Kept) (s : Session) (e : Edit) (later : Tree) → Remembers schema k s
+        → applied schema s.tree e ≡ Ok later
+        → Remembers schema (with_group limit (e ∷ []) k) (with_remembered limit (turns_of schema s.tree e).back later s) }
     ensures begun { (schema : Schema) (k : Kept) (s : Session) → Remembers schema k s → s.begun ≡ None
         → Remembers schema (begun_here k) (begun_with s None).1 }
     ensures standing { (schema : Schema) (limit : ℕ) (k : Kept) (s : Session) (b : Begun) (since : Since) → Remembers schema k s
@@ -62,4 +63,8 @@ pub fn remembered()
     ensures settled { (schema : Schema) (k : Kept) (s : Session) → Remembers schema k s → Remembers schema (settled k) s }
     ensures ways { (schema : Schema) (n : ℕ) (k : Kept) (s : Session) → Remembers schema k s
         → behind_groups schema (way_to n k).0 (way_to n k).1 ≡ behind_groups schema k.base (take n k.groups) }
+    ensures coming_back { (schema : Schema) (k : Kept) (s : Session) (e : Earlier) (others : List Earlier) → Remembers schema k s
+        → s.remembered ≡ e ∷ others → e.turns ≡ turns_behind schema (length k.groups - 1) k }
+    ensures falling_back { (schema : Schema) (k : Kept) (s : Session) (b : Begun) (since : Since) → Remembers schema k s
+        → s.begun ≡ Some b → k.begun ≡ Some since → turns_to b ≡ turns_behind schema since.groups k }
 {}

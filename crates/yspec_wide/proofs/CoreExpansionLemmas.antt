@@ -1,10 +1,10 @@
 -- Under the core groupings and augments are expanded as without a language, and nothing is cut.
-use Rattle.std.proofs.Common.{◌≡◌, ℕ, zero, suc, Bool, true, false, not, ◌&&◌, ◌++◌, List, length, is_some, refl, ap, ap₂, ◌∙◌}
+use Rattle.std.proofs.Common.{◌≡◌, ℕ, zero, suc, Bool, true, false, not, ◌&&◌, ◌++◌, List, [], ◌∷◌, length, is_some, refl, ap, ap₂, ◌∙◌}
 use Rattle.std.proofs.Math.Path.{fun_ext}
 use Rattle.std.specs.Prelude.{if◌then◌else◌}
-use Rattle.std.specs.List.{flat_map}
+use Rattle.std.specs.List.{flat_map, list_any}
 use Rattle.std.specs.Option.{option_map_or}
-use Rattle.yspec.specs.Forest.{Forest, end, node, join, size}
+use Rattle.yspec.specs.Forest.{Forest, end, node, row, join, size}
 use Rattle.yspec.specs.schema.Breaks.{broken, when}
 use Rattle.yspec.specs.linking.Source.{Source, first_with}
 use Rattle.yspec.specs.linking.Parts.{Part}
@@ -12,10 +12,9 @@ use Rattle.yspec.specs.linking.Expansion.{Grouping, groupings_of, laid, row_used
 use Rattle.yspec.specs.linking.Augments.{Augment, augments_of, target_steps, may_be_augmented, kept_out, in_turn, may_take, is_ready, added_below, applied, augmented, body_breaks, augment_breaks}
 use Rattle.yspec.proofs.ForestLemmas.{join_end}
 use Rattle.yspec_wide.specs.Language.{core}
-use Rattle.yspec_wide.specs.Sources.{guard_row, without_guards}
-use Rattle.yspec_wide.specs.Features.{stands}
-use Rattle.yspec_wide.specs.Expansion.{conditioned, overridden_in, after_refine_in, refined_in, stands_for_in, expanded_in, expanded_in_from, expanded_parts_in, refine_breaks_in, unfit_for_in, unfit_in_from, unfit_breaks_in, added_nodes_in, may_take_in, is_ready_in, applied_in, augmented_in, body_breaks_in, augment_breaks_in}
-use Rattle.yspec_wide.specs.Standing.{standing, all_stand}
+use Rattle.yspec_wide.specs.Sources.{guard_row, without_guards, is_operation}
+use Rattle.yspec_wide.specs.Expansion.{conditioned, takes_operations, overridden_in, after_refine_in, refined_in, stands_for_in, expanded_in, expanded_in_from, expanded_parts_in, refine_breaks_in, unfit_for_in, unfit_in_from, unfit_breaks_in, added_nodes_in, may_take_in, is_ready_in, applied_in, augmented_in, body_breaks_in, augment_breaks_in}
+use Rattle.yspec_wide.specs.Standing.{is_standing, standing, all_stand}
 use Rattle.yspec_wide.proofs.CoreLinkingLemmas.{all_stand_in_core}
 use Rattle.yspec_wide.proofs.StandingLemmas.{all_stand_alike}
 
@@ -115,9 +114,15 @@ and_true : (b : Bool) → (b && true) ≡ b
 and_true true = refl
 and_true false = refl
 
+none_given : (statements : List Source) → list_any (is_operation core) statements ≡ false
+none_given [] = refl
+none_given (s ∷ statements) = none_given statements
+
 pub may_take_alike : (modules : Forest Source) (a : Augment) → may_take_in core modules a ≡ (λ p. may_take p a.given)
-may_take_alike modules a = fun_ext (λ p. ap (λ b. may_be_augmented p.source.keyword && b)
-    (and_true (not (is_some (first_with (kept_out p) a.given)))))
+may_take_alike modules a = fun_ext (λ p. ap₂ (λ b closed. (may_be_augmented p.source.keyword && b) && not closed)
+    (and_true (not (is_some (first_with (kept_out p) a.given))))
+    (ap (λ some. some && not (takes_operations core p.source)) (none_given (row a.given)))
+    ∙ and_true (may_take p a.given))
 
 pub ready_alike : (modules : Forest Source) → is_ready_in core modules ≡ is_ready modules
 ready_alike modules = fun_ext (λ nodes. fun_ext (λ a.
@@ -145,11 +150,11 @@ augment_breaks_alike modules = ap₂ (λ told left. flat_map told (augments_of m
 
 -- ---- the cut
 
-all_true : (parts : Forest Part) → all_stand (λ own. true) parts ≡ true
+all_true : (parts : Forest Part) → all_stand (λ p. true) parts ≡ true
 unfolding all_stand
 all_true end = refl
 all_true (node p below after) = ap₂ (λ a b. a && b) (all_true below) (all_true after)
 
 pub standing_alike : (modules : Forest Source) (parts : Forest Part) → standing core modules parts ≡ parts
 standing_alike modules parts =
-    all_stand_alike (stands core modules) parts (ap (λ holds. all_stand holds parts) (all_stand_in_core modules) ∙ all_true parts)
+    all_stand_alike (is_standing core modules) parts (ap (λ holds. all_stand (λ (p : Part). holds p.own) parts) (all_stand_in_core modules) ∙ all_true parts)

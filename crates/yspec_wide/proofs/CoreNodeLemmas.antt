@@ -17,13 +17,15 @@ use Rattle.yspec.specs.linking.Planned.{Planned, Plan, node_of, nodes_of, is_a, 
 use Rattle.yspec.specs.linking.SchemaNodes.{is_mandatory, min_elements_of, own_defaults, default_texts, value_stated, default_values, default_case, absent_by, first_value, absence_of, leaf_type, amount_of, type_name, number_in, is_key, kind_by, schema_node, schema_nodes}
 use Rattle.yspec.specs.linking.NodeBreaks.{config_breaks, tuple_breaks, reference_breaks, default_breaks, addition_breaks, is_empty, is_refused, is_wrong_default, are_wrong_defaults, has_equal, is_wrong_case, must_be, has_mandatory, row_below, is_needed, is_foreign, broken_in, broken_at, own_breaks, node_breaks}
 use Rattle.yspec.specs.schema.Breaks.{Break, when, or_told}
-use Rattle.yspec.specs.schema.Schema.{Kind, container, leaf, leaf_list, list, choice, case, LeafType, Absence, mandatory, key}
+use Rattle.yspec.specs.schema.Schema.{Kind, container, leaf, leaf_list, list, choice, case, LeafType, Absence, mandatory, key, by_type}
 use Rattle.yspec_wide.specs.Language.{core}
 use Rattle.yspec_wide.specs.Sources.{bears_condition, bears_when, bears_guard}
-use Rattle.yspec_wide.specs.Guards.{is_guarded_within, is_let_add, asked_kind}
+use Rattle.yspec_wide.specs.Above.{is_under_within}
+use Rattle.yspec_wide.specs.Guards.{is_guarded, is_let_add, asked_kind}
+use Rattle.yspec_wide.specs.Operations.{is_in_operation, is_operation_node}
 use Rattle.yspec_wide.specs.VersionBreaks.{key_break}
 use Rattle.yspec_wide.specs.Types.{type_of_kept, default_texts_in, unmarked, same_if_any, is_refused_in, is_wrong_default_in, are_wrong_defaults_in, standing_type, default_breaks_in, default_values_in, leaf_type_in, absence_in, kind_stated, kind_in, schema_node_in, schema_nodes_in}
-use Rattle.yspec_wide.specs.Additions.{stands_itself, has_mandatory_standing, is_needed_standing, addition_breaks_in}
+use Rattle.yspec_wide.specs.Additions.{stands_itself, has_mandatory_standing, is_needed_standing, broken_unless_let, addition_breaks_in}
 use Rattle.yspec_wide.specs.Compiling.{own_breaks_in, node_breaks_in}
 use Rattle.yspec_wide.proofs.CoreLinkingLemmas.{all_stand_in_core}
 use Rattle.yspec_wide.proofs.CoreTypeLemmas.{type_alike, meant_in_alike}
@@ -61,11 +63,18 @@ key_none plan p = ap (λ b. when b (option_map_or (broken_at 12) (option_and_the
 
 -- nothing hangs on a `when`
 module _ (plan : Plan) where
-  none_within : (steps : ℕ) (p : Planned) → is_guarded_within core plan steps p ≡ false
-  unfolding is_guarded_within
-  none_within zero p = refl
-  none_within (suc steps) p = ap (λ b. b || option_map_or (is_guarded_within core plan steps) (option_and_then (node_of plan) p.parent) false) (no_when p.part.own)
-      ∙ never (is_guarded_within core plan steps) (option_and_then (node_of plan) p.parent) (none_within steps)
+  -- no node stands below one that passes a test, if none does
+  none_under : (test : Planned → Bool) → ((p : Planned) → test p ≡ false) → (steps : ℕ) (p : Planned) → is_under_within plan test steps p ≡ false
+  unfolding is_under_within
+  none_under test none zero p = refl
+  none_under test none (suc steps) p = ap (λ b. b || option_map_or (is_under_within plan test steps) (option_and_then (node_of plan) p.parent) false) (none p)
+      ∙ never (is_under_within plan test steps) (option_and_then (node_of plan) p.parent) (none_under test none steps)
+
+  none_within : (p : Planned) → is_guarded core plan p ≡ false
+  none_within p = none_under (λ q. bears_when core q.part.own) (λ q. no_when q.part.own) (size plan.nodes) p
+
+  none_inside : (p : Planned) → is_in_operation core plan p ≡ false
+  none_inside p = none_under (is_operation_node core) (λ q. refl) (size plan.nodes) p
 
   none_let : (number : ℕ) → is_let_add core plan number ≡ false
   none_let number = never (λ (a : Placed). bears_when core a.below && true) (statement_at plan.modules number)
@@ -132,6 +141,7 @@ module _ (plan : Plan) (p : Planned) where
     type = unwrap_or (types p) string_type;
     target = option_map number_in (target_of plan p);
     targets = targets_of plan types p (meant p);
+    form = by_type;
   }) (fun_ext (type_alike plan)) (meant_in_alike plan)
 
   absence_alike : absence_in core plan p ≡ absence_of plan (is_key plan p) p
@@ -161,7 +171,7 @@ module _ (plan : Plan) (p : Planned) where
       ∙ by_keyword p.part.source.keyword (is_a leaf_word p) (is_a leaf_list_word p) refl refl)
 
   kind_alike : kind_in core plan p ≡ kind_by plan p p.part.source.keyword
-  kind_alike = ap (λ guarded. asked_kind guarded (kind_stated core plan p)) (none_within plan (size plan.nodes) p)
+  kind_alike = ap (λ guarded. asked_kind guarded (kind_stated core plan p)) (none_within plan p)
       ∙ (asked_whole (kind_stated core plan p) ∙ stated_alike)
 
   node_alike : schema_node_in core plan p ≡ schema_node plan p
@@ -186,7 +196,9 @@ module _ (plan : Plan) where
   needed_alike p = ap₂ (λ own inside. own && must_be p inside) (itself p) (mandatory_alike (row_below plan p.number))
 
   addition_alike : addition_breaks_in core plan ≡ addition_breaks plan
-  addition_alike = fun_ext (λ p. ap₂ (λ needed told. when (is_foreign p (option_and_then (node_of plan) p.parent) && (p.config && needed))
+  addition_alike = fun_ext (λ p. ap (λ b. if b then [] else when (is_foreign p (option_and_then (node_of plan) p.parent)
+      && (p.config && is_needed_standing core plan p)) (option_map_or (broken_unless_let core plan) p.part.added_by [])) (none_inside plan p)
+      ∙ ap₂ (λ needed told. when (is_foreign p (option_and_then (node_of plan) p.parent) && (p.config && needed))
       (option_map_or told p.part.added_by [])) (needed_alike p)
       (fun_ext (λ number. ap (λ b. if b then [] else broken_in plan number) (none_let plan number))))
 

@@ -4,7 +4,7 @@ use Rattle.std.proofs.lemmas.Bool.{and_parts, and_right}
 use Rattle.std.specs.Option.{option_map_or}
 use Rattle.yspec.specs.Forest.{Forest, end, node}
 use Rattle.yspec.specs.text.Text.{Text}
-use Rattle.yspec.specs.linking.Source.{Source, is_source_of, argument_with}
+use Rattle.yspec.specs.linking.Source.{is_source_of, argument_with}
 use Rattle.yspec.specs.linking.Keyword as word
 use Rattle.yspec.specs.linking.Parts.{Part}
 use Rattle.yspec_wide.specs.Standing.{is_implied_case, is_none, has_case, is_default_off, with_default_on, without_default, left_with, standing_by, all_stand}
@@ -29,11 +29,11 @@ left_alike p below after =
     ap (λ b. cond b after (node (with_default_on p below below) below after)) (and_right (is_implied_case p) _ (not_both (is_none below)))
     ∙ ap (λ q. node q below after) (kept_on p below)
 
-pub all_stand_alike : (holds : Forest Source → Bool) (parts : Forest Part) → all_stand holds parts ≡ true → standing_by holds parts ≡ parts
+pub all_stand_alike : (test : Part → Bool) (parts : Forest Part) → all_stand test parts ≡ true → standing_by test parts ≡ parts
 unfolding all_stand standing_by
-all_stand_alike holds end e = refl
-all_stand_alike holds (node p below after) e =
+all_stand_alike test end e = refl
+all_stand_alike test (node p below after) e =
     let here = and_parts _ _ e in let inside = and_parts _ _ here.1 in
-    ap (λ b. cond b (left_with p below (standing_by holds below) (standing_by holds after)) (standing_by holds after)) here.0
-    ∙ (ap₂ (λ f g. left_with p below f g) (all_stand_alike holds below inside.0) (all_stand_alike holds after inside.1)
+    ap (λ b. cond b (left_with p below (standing_by test below) (standing_by test after)) (standing_by test after)) here.0
+    ∙ (ap₂ (λ f g. left_with p below f g) (all_stand_alike test below inside.0) (all_stand_alike test after inside.1)
     ∙ left_alike p below after)

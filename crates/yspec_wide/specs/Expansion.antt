@@ -1,7 +1,7 @@
 -- Groupings and augments with guards: the conditions of a `uses`, a refine or an `augment` are asked of each node that it brings or
--- changes, and its `when` too (RFC 7950, 7.13, 7.13.2, 7.17, 7.20.2 and 7.21.5).
+-- changes, and its `when` too (RFC 7950, 7.13, 7.13.2, 7.17, 7.20.2 and 7.21.5). What operations take of refines and augments.
 use Rattle.std.specs.Prelude.{ℕ, zero, suc, ◌&&◌, ◌||◌, Bool, not, false, List, [], ◌++◌, length, is_some, if◌then◌else◌}
-use Rattle.std.specs.List.{list_all, flat_map}
+use Rattle.std.specs.List.{list_all, list_any, flat_map}
 use Rattle.std.specs.Option.{option_map_or}
 use Rattle.yspec.specs.Forest.{Forest, end, node, row, join, size}
 use Rattle.yspec.specs.schema.Breaks.{Break, broken, when}
@@ -12,7 +12,11 @@ use Rattle.yspec.specs.linking.Parts.{Part, within}
 use Rattle.yspec.specs.linking.Expansion.{Grouping, groupings_of, laid, row_used, is_refine, refine_steps, is_borne, part_at, changed_at, others, replaced, unfit_in}
 use Rattle.yspec.specs.linking.Augments.{Augment, augments_of, target_steps, may_be_augmented, kept_out, marked, in_turn}
 use Rattle.yspec_wide.specs.Language.{Language, version_of, is_yang_1}
-use Rattle.yspec_wide.specs.Sources.{is_guard, guard_row, without_guards}
+use Rattle.yspec_wide.specs.Sources.{is_guard, guard_row, without_guards, is_call, is_operation, is_operation_part, is_anything}
+
+-- a statement that says something to people alone
+abbrev pub is_remark : Source → Bool
+is_remark s = is_source_of word.description_word s || is_source_of word.reference_word s
 
 module _ (language : Language) where
   -- ---- guards that nodes get
@@ -25,12 +29,15 @@ module _ (language : Language) where
 
   -- ---- refine
 
-  -- every node may bear a guard
+  -- every node of a document may bear a guard
   abbrev pub is_borne_in : Keyword → Forest Source → Source → Bool
   is_borne_in k given s = is_guard language s || is_borne k given s
 
+  -- An operation, its `input` and its `output` bear no more than remarks; a node without a type is as a leaf, but has no default.
   abbrev pub may_bear_in : Part → Forest Source → Bool
-  may_bear_in p given = list_all (is_borne_in p.source.keyword given) (row given)
+  may_bear_in p given = if is_operation_part language p.source then list_all is_remark (row given)
+      else (if is_anything language p.source && is_some (first_with word.default_word given) then false
+      else list_all (is_borne_in p.source.keyword given) (row given))
 
   abbrev pub is_fit_in : Forest Source → ℕ → Source → Forest Source → Forest Part → Bool
   is_fit_in modules owner s given nodes =
@@ -103,9 +110,17 @@ module _ (language : Language) where
   is_choice_in_choice modules a p = is_yang_1 (version_of language modules a.source.home)
       && (is_source_of word.choice_word p.source && is_some (first_with word.choice_word a.given))
 
+  -- Containers and lists take operations, and not those that are parts of operations themselves.
+  abbrev pub takes_operations : Source → Bool
+  takes_operations s = not (is_operation_part language s) && (is_source_of word.container_word s || is_source_of word.list_word s)
+
+  -- An `rpc` or an `action` is no target, though its `input` and its `output` are.
+  abbrev pub is_closed : Forest Source → Source → Bool
+  is_closed given s = is_call language s || (list_any (is_operation language) (row given) && not (takes_operations s))
+
   abbrev pub may_take_in : Forest Source → Augment → Part → Bool
-  may_take_in modules a p = may_be_augmented p.source.keyword
-      && (not (is_some (first_with (kept_out p) a.given)) && not (is_choice_in_choice modules a p))
+  may_take_in modules a p = (may_be_augmented p.source.keyword
+      && (not (is_some (first_with (kept_out p) a.given)) && not (is_choice_in_choice modules a p))) && not (is_closed a.given p.source)
 
   abbrev pub is_ready_in : Forest Source → Forest Part → Augment → Bool
   is_ready_in modules nodes a = option_map_or (may_take_in modules a) (part_at (target_steps modules a) nodes) false

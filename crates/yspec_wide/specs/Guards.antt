@@ -1,24 +1,18 @@
 -- What hangs on a `when` that isn't judged: it may be there, and nothing is asked of it but what holds of a node wherever it is
 -- (RFC 7950, 7.21.5).
-use Rattle.std.specs.Prelude.{ℕ, zero, suc, ◌||◌, ◌&&◌, Bool, false, not, [], option_and_then, if◌then◌else◌}
+use Rattle.std.specs.Prelude.{ℕ, ◌&&◌, Bool, false, not, [], if◌then◌else◌}
 use Rattle.std.specs.Option.{option_map_or}
-use Rattle.yspec.specs.Forest.{size}
 use Rattle.yspec.specs.linking.Scopes.{statement_at}
-use Rattle.yspec.specs.linking.Planned.{Planned, Plan, node_of}
+use Rattle.yspec.specs.linking.Planned.{Planned, Plan}
 use Rattle.yspec.specs.schema.Schema.{Kind, container, leaf, leaf_list, list, choice, case, Absence, allowed, key, Amount}
 use Rattle.yspec_wide.specs.Language.{Language, version_of, is_yang_1}
 use Rattle.yspec_wide.specs.Sources.{bears_when}
+use Rattle.yspec_wide.specs.Above.{is_under}
 
 module _ (language : Language) (plan : Plan) where
-  -- whether one of so many nodes on the way up from a node, itself among them, bears one
-  unfoldable pub is_guarded_within : ℕ → Planned → Bool
-  is_guarded_within zero p = false
-  is_guarded_within (suc steps) p = bears_when language p.part.own
-      || option_map_or (is_guarded_within steps) (option_and_then (node_of plan) p.parent) false
-
   -- whether it hangs on one, its own or that of a node above it
   abbrev pub is_guarded : Planned → Bool
-  is_guarded p = is_guarded_within (size plan.nodes) p
+  is_guarded p = is_under plan (λ q. bears_when language q.part.own) p
 
   -- whether the `augment` of a number is let add what must be: it bears one, which YANG 1 doesn't let it (RFC 7950, 7.17; RFC
   -- 6020, 7.15)

@@ -12,7 +12,9 @@ pub mod Standing
 pub mod VersionBreaks
 pub mod Patterns
 pub mod Types
+pub mod Above
 pub mod Guards
+pub mod Operations
 pub mod Additions
 pub mod Compiling
 pub mod Samples

@@ -1,5 +1,5 @@
 -- Worked examples: expressions, and what stands of texts of modules.
-use Rattle.std.specs.Prelude.{ℕ, Bool, true, List, [], ◌∷◌, ◌++◌, codes, map, Option, option_map, option_and_then, Result, Ok, Err}
+use Rattle.std.specs.Prelude.{ℕ, zero, suc, Bool, true, List, [], ◌∷◌, ◌++◌, codes, map, Option, option_map, option_and_then, Result, Ok, Err}
 use Rattle.std.specs.List.{list_any}
 use Rattle.std.specs.Result.{result_ok}
 use Rattle.std.specs.Option.{option_map_or}
@@ -12,7 +12,9 @@ use Rattle.yspec.specs.linking.Arguments.{Name}
 use Rattle.yspec.specs.edit.Examples.{module_text}
 use Rattle.yspec.specs.document.FaultCode.{fault_number}
 use Rattle.yspec.specs.document.Faults.{faults_of}
-use Rattle.yspec.specs.document.Reading.{document_of}
+use Rattle.yspec.specs.document.Document.{Tree}
+use Rattle.yspec.specs.document.Writing.{written_text}
+use Rattle.yspec.specs.document.Reading.{Refusal, document_of}
 use Rattle.yspec_wide.specs.Language.{Language, Choosing, rfc, rfc_with, YangVersion}
 use Rattle.yspec_wide.specs.Expressions.{holds, expression_of}
 use Rattle.yspec_wide.specs.Texts.{version_of_text, module_in}
@@ -73,6 +75,20 @@ with_all lines = outcome_in (rfc_with []) (text_in_1_1 lines ∷ [])
 -- in YANG 1, with all
 abbrev pub with_all_in_1 : Text → Outcome
 with_all_in_1 lines = outcome_in (rfc_with []) (text_in_1 lines ∷ [])
+
+-- so many containers around a line
+abbrev pub nested : ℕ → Text → Text
+nested zero line = line
+nested (suc n) line = codes "container c { " ++ (nested n line ++ codes " }\n")
+
+-- what is written of a document under module m, with all features; or the refusal of it
+abbrev pub written_by : Schema → Result Tree Refusal → Result Text ℕ
+written_by schema (Ok tree) = Ok (written_text schema tree)
+written_by schema (Err r) = Err r.code
+
+abbrev pub written_with : Text → Text → Option (Result Text ℕ)
+written_with lines document = option_map (λ schema. written_by schema (document_of schema document))
+    (result_ok (compiled_in (rfc_with []) (statements_in (rfc_with []) (text_in_1_1 lines ∷ []))))
 
 -- the numbers of the faults of a document under module m, with these features of it chosen
 abbrev pub faults_under : Language → Text → Text → Option (List ℕ)

@@ -6,17 +6,24 @@ use Rattle.std.specs.Option.{option_map_or}
 use Rattle.yspec.specs.Forest.{Forest, end, node, row, join, size}
 use Rattle.yspec.specs.text.Text.{is_text}
 use Rattle.yspec.specs.text.Statement.{Statement}
-use Rattle.yspec.specs.linking.Keyword.{Keyword, same_keyword, extension_word, type_word, enum_word, bit_word}
+use Rattle.yspec.specs.linking.Keyword.{Keyword, same_keyword, extension_word, type_word, enum_word, bit_word, container_word, leaf_word}
 use Rattle.yspec.specs.linking.Source.{Source, unless_extension, kept_at, numbered}
 use Rattle.yspec.specs.linking.BuiltIns.{built_in_named}
 use Rattle.yspec_wide.specs.Language.{Language, core, rfc, is_yang_1, version_below}
-use Rattle.yspec_wide.specs.Words.{Word, known, feature_word, if_feature_word, must_word, when_word, word_text, word_named}
+use Rattle.yspec_wide.specs.Words.{Word, known, feature_word, if_feature_word, must_word, when_word, rpc_word, action_word, notification_word, input_word, output_word, anydata_word, anyxml_word, word_text, word_named}
 
--- Those that the core doesn't have are kept as `extension` is named; they are told apart by their texts. A `must` that isn't
--- judged says nothing.
+-- Those that the core doesn't have are kept as `extension` is named, those that hold nodes as containers, and nodes without a type as
+-- leafs; they are told apart by their texts. A `must` that isn't judged says nothing.
 abbrev pub keyword_kept : Word → Option Keyword
 keyword_kept (known k) = unless_extension k
 keyword_kept must_word = None
+keyword_kept rpc_word = Some container_word
+keyword_kept action_word = Some container_word
+keyword_kept notification_word = Some container_word
+keyword_kept input_word = Some container_word
+keyword_kept output_word = Some container_word
+keyword_kept anydata_word = Some leaf_word
+keyword_kept anyxml_word = Some leaf_word
 keyword_kept _ = Some extension_word
 
 -- An `enum` or a `bit` that restricts a type is kept so as well.
@@ -30,7 +37,7 @@ kept_keyword_in language restricting s = let k = option_and_then keyword_kept (w
 
 -- a `type` that isn't built in
 abbrev pub is_derived_type : Keyword → Statement → Bool
-is_derived_type k s = same_keyword type_word k && not (is_some (built_in_named (unwrap_or s.argument [])))
+is_derived_type k s = same_keyword type_word k && not (is_some (built_in_named (unwrap_or s.argument s.keyword)))
 
 -- whether names restrict types in a module, and members of unions may be leafrefs, by what stands below its `module` statement: YANG 1
 -- has nothing of it (RFC 6020, 9.6, 9.7 and 9.12)
@@ -76,6 +83,27 @@ module _ (language : Language) where
 
   abbrev pub is_when : Source → Bool
   is_when s = is_added language when_word s
+
+  abbrev pub is_notification : Source → Bool
+  is_notification s = is_added language notification_word s
+
+  -- what is called: an `rpc` or an `action`
+  abbrev pub is_call : Source → Bool
+  is_call s = is_added language rpc_word s || is_added language action_word s
+
+  abbrev pub is_operation : Source → Bool
+  is_operation s = is_call s || is_notification s
+
+  abbrev pub is_side : Source → Bool
+  is_side s = is_added language input_word s || is_added language output_word s
+
+  -- an operation, or the `input` or the `output` of one
+  abbrev pub is_operation_part : Source → Bool
+  is_operation_part s = is_operation s || is_side s
+
+  -- a node without a type
+  abbrev pub is_anything : Source → Bool
+  is_anything s = is_added language anydata_word s || is_added language anyxml_word s
 
   -- the statements on which it hangs whether a node is there
   abbrev pub is_guard : Source → Bool

@@ -1,5 +1,5 @@
 -- The parts that stand, given which features are on: one of whose conditions one doesn't hold is as if it weren't there, with
--- all below it (RFC 7950, 7.20.2).
+-- all below it (RFC 7950, 7.20.2). An operation doesn't stand: its nodes are those of no document (7.14 to 7.16).
 use Rattle.std.specs.Prelude.{◌==◌, ◌&&◌, Bool, true, false, not, if◌then◌else◌}
 use Rattle.std.specs.List.{list_any}
 use Rattle.std.specs.Option.{option_map_or}
@@ -10,6 +10,7 @@ use Rattle.yspec.specs.linking.Keyword.{keyword_text}
 use Rattle.yspec.specs.linking.Source.{Source, is_source_of, argument_in, argument_with}
 use Rattle.yspec.specs.linking.Parts.{Part}
 use Rattle.yspec_wide.specs.Language.{Language}
+use Rattle.yspec_wide.specs.Sources.{is_operation}
 use Rattle.yspec_wide.specs.Features.{stands}
 
 -- a case that isn't written (RFC 7950, 7.9.2)
@@ -53,20 +54,24 @@ abbrev pub left_with : Part → Forest Part → Forest Part → Forest Part → 
 left_with p below standing after = if is_implied_case p && is_all_cut below standing then after
     else node (with_default_on p below standing) standing after
 
-module _ (holds : Forest Source → Bool) where
-  -- the parts of a row of which all conditions hold, each with those below it that stand
+module _ (test : Part → Bool) where
+  -- the parts of a row that pass a test, each with those below it that stand
   unfoldable pub standing_by : Forest Part → Forest Part
   standing_by end = end
   standing_by (node p below after) =
-      if holds p.own then left_with p below (standing_by below) (standing_by after) else standing_by after
+      if test p then left_with p below (standing_by below) (standing_by after) else standing_by after
+
+-- whether a part is no operation, and all its conditions hold
+abbrev pub is_standing : Language → Forest Source → Part → Bool
+is_standing language modules p = not (is_operation language p.source) && stands language modules p.own
 
 -- those of a set of modules
 abbrev pub standing : Language → Forest Source → Forest Part → Forest Part
-standing language modules parts = standing_by (stands language modules) parts
+standing language modules parts = standing_by (is_standing language modules) parts
 
 -- ---- where all stand
 
--- whether all conditions of all parts of a row hold
-unfoldable pub all_stand : (Forest Source → Bool) → Forest Part → Bool
-all_stand holds end = true
-all_stand holds (node p below after) = holds p.own && (all_stand holds below && all_stand holds after)
+-- whether all parts of a row pass a test
+unfoldable pub all_stand : (Part → Bool) → Forest Part → Bool
+all_stand test end = true
+all_stand test (node p below after) = test p && (all_stand test below && all_stand test after)

@@ -11,7 +11,7 @@ use Rattle.yspec.specs.linking.StatementBreaks as narrow
 use Rattle.yspec.specs.linking.StatementBreaks.{is_prefixed}
 use Rattle.yspec_wide.specs.Language.{Language, core, rfc, YangVersion, yang_1_1, version_below}
 use Rattle.yspec_wide.specs.Words.{Word, known, same_word, word_named}
-use Rattle.yspec_wide.specs.Table.{WideForm, fits_in, Allowed, rule_in}
+use Rattle.yspec_wide.specs.Table.{WideForm, fits_in, takes_none, Allowed, rule_in}
 
 -- that in which a module is read: under the core every text is one of YANG 1.1
 abbrev pub version_in : Language → Forest Statement → YangVersion
@@ -23,9 +23,9 @@ version_in (rfc wide) below = version_below below
 abbrev pub has_word : Language → Word → Statement → Bool
 has_word language w s = option_map_or (same_word w) (word_named language s.keyword) false
 
--- an argument that is missing or not of its form
+-- an argument that is missing or not of its form, or where there should be none
 abbrev pub argument_breaks : ℕ → YangVersion → WideForm → Statement → List Break
-argument_breaks m version form s = when (not (option_map_or (fits_in version form) s.argument false)) (broken 3 m s.line)
+argument_breaks m version form s = when (not (option_map_or (fits_in version form) s.argument (takes_none form))) (broken 3 m s.line)
 
 -- under the core only YANG 1.1 is read, and it must be said
 abbrev pub is_version : Text → Bool

@@ -5,9 +5,9 @@ use Rattle.yspec.specs.linking.Keyword as keyword
 use Rattle.yspec.specs.linking.Keyword.{Keyword}
 use Rattle.yspec.specs.linking.Arguments.{Form, identifier_form, any_form, fits}
 use Rattle.yspec.specs.linking.Table as narrow
-use Rattle.yspec.specs.linking.Table.{Count, at_most_one, any_number, rule_of, in_range, doc, texts}
+use Rattle.yspec.specs.linking.Table.{Count, at_most_one, any_number, rule_of, in_range, doc, texts, definitions, nodes}
 use Rattle.yspec_wide.specs.Language.{Language, core, rfc, YangVersion, yang_1, yang_1_1}
-use Rattle.yspec_wide.specs.Words.{Word, known, feature_word, if_feature_word, pattern_word, modifier_word, must_word, when_word, same_word}
+use Rattle.yspec_wide.specs.Words.{Word, known, feature_word, if_feature_word, pattern_word, modifier_word, must_word, when_word, rpc_word, action_word, notification_word, input_word, output_word, anydata_word, anyxml_word, same_word}
 use Rattle.yspec_wide.specs.Expressions.{expression_of}
 
 pub record Allowed : Type 0 where
@@ -24,6 +24,8 @@ pub data WideForm : Type 0 where
   if_feature_form : WideForm
   -- `invert-match`
   modifier_form : WideForm
+  -- that there is none
+  no_argument : WideForm
 
 pub record Rule : Type 0 where
   pub form : WideForm
@@ -44,6 +46,11 @@ fits_in version (as_before form) t = fits_before version form t
 fits_in version prefix_form t = fits identifier_form t
 fits_in version if_feature_form t = is_some (expression_of version t)
 fits_in version modifier_form t = is_text t (codes "invert-match")
+fits_in version no_argument t = false
+
+abbrev pub takes_none : WideForm → Bool
+takes_none no_argument = true
+takes_none _ = false
 
 -- ---- the core's rows
 
@@ -61,6 +68,9 @@ rule_before r = record { form = as_before r.form; substatements = row_before r.s
 abbrev pub many : Word → Allowed
 many w = record { word = w; count = any_number }
 
+abbrev pub perhaps : Word → Allowed
+perhaps w = record { word = w; count = at_most_one }
+
 abbrev pub conditions : List Allowed
 conditions = many if_feature_word ∷ []
 
@@ -68,18 +78,27 @@ conditions = many if_feature_word ∷ []
 abbrev pub constraints : List Allowed
 constraints = many if_feature_word ∷ many must_word ∷ []
 
+-- those of nodes below which actions and notifications may stand (RFC 7950, 7.15 and 7.16)
+abbrev pub operations : List Allowed
+operations = many action_word ∷ many notification_word ∷ []
+
+-- nodes without a type (RFC 7950, 7.10 and 7.11)
+abbrev pub anything : List Allowed
+anything = many anydata_word ∷ many anyxml_word ∷ []
+
 -- the substatements that a statement of the core may bear besides
 abbrev pub added : Keyword → List Allowed
-added keyword.module_word = many feature_word ∷ []
-added keyword.container_word = constraints
+added keyword.module_word = anything ++ (many feature_word ∷ many rpc_word ∷ many notification_word ∷ [])
+added keyword.grouping_word = anything ++ operations
+added keyword.container_word = anything ++ (constraints ++ operations)
 added keyword.leaf_word = constraints
 added keyword.leaf_list_word = constraints
-added keyword.list_word = constraints
-added keyword.choice_word = conditions
-added keyword.case_word = conditions
+added keyword.list_word = anything ++ (constraints ++ operations)
+added keyword.choice_word = anything ++ conditions
+added keyword.case_word = anything ++ conditions
 added keyword.uses_word = conditions
 added keyword.refine_word = constraints
-added keyword.augment_word = conditions
+added keyword.augment_word = anything ++ (conditions ++ operations)
 added keyword.identity_word = conditions
 added keyword.enum_word = conditions
 added keyword.bit_word = conditions
@@ -112,6 +131,12 @@ lacks keyword.bit_word if_feature_word = true
 lacks keyword.refine_word if_feature_word = true
 lacks keyword.leaf_list_word (known keyword.default_word) = true
 lacks keyword.choice_word (known keyword.choice_word) = true
+lacks _ action_word = true
+lacks _ anydata_word = true
+lacks keyword.container_word notification_word = true
+lacks keyword.list_word notification_word = true
+lacks keyword.grouping_word notification_word = true
+lacks keyword.augment_word notification_word = true
 lacks _ _ = false
 
 -- of which it has one at most
@@ -147,7 +172,36 @@ wide_form k form = as_before form
 -- YANG 1 has no `modifier` (RFC 7950, 1.1).
 abbrev pub in_pattern : YangVersion → List Allowed
 in_pattern yang_1 = row_before in_range
-in_pattern yang_1_1 = record { word = modifier_word; count = at_most_one } ∷ row_before in_range
+in_pattern yang_1_1 = perhaps modifier_word ∷ row_before in_range
+
+-- ---- operations (RFC 7950, 7.14 to 7.16; RFC 6020, 7.13 and 7.14)
+
+-- of an `rpc` and of an `action`
+abbrev pub in_call : List Allowed
+in_call = perhaps input_word ∷ perhaps output_word ∷ many if_feature_word ∷ row_before (definitions ++ doc)
+
+-- In YANG 1 no `must` stands in them.
+abbrev pub bearing_must : YangVersion → List Allowed
+bearing_must yang_1 = []
+bearing_must yang_1_1 = many must_word ∷ []
+
+-- Of nodes without a type it has `anyxml` alone.
+abbrev pub bearing_anything : YangVersion → List Allowed
+bearing_anything yang_1 = many anyxml_word ∷ []
+bearing_anything yang_1_1 = anything
+
+-- of an `input` and of an `output`
+abbrev pub in_side : YangVersion → List Allowed
+in_side version = bearing_must version ++ (bearing_anything version ++ row_before (definitions ++ nodes))
+
+abbrev pub in_notification : YangVersion → List Allowed
+in_notification version =
+    many if_feature_word ∷ (bearing_must version ++ (bearing_anything version ++ row_before (definitions ++ nodes ++ doc)))
+
+-- ---- nodes without a type (RFC 7950, 7.10 and 7.11; RFC 6020, 7.10)
+
+abbrev pub in_anything : List Allowed
+in_anything = one_when ++ (constraints ++ row_before (narrow.perhaps keyword.config_word ∷ narrow.perhaps keyword.mandatory_word ∷ doc))
 
 -- ---- the table
 
@@ -160,6 +214,13 @@ wide_rule version pattern_word = record { form = as_before any_form; substatemen
 wide_rule version modifier_word = record { form = modifier_form; substatements = [] }
 wide_rule version must_word = record { form = as_before any_form; substatements = row_before in_range }
 wide_rule version when_word = record { form = as_before any_form; substatements = row_before texts }
+wide_rule version rpc_word = record { form = as_before identifier_form; substatements = in_call }
+wide_rule version action_word = record { form = as_before identifier_form; substatements = in_call }
+wide_rule version notification_word = record { form = as_before identifier_form; substatements = in_notification version }
+wide_rule version input_word = record { form = no_argument; substatements = in_side version }
+wide_rule version output_word = record { form = no_argument; substatements = in_side version }
+wide_rule version anydata_word = record { form = as_before identifier_form; substatements = in_anything }
+wide_rule version anyxml_word = record { form = as_before identifier_form; substatements = in_anything }
 
 -- nothing is known of a keyword that the core doesn't have
 abbrev pub core_rule : Word → Rule

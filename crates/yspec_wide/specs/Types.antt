@@ -1,6 +1,6 @@
 -- Types and defaults where names of values bear conditions: an enum, a bit or an identity that is off is no value of the type,
 -- and a default rests on none that bears a condition, on or off (RFC 7950, 7.6.4, 7.7.4, 7.20.2, 9.6.4, 9.7.4 and 9.10.2).
-use Rattle.std.specs.Prelude.{ℕ, ℤ, pos, zero, suc, ◌&&◌, ◌||◌, Bool, true, false, not, List, [], ◌∷◌, map, filter, Option, None, is_some, option_map, option_and_then, if◌then◌else◌, unwrap_or, nat_lt}
+use Rattle.std.specs.Prelude.{ℕ, ℤ, pos, zero, suc, ◌&&◌, ◌||◌, Bool, true, false, not, List, [], ◌∷◌, map, codes, filter, Option, None, is_some, option_map, option_and_then, if◌then◌else◌, unwrap_or, nat_lt}
 use Rattle.std.specs.List.{list_any, list_all, filter_map}
 use Rattle.std.specs.Option.{option_map_or}
 use Rattle.yspec.specs.Forest.{Forest, end, node, row, size, first_of, relabelled}
@@ -21,9 +21,10 @@ use Rattle.yspec.specs.linking.SchemaNodes as schema_nodes
 use Rattle.yspec.specs.linking.SchemaNodes.{is_mandatory, min_elements_of, own_defaults, is_key}
 use Rattle.yspec.specs.linking.NodeBreaks.{is_empty, has_equal, is_wrong_case, broken_at}
 use Rattle.yspec.specs.schema.Breaks.{Break, when}
-use Rattle.yspec.specs.schema.Schema.{SchemaNode, Kind, leaf, leaf_list, LeafType, Absence, mandatory, key}
+use Rattle.yspec.specs.schema.Schema.{SchemaNode, Kind, leaf, leaf_list, JsonForm, by_type, any_value, any_object, LeafType, Absence, mandatory, key}
 use Rattle.yspec_wide.specs.Language.{Language, core, rfc}
-use Rattle.yspec_wide.specs.Sources.{bears_condition}
+use Rattle.yspec_wide.specs.Words.{anydata_word, anyxml_word}
+use Rattle.yspec_wide.specs.Sources.{bears_condition, is_added}
 use Rattle.yspec_wide.specs.Features.{stands}
 use Rattle.yspec_wide.specs.VersionBreaks.{is_of_yang_1, has_distinct_items}
 use Rattle.yspec_wide.specs.Guards.{is_guarded, asked_kind}
@@ -210,12 +211,23 @@ abbrev pub default_values_in : Language → Plan → Planned → List Val
 default_values_in language plan p = filter_map
     (λ t. option_and_then (λ type. schema_nodes.value_stated plan type t) (standing_type language plan p)) (default_texts_in language plan p)
 
+-- An `anydata` has an object, an `anyxml` any value (RFC 7951, 5.5 and 5.6).
+abbrev pub form_of : Language → Source → JsonForm
+form_of language s = if is_added language anydata_word s then any_object else (if is_added language anyxml_word s then any_value else by_type)
+
+-- what stands for a type in a diagram
+abbrev pub form_name : JsonForm → Text → Text
+form_name by_type name = name
+form_name any_value name = codes "<anyxml>"
+form_name any_object name = codes "<anydata>"
+
 abbrev pub leaf_type_in : Language → Plan → Planned → LeafType
 leaf_type_in language plan p = record {
-  name = schema_nodes.type_name p;
+  name = form_name (form_of language p.part.source) (schema_nodes.type_name p);
   type = unwrap_or (standing_type language plan p) string_type;
   target = option_map schema_nodes.number_in (target_of plan p);
   targets = targets_of plan (standing_type language plan) p (meant_in_of (standing_names language plan.modules) plan p);
+  form = form_of language p.part.source;
 }
 
 abbrev pub absence_in : Language → Plan → Planned → Absence

@@ -65,7 +65,7 @@ pub fn kept_types()
     ensures { (plan p : _) → type_of_kept all_names plan p ≡ type_of plan p }
 {}
 
-/// Where all conditions of all parts hold, all of them stand as they are.
-pub fn all_conditions_hold()
-    ensures { (holds parts : _) → all_stand holds parts ≡ true → standing_by holds parts ≡ parts }
+/// Where all parts pass a test, all of them stand as they are.
+pub fn all_stand_as_they_are()
+    ensures { (test parts : _) → all_stand test parts ≡ true → standing_by test parts ≡ parts }
 {}

@@ -3,11 +3,13 @@
 //! compute both sides.
 #![tactic(auto)]
 
+pub mod anything;
 pub mod binaries;
 pub mod expressions;
 pub mod features;
 pub mod guards;
 pub mod laws;
+pub mod operations;
 pub mod patterns;
 pub mod referring;
 pub mod restricting;

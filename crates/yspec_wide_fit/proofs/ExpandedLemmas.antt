@@ -18,7 +18,7 @@ use Rattle.yspec.specs.linking.Augments.{Augment, augments_in, augments_of, targ
 use Rattle.yspec.proofs.LinkingProofs.KeywordLemmas.{of_each, same_is}
 use Rattle.yspec.proofs.LinkingProofs.ExpansionLemmas.{SameNodes, same_itself}
 use Rattle.yspec_wide.specs.Language.{Language}
-use Rattle.yspec_wide.specs.Expansion.{conditioned, is_fit_in, overridden_in, after_refine_in, refined_in, stands_for_in, expanded_in_from, expanded_parts_in, added_nodes_in, may_take_in, is_choice_in_choice, is_ready_in, applied_in, augmented_in}
+use Rattle.yspec_wide.specs.Expansion.{conditioned, is_closed, is_fit_in, overridden_in, after_refine_in, refined_in, stands_for_in, expanded_in_from, expanded_parts_in, added_nodes_in, may_take_in, is_choice_in_choice, is_ready_in, applied_in, augmented_in}
 use Rattle.yspec_wide.specs.Standing.{is_implied_case, is_all_cut, is_default_off, without_default, standing_by}
 use Rattle.yspec_wide_fit.proofs.LegalLemmas.{may_stand, IsLegal, AreModules, has_none}
 use Rattle.yspec_wide_fit.proofs.SoundLemmas.{is_leaf_word, is_choice_part, Row, elsewhere, anywhere, row_below, AreSound, sound_joined, sound_cases, same_sound, row_anywhere, row_legal, row_none, AreLaid, laid_right, sound_replaced}
@@ -332,12 +332,13 @@ module _ (language : Language) (count : ℕ) (modules : Forest Source) (right : 
   -- an augment that is ready in a language is so without one
   takes_of : (a : Augment) (o : Option Part) → option_map_or (may_take_in language modules a) o false ≡ true → option_map_or (λ p. may_take p a.given) o false ≡ true
   takes_of a None e = absurd cc
-  takes_of a (Some p) e = by (may_be_augmented p.source.keyword) (not (is_some (first_with (kept_out p) a.given))) (not (is_choice_in_choice language modules a p)) e
+  takes_of a (Some p) e = by (may_be_augmented p.source.keyword) (not (is_some (first_with (kept_out p) a.given))) (not (is_choice_in_choice language modules a p))
+      (not (is_closed language a.given p.source)) e
     where
-      by : (x y z : Bool) → (x && (y && z)) ≡ true → (x && y) ≡ true
-      by true true z e = refl
-      by true false z e = absurd cc
-      by false y z e = absurd cc
+      by : (x y z w : Bool) → ((x && (y && z)) && w) ≡ true → (x && y) ≡ true
+      by true true z w e = refl
+      by true false z w e = absurd cc
+      by false y z w e = absurd cc
 
   sound_in_turn : (times : ℕ) (nodes : Forest Part) (waiting : List Augment) → AreSound count elsewhere nodes → AllAdd language count modules right waiting
       → AreSound count elsewhere (in_turn (is_ready_in language modules) (applied_in language modules) times nodes waiting).0
@@ -368,11 +369,11 @@ sound_augmented language plan f legal =
 
 -- ---- those that stand
 
-pub sound_standing : (holds : Forest Source → Bool) (count : ℕ) (r : Row) (f : Forest Part) → AreSound count r f → AreSound count r (standing_by holds f)
+pub sound_standing : (holds : Part → Bool) (count : ℕ) (r : Row) (f : Forest Part) → AreSound count r f → AreSound count r (standing_by holds f)
 unfolding standing_by
 sound_standing holds count r end sound = tt
 sound_standing holds count r (node p below after) sound =
-    by (holds p.own) (is_implied_case p && is_all_cut below (standing_by holds below)) (is_default_off p below (standing_by holds below))
+    by (holds p) (is_implied_case p && is_all_cut below (standing_by holds below)) (is_default_off p below (standing_by holds below))
     (sound_standing holds count (row_below (is_choice_part p)) below sound.2) (sound_standing holds count r after sound.3)
   where
     inner : Forest Part

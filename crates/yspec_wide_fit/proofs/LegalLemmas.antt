@@ -11,7 +11,7 @@ use Rattle.yspec.specs.Forest.{Forest, end, node, join, size}
 use Rattle.yspec.specs.text.Text.{Text, is_text, is_identifier}
 use Rattle.yspec.specs.text.Statement.{Statement}
 use Rattle.yspec.specs.schema.Breaks.{Break, broken}
-use Rattle.yspec.specs.linking.Keyword.{Keyword, same_keyword, keywords, module_word, extension_word, enum_word, bit_word, value_word, position_word, error_message_word, error_app_tag_word}
+use Rattle.yspec.specs.linking.Keyword.{Keyword, same_keyword, keyword_named, keywords, module_word, extension_word, container_word, leaf_word, enum_word, bit_word, value_word, position_word, error_message_word, error_app_tag_word}
 use Rattle.yspec.specs.linking.Arguments.{identifier_form, fits}
 use Rattle.yspec.specs.linking.Table as narrow
 use Rattle.yspec.specs.linking.Table.{rule_of, doc, in_range, texts}
@@ -22,9 +22,10 @@ use Rattle.yspec.specs.linking.Parts.{defines_node}
 use Rattle.yspec.proofs.LinkingProofs.BreakLemmas.{none_first, none_second, unbroken}
 use Rattle.yspec.proofs.LinkingProofs.KeywordLemmas.{of_each, same_is, by_definition, prefixed_is_none}
 use Rattle.yspec.proofs.LinkingProofs.LegalLemmas.{identifier_fits}
-use Rattle.yspec_wide.specs.Language.{Language, core, rfc, YangVersion, yang_1, yang_1_1}
-use Rattle.yspec_wide.specs.Words.{Word, known, feature_word, if_feature_word, pattern_word, modifier_word, must_word, when_word, same_word, word_text, or_added, or_unjudged, word_named}
-use Rattle.yspec_wide.specs.Table.{WideForm, as_before, fits_in, Allowed, row_before, added, bearing_when, lacks, has_fewer, with_fewer, of_version, is_version_row, with_version_free, rule_in}
+use Rattle.yspec.specs.schema.Schema.{argument_text}
+use Rattle.yspec_wide.specs.Language.{Language, Unjudged, core, rfc, YangVersion, yang_1, yang_1_1}
+use Rattle.yspec_wide.specs.Words.{Word, known, feature_word, if_feature_word, pattern_word, modifier_word, must_word, when_word, rpc_word, action_word, notification_word, input_word, output_word, anydata_word, anyxml_word, same_word, word_text, or_added, or_unjudged, word_named}
+use Rattle.yspec_wide.specs.Table.{WideForm, as_before, no_argument, fits_in, in_call, in_side, in_notification, in_anything, Allowed, row_before, added, bearing_when, lacks, has_fewer, with_fewer, of_version, is_version_row, with_version_free, rule_in}
 use Rattle.yspec_wide.specs.StatementBreaks.{version_in, argument_breaks, own_breaks, is_allowed, known_breaks, named_breaks, breaks_at, substatements_of, row_breaks_in, top_breaks, breaks_in_from}
 use Rattle.yspec_wide.specs.Sources.{keyword_kept, keyword_restricting, kept_keyword_in, may_restrict, restricts_below, kept_in, sources_in_from}
 
@@ -69,8 +70,32 @@ none_is home allowed s test extended none legal = by (same_keyword extension_wor
 
 -- ---- what the table lets stand there
 
+-- the keywords that are kept as others
+abbrev is_node : Word → Bool
+is_node rpc_word = true
+is_node action_word = true
+is_node notification_word = true
+is_node input_word = true
+is_node output_word = true
+is_node anydata_word = true
+is_node anyxml_word = true
+is_node _ = false
+
+-- as which they are
+abbrev keyword_for : Word → Keyword
+keyword_for anydata_word = leaf_word
+keyword_for anyxml_word = leaf_word
+keyword_for _ = container_word
+
+-- these stand where those may
+abbrev Hosts : List Allowed → List narrow.Allowed → Type 0
+Hosts rows allowed = (w : Word) → is_node w ≡ true → is_allowed w rows ≡ true → narrow_breaks.is_allowed (keyword_for w) allowed ≡ true
+
+abbrev CoversCore : List Allowed → List narrow.Allowed → Type 0
+CoversCore rows allowed = (k : Keyword) → is_allowed (known k) rows ≡ true → narrow_breaks.is_allowed k allowed ≡ true
+
 abbrev Covers : List Allowed → List narrow.Allowed → Type 0
-Covers rows allowed = (k : Keyword) → is_allowed (known k) rows ≡ true → narrow_breaks.is_allowed k allowed ≡ true
+Covers rows allowed = CoversCore rows allowed × Hosts rows allowed
 
 before_is : (k : Keyword) (rows : List narrow.Allowed) → is_allowed (known k) (row_before rows) ≡ narrow_breaks.is_allowed k rows
 before_is k [] = refl
@@ -153,9 +178,9 @@ documented : (j k : Keyword) → narrow_breaks.is_allowed j (rule_of k).substate
 documented j k e = behind j in_name (in_range ++ (doc ++ (rule_of k).substatements))
     (behind j in_range (doc ++ (rule_of k).substatements) (behind j doc (rule_of k).substatements e))
 
-covers_known : (language : Language) (version : YangVersion) (k : Keyword) → Covers (rule_in language version (known k)).substatements (may_stand k)
-covers_known core version k j e = documented j k (sym (before_is j (rule_of k).substatements) ∙ e)
-covers_known (rfc wide) version k j e =
+covers_core : (language : Language) (version : YangVersion) (k : Keyword) → CoversCore (rule_in language version (known k)).substatements (may_stand k)
+covers_core core version k j e = documented j k (sym (before_is j (rule_of k).substatements) ∙ e)
+covers_core (rfc wide) version k j e =
     let rows = row_before (rule_of k).substatements in
     let behind_when = of_version version k (map with_version_free rows ++ added k) in
     let later = no_first (is_allowed (known j) (bearing_when k)) (is_allowed (known j) behind_when) (none_bearing k j)
@@ -164,6 +189,72 @@ covers_known (rfc wide) version k j e =
     let own = or_none (is_allowed (known j) (map with_version_free rows)) (is_allowed (known j) (added k)) (none_added k j)
     (sym (list_any-append (λ (a : Allowed). same_word a.word (known j)) (map with_version_free rows) (added k)) ∙ whole) in
     documented j k (sym (before_is j (rule_of k).substatements) ∙ (sym (recounted with_version_free free_word (known j) rows) ∙ own))
+
+implied : (a b : Bool) → (not a || b) ≡ true → a ≡ true → b ≡ true
+implied true b e is = e
+implied false b e is = absurd cc
+
+abbrev hosts_at : Language → YangVersion → Word → Keyword → Bool
+hosts_at language version w k = not (is_allowed w (rule_in language version (known k)).substatements) || narrow_breaks.is_allowed (keyword_for w) (may_stand k)
+
+hosts_known : (language : Language) (version : YangVersion) (k : Keyword) → Hosts (rule_in language version (known k)).substatements (may_stand k)
+hosts_known core version k rpc_word holds = implied _ _ (of_each (hosts_at core version rpc_word) refl k)
+hosts_known core version k action_word holds = implied _ _ (of_each (hosts_at core version action_word) refl k)
+hosts_known core version k notification_word holds = implied _ _ (of_each (hosts_at core version notification_word) refl k)
+hosts_known core version k input_word holds = implied _ _ (of_each (hosts_at core version input_word) refl k)
+hosts_known core version k output_word holds = implied _ _ (of_each (hosts_at core version output_word) refl k)
+hosts_known core version k anydata_word holds = implied _ _ (of_each (hosts_at core version anydata_word) refl k)
+hosts_known core version k anyxml_word holds = implied _ _ (of_each (hosts_at core version anyxml_word) refl k)
+hosts_known (rfc wide) yang_1 k rpc_word holds = implied _ _ (of_each (hosts_at (rfc wide) yang_1 rpc_word) refl k)
+hosts_known (rfc wide) yang_1 k action_word holds = implied _ _ (of_each (hosts_at (rfc wide) yang_1 action_word) refl k)
+hosts_known (rfc wide) yang_1 k notification_word holds = implied _ _ (of_each (hosts_at (rfc wide) yang_1 notification_word) refl k)
+hosts_known (rfc wide) yang_1 k input_word holds = implied _ _ (of_each (hosts_at (rfc wide) yang_1 input_word) refl k)
+hosts_known (rfc wide) yang_1 k output_word holds = implied _ _ (of_each (hosts_at (rfc wide) yang_1 output_word) refl k)
+hosts_known (rfc wide) yang_1 k anydata_word holds = implied _ _ (of_each (hosts_at (rfc wide) yang_1 anydata_word) refl k)
+hosts_known (rfc wide) yang_1 k anyxml_word holds = implied _ _ (of_each (hosts_at (rfc wide) yang_1 anyxml_word) refl k)
+hosts_known (rfc wide) yang_1_1 k rpc_word holds = implied _ _ (of_each (hosts_at (rfc wide) yang_1_1 rpc_word) refl k)
+hosts_known (rfc wide) yang_1_1 k action_word holds = implied _ _ (of_each (hosts_at (rfc wide) yang_1_1 action_word) refl k)
+hosts_known (rfc wide) yang_1_1 k notification_word holds = implied _ _ (of_each (hosts_at (rfc wide) yang_1_1 notification_word) refl k)
+hosts_known (rfc wide) yang_1_1 k input_word holds = implied _ _ (of_each (hosts_at (rfc wide) yang_1_1 input_word) refl k)
+hosts_known (rfc wide) yang_1_1 k output_word holds = implied _ _ (of_each (hosts_at (rfc wide) yang_1_1 output_word) refl k)
+hosts_known (rfc wide) yang_1_1 k anydata_word holds = implied _ _ (of_each (hosts_at (rfc wide) yang_1_1 anydata_word) refl k)
+hosts_known (rfc wide) yang_1_1 k anyxml_word holds = implied _ _ (of_each (hosts_at (rfc wide) yang_1_1 anyxml_word) refl k)
+hosts_known language version k (known j) holds = absurd cc
+hosts_known language version k feature_word holds = absurd cc
+hosts_known language version k if_feature_word holds = absurd cc
+hosts_known language version k pattern_word holds = absurd cc
+hosts_known language version k modifier_word holds = absurd cc
+hosts_known language version k must_word holds = absurd cc
+hosts_known language version k when_word holds = absurd cc
+
+covers_known : (language : Language) (version : YangVersion) (k : Keyword) → Covers (rule_in language version (known k)).substatements (may_stand k)
+covers_known language version k = (covers_core language version k, hosts_known language version k)
+
+-- a row in which none of these may stand
+hosts_none : (rows : List Allowed) (allowed : List narrow.Allowed) → is_allowed rpc_word rows ≡ false → is_allowed action_word rows ≡ false
+    → is_allowed notification_word rows ≡ false → is_allowed input_word rows ≡ false → is_allowed output_word rows ≡ false
+    → is_allowed anydata_word rows ≡ false → is_allowed anyxml_word rows ≡ false → Hosts rows allowed
+hosts_none rows allowed rpc action notification input output anydata anyxml = by
+  where
+    no : {A : Type 0} (b : Bool) → b ≡ false → b ≡ true → A
+    no true none e = absurd cc
+    no false none e = absurd cc
+
+    by : Hosts rows allowed
+    by rpc_word holds = no _ rpc
+    by action_word holds = no _ action
+    by notification_word holds = no _ notification
+    by input_word holds = no _ input
+    by output_word holds = no _ output
+    by anydata_word holds = no _ anydata
+    by anyxml_word holds = no _ anyxml
+    by (known j) holds = absurd cc
+    by feature_word holds = absurd cc
+    by if_feature_word holds = absurd cc
+    by pattern_word holds = absurd cc
+    by modifier_word holds = absurd cc
+    by must_word holds = absurd cc
+    by when_word holds = absurd cc
 
 -- behind a row of what the core doesn't have
 later : (w : Word) (j : Keyword) (rows : List Allowed) → not (same_word w (known j)) ≡ true → (same_word w (known j) || is_allowed (known j) rows) ≡ true
@@ -174,29 +265,108 @@ later w j rows other e = by (same_word w (known j)) (is_allowed (known j) rows) 
     by true b is e = absurd cc
     by false b is e = e
 
+-- the core knows nothing of what it doesn't have
+covers_nothing : (allowed : List narrow.Allowed) → Covers [] allowed
+covers_nothing allowed = (λ j e. absurd cc, hosts_none [] allowed refl refl refl refl refl refl refl)
+
 covers_feature : (language : Language) (version : YangVersion) → Covers (rule_in language version feature_word).substatements (may_stand extension_word)
-covers_feature core version j e = absurd cc
-covers_feature (rfc wide) version j e = behind j in_name (in_range ++ doc) (behind j in_range doc
-    (sym (before_is j doc) ∙ later if_feature_word j (row_before doc) (of_each (λ j. not (same_word if_feature_word (known j))) refl j) e))
+covers_feature core version = covers_nothing (may_stand extension_word)
+covers_feature (rfc wide) version = (
+  λ j e. behind j in_name (in_range ++ doc) (behind j in_range doc
+      (sym (before_is j doc) ∙ later if_feature_word j (row_before doc) (of_each (λ j. not (same_word if_feature_word (known j))) refl j) e)),
+  hosts_none ((rule_in (rfc wide) version feature_word).substatements) (may_stand extension_word) refl refl refl refl refl refl refl,
+)
 
 covers_condition : (language : Language) (version : YangVersion) → Covers (rule_in language version if_feature_word).substatements (may_stand extension_word)
-covers_condition core version j e = absurd cc
-covers_condition (rfc wide) version j e = absurd cc
+covers_condition core version = covers_nothing (may_stand extension_word)
+covers_condition (rfc wide) version = covers_nothing (may_stand extension_word)
 
 covers_pattern : (language : Language) (version : YangVersion) → Covers (rule_in language version pattern_word).substatements (may_stand extension_word)
-covers_pattern core version j e = absurd cc
-covers_pattern (rfc wide) yang_1 j e = behind j in_name (in_range ++ doc) (ahead j in_range doc (sym (before_is j in_range) ∙ e))
-covers_pattern (rfc wide) yang_1_1 j e = behind j in_name (in_range ++ doc) (ahead j in_range doc
-    (sym (before_is j in_range) ∙ later modifier_word j (row_before in_range) (of_each (λ j. not (same_word modifier_word (known j))) refl j) e))
+covers_pattern core version = covers_nothing (may_stand extension_word)
+covers_pattern (rfc wide) yang_1 = (
+  λ j e. behind j in_name (in_range ++ doc) (ahead j in_range doc (sym (before_is j in_range) ∙ e)),
+  hosts_none ((rule_in (rfc wide) yang_1 pattern_word).substatements) (may_stand extension_word) refl refl refl refl refl refl refl,
+)
+covers_pattern (rfc wide) yang_1_1 = (
+  λ j e. behind j in_name (in_range ++ doc) (ahead j in_range doc
+      (sym (before_is j in_range) ∙ later modifier_word j (row_before in_range) (of_each (λ j. not (same_word modifier_word (known j))) refl j) e)),
+  hosts_none ((rule_in (rfc wide) yang_1_1 pattern_word).substatements) (may_stand extension_word) refl refl refl refl refl refl refl,
+)
 
 covers_modifier : (language : Language) (version : YangVersion) → Covers (rule_in language version modifier_word).substatements (may_stand extension_word)
-covers_modifier core version j e = absurd cc
-covers_modifier (rfc wide) version j e = absurd cc
+covers_modifier core version = covers_nothing (may_stand extension_word)
+covers_modifier (rfc wide) version = covers_nothing (may_stand extension_word)
 
 covers_when : (language : Language) (version : YangVersion) → Covers (rule_in language version when_word).substatements (may_stand extension_word)
-covers_when core version j e = absurd cc
-covers_when (rfc wide) version j e = behind j in_name (in_range ++ doc) (ahead j in_range doc
-    (behind j (narrow.perhaps error_message_word ∷ narrow.perhaps error_app_tag_word ∷ []) texts (sym (before_is j texts) ∙ e)))
+covers_when core version = covers_nothing (may_stand extension_word)
+covers_when (rfc wide) version = (
+  λ j e. behind j in_name (in_range ++ doc) (ahead j in_range doc
+      (behind j (narrow.perhaps error_message_word ∷ narrow.perhaps error_app_tag_word ∷ []) texts (sym (before_is j texts) ∙ e))),
+  hosts_none ((rule_in (rfc wide) version when_word).substatements) (may_stand extension_word) refl refl refl refl refl refl refl,
+)
+
+-- what may stand in an operation, in its `input` or in its `output` may stand in a container
+abbrev held_at : List Allowed → Keyword → Bool
+held_at rows j = not (is_allowed (known j) rows) || narrow_breaks.is_allowed j (may_stand container_word)
+
+hosts_container : (w : Word) → is_node w ≡ true → narrow_breaks.is_allowed (keyword_for w) (may_stand container_word) ≡ true
+hosts_container rpc_word holds = refl
+hosts_container action_word holds = refl
+hosts_container notification_word holds = refl
+hosts_container input_word holds = refl
+hosts_container output_word holds = refl
+hosts_container anydata_word holds = refl
+hosts_container anyxml_word holds = refl
+hosts_container (known j) holds = absurd cc
+hosts_container feature_word holds = absurd cc
+hosts_container if_feature_word holds = absurd cc
+hosts_container pattern_word holds = absurd cc
+hosts_container modifier_word holds = absurd cc
+hosts_container must_word holds = absurd cc
+hosts_container when_word holds = absurd cc
+
+covers_held : (rows : List Allowed) → ((j : Keyword) → held_at rows j ≡ true) → Covers rows (may_stand container_word)
+covers_held rows all = (λ j. implied _ _ (all j), λ w holds e. hosts_container w holds)
+
+-- what may stand in a node without a type may stand in a leaf
+covers_anything : Covers in_anything (may_stand leaf_word)
+covers_anything = (
+  λ j. implied _ _ (of_each (λ j. not (is_allowed (known j) in_anything) || narrow_breaks.is_allowed j (may_stand leaf_word)) refl j),
+  hosts_none in_anything (may_stand leaf_word) refl refl refl refl refl refl refl,
+)
+
+covers_node : (language : Language) (version : YangVersion) (w : Word) → is_node w ≡ true → Covers (rule_in language version w).substatements (may_stand (keyword_for w))
+covers_node core version (known j) holds = absurd cc
+covers_node core version feature_word holds = absurd cc
+covers_node core version if_feature_word holds = absurd cc
+covers_node core version pattern_word holds = absurd cc
+covers_node core version modifier_word holds = absurd cc
+covers_node core version must_word holds = absurd cc
+covers_node core version when_word holds = absurd cc
+covers_node core version rpc_word holds = covers_nothing (may_stand container_word)
+covers_node core version action_word holds = covers_nothing (may_stand container_word)
+covers_node core version notification_word holds = covers_nothing (may_stand container_word)
+covers_node core version input_word holds = covers_nothing (may_stand container_word)
+covers_node core version output_word holds = covers_nothing (may_stand container_word)
+covers_node core version anydata_word holds = covers_nothing (may_stand leaf_word)
+covers_node core version anyxml_word holds = covers_nothing (may_stand leaf_word)
+covers_node (rfc wide) version (known j) holds = absurd cc
+covers_node (rfc wide) version feature_word holds = absurd cc
+covers_node (rfc wide) version if_feature_word holds = absurd cc
+covers_node (rfc wide) version pattern_word holds = absurd cc
+covers_node (rfc wide) version modifier_word holds = absurd cc
+covers_node (rfc wide) version must_word holds = absurd cc
+covers_node (rfc wide) version when_word holds = absurd cc
+covers_node (rfc wide) version rpc_word holds = covers_held in_call (of_each (held_at in_call) refl)
+covers_node (rfc wide) version action_word holds = covers_held in_call (of_each (held_at in_call) refl)
+covers_node (rfc wide) yang_1 notification_word holds = covers_held (in_notification yang_1) (of_each (held_at (in_notification yang_1)) refl)
+covers_node (rfc wide) yang_1_1 notification_word holds = covers_held (in_notification yang_1_1) (of_each (held_at (in_notification yang_1_1)) refl)
+covers_node (rfc wide) yang_1 input_word holds = covers_held (in_side yang_1) (of_each (held_at (in_side yang_1)) refl)
+covers_node (rfc wide) yang_1_1 input_word holds = covers_held (in_side yang_1_1) (of_each (held_at (in_side yang_1_1)) refl)
+covers_node (rfc wide) yang_1 output_word holds = covers_held (in_side yang_1) (of_each (held_at (in_side yang_1)) refl)
+covers_node (rfc wide) yang_1_1 output_word holds = covers_held (in_side yang_1_1) (of_each (held_at (in_side yang_1_1)) refl)
+covers_node (rfc wide) version anydata_word holds = covers_anything
+covers_node (rfc wide) version anyxml_word holds = covers_anything
 
 -- ---- identifiers
 
@@ -209,21 +379,30 @@ form_is core version k defines = by_definition k (λ k. (rule_in core version (k
 form_is (rfc wide) version k defines =
     by_definition k (λ k. (rule_in (rfc wide) version (known k)).form ≡ as_before identifier_form) refl refl refl refl refl refl defines
 
-argument_fits : (version : YangVersion) (form : WideForm) (given : Option Text) → option_map_or (fits_in version form) given false ≡ true
-    → fits_in version form (unwrap_or given []) ≡ true
-argument_fits version form None e = absurd cc
-argument_fits version form (Some t) e = e
+argument_fits : (version : YangVersion) (given : Option Text) (other : Text) → option_map_or (fits_in version (as_before identifier_form)) given false ≡ true
+    → fits_in version (as_before identifier_form) (unwrap_or given other) ≡ true
+argument_fits version None other e = absurd cc
+argument_fits version (Some t) other e = e
+
+not_false : (b : Bool) → not b ≡ false → b ≡ true
+not_false true e = refl
+not_false false e = absurd cc
 
 identifier_is : (version : YangVersion) (m : ℕ) (form : WideForm) (s : Statement) → argument_breaks m version form s ≡ [] → form ≡ as_before identifier_form
-    → is_identifier (unwrap_or s.argument []) ≡ true
+    → is_identifier (argument_text s) ≡ true
 identifier_is version m form s e is =
-    let given = option_map_or (fits_in version form) s.argument false in
-    of_form version (unwrap_or s.argument []) (subst (λ f. fits_in version f (unwrap_or s.argument []) ≡ true) is
-    (argument_fits version form s.argument (turned given (unbroken (not given) 3 m s.line e))))
+    let plain : argument_breaks m version (as_before identifier_form) s ≡ [] = subst (λ f. argument_breaks m version f s ≡ []) is e in
+    let given = option_map_or (fits_in version (as_before identifier_form)) s.argument false in
+    of_form version (argument_text s) (argument_fits version s.argument s.keyword (not_false given (unbroken (not given) 3 m s.line plain)))
+
+-- an `input` or an `output` has no argument, so its keyword is its name
+named_itself : (version : YangVersion) (m : ℕ) (s : Statement) → argument_breaks m version no_argument s ≡ [] → argument_text s ≡ s.keyword
+named_itself version m s e =
+    by s.argument (not_false (option_map_or (fits_in version no_argument) s.argument true) (unbroken (not (option_map_or (fits_in version no_argument) s.argument true)) 3 m s.line e))
   where
-    turned : (b : Bool) → not b ≡ false → b ≡ true
-    turned true e = refl
-    turned false e = absurd cc
+    by : (given : Option Text) → option_map_or (fits_in version no_argument) given true ≡ true → unwrap_or given s.keyword ≡ s.keyword
+    by None e = refl
+    by (Some t) e = absurd cc
 
 -- ---- statements that are passed over
 
@@ -243,15 +422,110 @@ prefixed_none : (language : Language) (t : Text) → is_prefixed t ≡ true → 
 prefixed_none core t prefixed = ap (option_map known) (prefixed_is_none t prefixed)
 prefixed_none (rfc wide) t prefixed = ap (λ o. or_unjudged wide.unjudged o t) (ap (λ o. or_added o t) (prefixed_is_none t prefixed)
     ∙ (not_named t prefixed feature_word refl _ ∙ (not_named t prefixed if_feature_word refl _
-    ∙ (not_named t prefixed pattern_word refl _ ∙ not_named t prefixed modifier_word refl None))))
+    ∙ (not_named t prefixed pattern_word refl _ ∙ (not_named t prefixed modifier_word refl _
+    ∙ (not_named t prefixed rpc_word refl _ ∙ (not_named t prefixed action_word refl _ ∙ (not_named t prefixed notification_word refl _
+    ∙ (not_named t prefixed input_word refl _ ∙ (not_named t prefixed output_word refl _
+    ∙ (not_named t prefixed anydata_word refl _ ∙ not_named t prefixed anyxml_word refl None)))))))))))
     ∙ ap₂ (λ a b. cond (a && wide.unjudged.musts) (Some must_word) (cond (b && wide.unjudged.whens) (Some when_word) None))
     (unprefixed t prefixed (word_text must_word) refl) (unprefixed t prefixed (word_text when_word) refl)
 
--- ---- names that restrict types
+-- which keyword a text is that is `input` or `output`
+input_text : (a b c d e f g h i j k : Bool) → cond a (Some feature_word) (cond b (Some if_feature_word) (cond c (Some pattern_word) (cond d (Some modifier_word)
+    (cond e (Some rpc_word) (cond f (Some action_word) (cond g (Some notification_word) (cond h (Some input_word) (cond i (Some output_word)
+    (cond j (Some anydata_word) (cond k (Some anyxml_word) None)))))))))) ≡ Some input_word
+    → h ≡ true
+input_text true b c d e f g h i j k is = absurd cc
+input_text false true c d e f g h i j k is = absurd cc
+input_text false false true d e f g h i j k is = absurd cc
+input_text false false false true e f g h i j k is = absurd cc
+input_text false false false false true f g h i j k is = absurd cc
+input_text false false false false false true g h i j k is = absurd cc
+input_text false false false false false false true h i j k is = absurd cc
+input_text false false false false false false false true i j k is = refl
+input_text false false false false false false false false true j k is = absurd cc
+input_text false false false false false false false false false true k is = absurd cc
+input_text false false false false false false false false false false true is = absurd cc
+input_text false false false false false false false false false false false is = absurd cc
 
-implied : (a b : Bool) → (not a || b) ≡ true → a ≡ true → b ≡ true
-implied true b e is = e
-implied false b e is = absurd cc
+output_text : (a b c d e f g h i j k : Bool) → cond a (Some feature_word) (cond b (Some if_feature_word) (cond c (Some pattern_word) (cond d (Some modifier_word)
+    (cond e (Some rpc_word) (cond f (Some action_word) (cond g (Some notification_word) (cond h (Some input_word) (cond i (Some output_word)
+    (cond j (Some anydata_word) (cond k (Some anyxml_word) None)))))))))) ≡ Some output_word
+    → i ≡ true
+output_text true b c d e f g h i j k is = absurd cc
+output_text false true c d e f g h i j k is = absurd cc
+output_text false false true d e f g h i j k is = absurd cc
+output_text false false false true e f g h i j k is = absurd cc
+output_text false false false false true f g h i j k is = absurd cc
+output_text false false false false false true g h i j k is = absurd cc
+output_text false false false false false false true h i j k is = absurd cc
+output_text false false false false false false false true i j k is = absurd cc
+output_text false false false false false false false false true j k is = refl
+output_text false false false false false false false false false true k is = absurd cc
+output_text false false false false false false false false false false true is = absurd cc
+output_text false false false false false false false false false false false is = absurd cc
+
+-- it is one that is added
+from_added : (u : Unjudged) (t : Text) (w : Word) → same_word w must_word ≡ false → same_word w when_word ≡ false → (o : Option Word) → or_unjudged u o t ≡ Some w → o ≡ Some w
+from_added u t w no_must no_when (Some v) e = e
+from_added u t w no_must no_when None e = by (is_text t (word_text must_word) && u.musts) (is_text t (word_text when_word) && u.whens) e
+  where
+    by : (a b : Bool) → cond a (Some must_word) (cond b (Some when_word) None) ≡ Some w → None ≡ Some w
+    by true b is = let same : must_word ≡ w = cc in absurd (let no : true ≡ false = ap (λ x. same_word x must_word) same ∙ no_must in cc)
+    by false true is = let same : when_word ≡ w = cc in absurd (let no : true ≡ false = ap (λ x. same_word x when_word) same ∙ no_when in cc)
+    by false false is = is
+
+input_is : (language : Language) (t : Text) → word_named language t ≡ Some input_word → t ≡ word_text input_word
+input_is core t e = by (keyword_named t) e
+  where
+    by : (o : Option Keyword) → option_map known o ≡ Some input_word → t ≡ word_text input_word
+    by None e = absurd cc
+    by (Some k) e = absurd cc
+input_is (rfc wide) t e = by (keyword_named t) (from_added wide.unjudged t input_word refl refl (or_added (keyword_named t) t) e)
+  where
+    by : (o : Option Keyword) → or_added o t ≡ Some input_word → t ≡ word_text input_word
+    by (Some k) e = absurd cc
+    by None e = (bytes_eq-Decides t (word_text input_word)).0 (input_text (is_text t (word_text feature_word)) (is_text t (word_text if_feature_word)) (is_text t (word_text pattern_word))
+        (is_text t (word_text modifier_word)) (is_text t (word_text rpc_word)) (is_text t (word_text action_word)) (is_text t (word_text notification_word))
+        (is_text t (word_text input_word)) (is_text t (word_text output_word)) (is_text t (word_text anydata_word)) (is_text t (word_text anyxml_word)) e)
+
+output_is : (language : Language) (t : Text) → word_named language t ≡ Some output_word → t ≡ word_text output_word
+output_is core t e = by (keyword_named t) e
+  where
+    by : (o : Option Keyword) → option_map known o ≡ Some output_word → t ≡ word_text output_word
+    by None e = absurd cc
+    by (Some k) e = absurd cc
+output_is (rfc wide) t e = by (keyword_named t) (from_added wide.unjudged t output_word refl refl (or_added (keyword_named t) t) e)
+  where
+    by : (o : Option Keyword) → or_added o t ≡ Some output_word → t ≡ word_text output_word
+    by (Some k) e = absurd cc
+    by None e = (bytes_eq-Decides t (word_text output_word)).0 (output_text (is_text t (word_text feature_word)) (is_text t (word_text if_feature_word)) (is_text t (word_text pattern_word))
+        (is_text t (word_text modifier_word)) (is_text t (word_text rpc_word)) (is_text t (word_text action_word)) (is_text t (word_text notification_word))
+        (is_text t (word_text input_word)) (is_text t (word_text output_word)) (is_text t (word_text anydata_word)) (is_text t (word_text anyxml_word)) e)
+
+-- the name of a node is an identifier
+node_named : (language : Language) (version : YangVersion) (m : ℕ) (w : Word) (s : Statement) → is_node w ≡ true → word_named language s.keyword ≡ Some w
+    → argument_breaks m version (rule_in language version w).form s ≡ [] → is_identifier (argument_text s) ≡ true
+node_named core version m w s holds is e = by (keyword_named s.keyword) is
+  where
+    by : (o : Option Keyword) → option_map known o ≡ Some w → is_identifier (argument_text s) ≡ true
+    by None e = absurd cc
+    by (Some k) e = let same : known k ≡ w = cc in absurd (let no : false ≡ true = ap is_node same ∙ holds in cc)
+node_named (rfc wide) version m rpc_word s holds is e = identifier_is version m _ s e refl
+node_named (rfc wide) version m action_word s holds is e = identifier_is version m _ s e refl
+node_named (rfc wide) version m notification_word s holds is e = identifier_is version m _ s e refl
+node_named (rfc wide) version m anydata_word s holds is e = identifier_is version m _ s e refl
+node_named (rfc wide) version m anyxml_word s holds is e = identifier_is version m _ s e refl
+node_named (rfc wide) version m input_word s holds is e = ap is_identifier (named_itself version m s e ∙ input_is (rfc wide) s.keyword is)
+node_named (rfc wide) version m output_word s holds is e = ap is_identifier (named_itself version m s e ∙ output_is (rfc wide) s.keyword is)
+node_named (rfc wide) version m (known k) s holds is e = absurd cc
+node_named (rfc wide) version m feature_word s holds is e = absurd cc
+node_named (rfc wide) version m if_feature_word s holds is e = absurd cc
+node_named (rfc wide) version m pattern_word s holds is e = absurd cc
+node_named (rfc wide) version m modifier_word s holds is e = absurd cc
+node_named (rfc wide) version m must_word s holds is e = absurd cc
+node_named (rfc wide) version m when_word s holds is e = absurd cc
+
+-- ---- names that restrict types
 
 -- what may stand below an `enum` or a `bit` may stand below what is kept as `extension` is named
 below_enum : (j : Keyword) → narrow_breaks.is_allowed j (may_stand enum_word) ≡ true → narrow_breaks.is_allowed j (may_stand extension_word) ≡ true
@@ -327,6 +601,31 @@ module _ (language : Language) (version : YangVersion) (refers : Bool) (m : ℕ)
         rest (number + suc (size f)),
       )
 
+  -- one that is kept as another
+  legal_node : (number : ℕ) (rows : List Allowed) (allowed : List narrow.Allowed) → Covers rows allowed → (w : Word) → is_node w ≡ true
+      → same_word w (known extension_word) ≡ false → keyword_kept w ≡ Some (keyword_for w)
+      → (s : Statement) (below : Forest Statement) (inner : List Break) (f g : Forest (Keyword × Statement)) → word_named language s.keyword ≡ Some w
+      → known_breaks language version m rows w s below inner ≡ [] → Inside w inner f → ((n : ℕ) → IsLegal m allowed (numbered refers m n g))
+      → IsLegal m allowed (numbered refers m number (kept_at (keyword_kept w) s f g))
+  unfolding numbered Inside
+  legal_node number rows allowed covers w holds other is s below inner f g named e inside rest =
+      subst (λ k. IsLegal m allowed (numbered refers m number (kept_at k s f g))) (sym is) (by (is_allowed w rows) refl (same_word w (known extension_word)) other e)
+    where
+      by : (a : Bool) → is_allowed w rows ≡ a → (x : Bool) → x ≡ false → cond (not a) (broken 1 m s.line) (cond x [] (own_breaks language version m w s below ++ inner)) ≡ []
+          → IsLegal m allowed (numbered refers m number (kept_at (Some (keyword_for w)) s f g))
+      by false may x unlike e = absurd cc
+      by true may true unlike e = absurd cc
+      by true may false unlike e =
+          let own = none_first (own_breaks language version m w s below) inner e in (
+            record {
+              known = λ unlike. covers.1 w holds may;
+              named = λ defines. node_named language version m w s holds named (none_first (argument_breaks m version (rule_in language version w).form s) _ own);
+              stands = refl;
+            },
+            inside (may_stand (keyword_for w)) (covers_node language version w holds) (none_second (own_breaks language version m w s below) inner e) (number + 1),
+            rest (number + suc (size f)),
+          )
+
   -- one of the core's
   legal_known : (number : ℕ) (rows : List Allowed) (allowed : List narrow.Allowed) → Covers rows allowed → (k : Keyword)
       → (s : Statement) (below : Forest Statement) (inner : List Break) (f g : Forest (Keyword × Statement))
@@ -346,7 +645,7 @@ module _ (language : Language) (version : YangVersion) (refers : Bool) (m : ℕ)
       by true may false e =
           let own = none_first (own_breaks language version m (known k) s below) inner e in (
             record {
-              known = λ other. covers k may;
+              known = λ other. covers.0 k may;
               named = λ defines. identifier_is version m form s (none_first (argument_breaks m version form s) _ own) (form_is language version k defines);
               stands = refl;
             },
@@ -355,26 +654,40 @@ module _ (language : Language) (version : YangVersion) (refers : Bool) (m : ℕ)
           )
 
   legal_named : (number : ℕ) (rows : List Allowed) (allowed : List narrow.Allowed) → Covers rows allowed
-      → (s : Statement) (below : Forest Statement) (inner : List Break) (f g : Forest (Keyword × Statement)) (prefixed : Bool) (o : Option Word) → (prefixed ≡ true → o ≡ None)
+      → (s : Statement) (below : Forest Statement) (inner : List Break) (f g : Forest (Keyword × Statement)) (prefixed : Bool) (o : Option Word) → word_named language s.keyword ≡ o → (prefixed ≡ true → o ≡ None)
       → cond prefixed [] (named_breaks language version m rows o s below inner) ≡ []
       → ((w : Word) → o ≡ Some w → Inside w inner f) → ((n : ℕ) → IsLegal m allowed (numbered refers m n g))
       → IsLegal m allowed (numbered refers m number (kept_at (option_and_then keyword_kept o) s f g))
-  legal_named number rows allowed covers s below inner f g true None is e inside rest = rest number
-  legal_named number rows allowed covers s below inner f g true (Some w) is e inside rest = let none = is refl in absurd cc
-  legal_named number rows allowed covers s below inner f g false None is e inside rest = absurd cc
-  legal_named number rows allowed covers s below inner f g false (Some (known k)) is e inside rest =
+  legal_named number rows allowed covers s below inner f g true None named is e inside rest = rest number
+  legal_named number rows allowed covers s below inner f g true (Some w) named is e inside rest = let none = is refl in absurd cc
+  legal_named number rows allowed covers s below inner f g false None named is e inside rest = absurd cc
+  legal_named number rows allowed covers s below inner f g false (Some (known k)) named is e inside rest =
       legal_known number rows allowed covers k s below inner f g e (inside (known k) refl) rest
-  legal_named number rows allowed covers s below inner f g false (Some feature_word) is e inside rest =
+  legal_named number rows allowed covers s below inner f g false (Some feature_word) named is e inside rest =
       legal_added number rows allowed feature_word (covers_feature language version) refl refl s below inner f g e (inside feature_word refl) rest
-  legal_named number rows allowed covers s below inner f g false (Some if_feature_word) is e inside rest =
+  legal_named number rows allowed covers s below inner f g false (Some if_feature_word) named is e inside rest =
       legal_added number rows allowed if_feature_word (covers_condition language version) refl refl s below inner f g e (inside if_feature_word refl) rest
-  legal_named number rows allowed covers s below inner f g false (Some pattern_word) is e inside rest =
+  legal_named number rows allowed covers s below inner f g false (Some pattern_word) named is e inside rest =
       legal_added number rows allowed pattern_word (covers_pattern language version) refl refl s below inner f g e (inside pattern_word refl) rest
-  legal_named number rows allowed covers s below inner f g false (Some modifier_word) is e inside rest =
+  legal_named number rows allowed covers s below inner f g false (Some modifier_word) named is e inside rest =
       legal_added number rows allowed modifier_word (covers_modifier language version) refl refl s below inner f g e (inside modifier_word refl) rest
-  legal_named number rows allowed covers s below inner f g false (Some must_word) is e inside rest = rest number
-  legal_named number rows allowed covers s below inner f g false (Some when_word) is e inside rest =
+  legal_named number rows allowed covers s below inner f g false (Some must_word) named is e inside rest = rest number
+  legal_named number rows allowed covers s below inner f g false (Some when_word) named is e inside rest =
       legal_added number rows allowed when_word (covers_when language version) refl refl s below inner f g e (inside when_word refl) rest
+  legal_named number rows allowed covers s below inner f g false (Some rpc_word) named is e inside rest =
+      legal_node number rows allowed covers rpc_word refl refl refl s below inner f g named e (inside rpc_word refl) rest
+  legal_named number rows allowed covers s below inner f g false (Some action_word) named is e inside rest =
+      legal_node number rows allowed covers action_word refl refl refl s below inner f g named e (inside action_word refl) rest
+  legal_named number rows allowed covers s below inner f g false (Some notification_word) named is e inside rest =
+      legal_node number rows allowed covers notification_word refl refl refl s below inner f g named e (inside notification_word refl) rest
+  legal_named number rows allowed covers s below inner f g false (Some input_word) named is e inside rest =
+      legal_node number rows allowed covers input_word refl refl refl s below inner f g named e (inside input_word refl) rest
+  legal_named number rows allowed covers s below inner f g false (Some output_word) named is e inside rest =
+      legal_node number rows allowed covers output_word refl refl refl s below inner f g named e (inside output_word refl) rest
+  legal_named number rows allowed covers s below inner f g false (Some anydata_word) named is e inside rest =
+      legal_node number rows allowed covers anydata_word refl refl refl s below inner f g named e (inside anydata_word refl) rest
+  legal_named number rows allowed covers s below inner f g false (Some anyxml_word) named is e inside rest =
+      legal_node number rows allowed covers anyxml_word refl refl refl s below inner f g named e (inside anyxml_word refl) rest
 
   pub legal_row : (may restricting : Bool) (rows : List Allowed) (allowed : List narrow.Allowed) → Covers rows allowed → (f : Forest Statement)
       → row_breaks_in language version m rows f ≡ [] → (number : ℕ) → IsLegal m allowed (numbered refers m number (kept_in language may restricting f))
@@ -386,7 +699,7 @@ module _ (language : Language) (version : YangVersion) (refers : Bool) (m : ℕ)
       let within = restricts_below may (kept_keyword_in language restricting s) s in
       legal_restricting refers restricting language m number allowed s (kept_in language may within below) (kept_in language may restricting after)
       (legal_named number rows allowed covers s below inner (kept_in language may within below) (kept_in language may restricting after)
-      (is_prefixed s.keyword) (word_named language s.keyword)
+      (is_prefixed s.keyword) (word_named language s.keyword) refl
       (prefixed_none language s.keyword)
       (none_first this (row_breaks_in language version m rows after) e)
       (λ w is allowed covers none. legal_row may within (substatements_of language version s.keyword) allowed
@@ -437,6 +750,13 @@ is_module language m s below e = by (word_named language s.keyword) refl e
     by (Some modifier_word) is e = absurd cc
     by (Some must_word) is e = absurd cc
     by (Some when_word) is e = absurd cc
+    by (Some rpc_word) is e = absurd cc
+    by (Some action_word) is e = absurd cc
+    by (Some notification_word) is e = absurd cc
+    by (Some input_word) is e = absurd cc
+    by (Some output_word) is e = absurd cc
+    by (Some anydata_word) is e = absurd cc
+    by (Some anyxml_word) is e = absurd cc
 
 -- a module is one source, and the others follow
 pub sources_first : (language : Language) (home number : ℕ) (s : Statement) (below after : Forest Statement) → kept_keyword_in language false s ≡ Some module_word

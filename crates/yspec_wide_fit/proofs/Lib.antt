@@ -6,5 +6,6 @@ pub mod CompilingLemmas
 pub mod ModuleLemmas
 pub mod NameLemmas
 pub mod PathLemmas
+pub mod AnythingLemmas
 pub mod AscendingLemmas
 pub mod FitLemmas

@@ -7,7 +7,7 @@ use Rattle.yspec.specs.text.Text.{Text}
 use Rattle.yspec.specs.schema.Schema.{Schema, SchemaNode, is_data, data_row}
 use Rattle.yspec.specs.document.Writing.{NodesAreNamed, HasItsName, RowIsNamed, AllAreNamed, AreNamed}
 use Rattle.yspec.specs.linking.Keyword.{same_keyword, choice_word, case_word}
-use Rattle.yspec.specs.linking.Source.{Source, argument_in}
+use Rattle.yspec.specs.linking.Source.{argument_in}
 use Rattle.yspec.specs.linking.Parts.{Part}
 use Rattle.yspec.specs.linking.Planned.{Planned, Plan, Around, at_top, planned_node, data_parent_below, around_below, planned}
 use Rattle.yspec.proofs.LinkingProofs.ApartLemmas.{NoneLike, Apart, Within, within_none, within_first, within_second, within_joined, apart_within, names_apart}
@@ -172,12 +172,12 @@ all_apart count next around r (node p below after) sound apart =
 
 -- ---- nor of those that stand
 
-module _ (holds : Forest Source → Bool) where
+module _ (holds : Part → Bool) where
   pub names_left : (f : Forest Part) → IsLeft (data_names (standing_by holds f)) (data_names f)
   unfolding standing_by
   names_left end = refl
   names_left (node p below after) =
-      by (holds p.own) (is_implied_case p && is_all_cut below (standing_by holds below)) (is_default_off p below (standing_by holds below))
+      by (holds p) (is_implied_case p && is_all_cut below (standing_by holds below)) (is_default_off p below (standing_by holds below))
       (names_left below) (names_left after)
     where
       inner : Forest Part
@@ -207,7 +207,7 @@ module _ (holds : Forest Source → Bool) where
   unfolding standing_by
   all_left end apart = tt
   all_left (node p below after) apart =
-      by (holds p.own) (is_implied_case p && is_all_cut below (standing_by holds below)) (is_default_off p below (standing_by holds below))
+      by (holds p) (is_implied_case p && is_all_cut below (standing_by holds below)) (is_default_off p below (standing_by holds below))
       (all_left below apart.1) (all_left after apart.2)
     where
       inner : Forest Part
@@ -295,7 +295,7 @@ module _ (language : Language) (schema : Schema) (plan : Plan) where
   )
 
   -- of all parts none are alike, so the nodes of those that stand are named
-  pub are_named : (holds : Forest Source → Bool) (f : Forest Part) → AreSound (length schema.modules) elsewhere f → AreSound (length schema.modules) elsewhere (standing_by holds f)
+  pub are_named : (holds : Part → Bool) (f : Forest Part) → AreSound (length schema.modules) elsewhere f → AreSound (length schema.modules) elsewhere (standing_by holds f)
       → Apart (preorder (planned 0 at_top f)) → schema.nodes ≡ relabelled (schema_node_in language plan) (planned 0 at_top (standing_by holds f)) → AreNamed schema
   are_named holds f whole sound apart is =
       let names = apart_left (data_names (standing_by holds f)) (data_names f) (names_left holds f)

@@ -9,13 +9,14 @@ use Rattle.std.specs.Str.Parse.{AllDigits}
 use Rattle.std.specs.Cmp.Lexicographic.{slice_cmp}
 use Rattle.std.specs.Ordering.{match_ordering, ordering_reverse}
 use Rattle.json.specs.Lex.{tokens}
-use Rattle.json.specs.Print.{IsNumber, quoted}
+use Rattle.json.specs.Print.{IsNumber, quoted, ArePrintable}
 use Rattle.json.specs.Json as json
 use Rattle.json.specs.Tree as tree
 use Rattle.json.specs.Tree.{json_tokens, HasNumbers, ItemsHaveNumbers, MembersHaveNumbers}
 use Rattle.json.proofs.Printed.Decimals.{IsNumber-decimal, IsNumber-signed_decimal}
 use Rattle.json.proofs.Printed.Utf8.{IsUtf8-are_ascii, IsUtf8-quoted}
 use Rattle.json.proofs.Printed.Trees.{value-json_tokens, ArePrintable-json_tokens}
+use Rattle.json.proofs.Printed.Tokens.{tokens-print}
 use Rattle.serde_json.specs.Data.{Num, unsigned, negative, float, Data, null, boolean, number, string, array, object, Items, no_items, item, Members, no_members, member, put, depth, items_depth, members_depth}
 use Rattle.serde_json.specs.Read.{number_of, of_json, of_items, of_members, read, max_depth}
 use Rattle.serde_json.specs.Written.{number_text, outline, items_outline, members_outline, comma_if, compact_text, items_text, members_text}
@@ -58,7 +59,7 @@ abbrev mutual
 
 -- ---- a member that is put in
 
-turned : (a b : Text) (o p : Ordering) → slice_cmp nat_cmp a b ≡ o → ordering_reverse o ≡ p → slice_cmp nat_cmp b a ≡ p
+pub turned : (a b : Text) (o p : Ordering) → slice_cmp nat_cmp a b ≡ o → ordering_reverse o ≡ p → slice_cmp nat_cmp b a ≡ p
 turned a b o p is back = nat_list_cmp_total.antisymm b a ∙ (ap ordering_reverse is ∙ back)
 
 -- what stands behind something later
@@ -66,7 +67,7 @@ later_still : (a b c : Text) → slice_cmp nat_cmp a b ≡ Greater → slice_cmp
 later_still a b c first second =
     turned c a Less Greater (nat_list_cmp_total.trans c b a (turned b c Greater Less second refl) (turned a b Greater Less first refl)) refl
 
-before_later : (name other : Text) (ms : Members) → slice_cmp nat_cmp other name ≡ Greater → IsBefore other ms → IsBefore name ms
+pub before_later : (name other : Text) (ms : Members) → slice_cmp nat_cmp other name ≡ Greater → IsBefore other ms → IsBefore name ms
 before_later name other no_members is before = tt
 before_later name other (member third d ms) is before = (later_still third other name before.0 is, before_later name other ms is before.1)
 
@@ -77,7 +78,7 @@ put_before_at Less first name other d e ms is before later = (is, before)
 put_before_at Equal first name other d e ms is before later = before
 put_before_at Greater first name other d e ms is before later = (before.0, later)
 
-put_before : (first name : Text) (d : Data) (ms : Members) → slice_cmp nat_cmp name first ≡ Greater → IsBefore first ms → IsBefore first (put name d ms)
+pub put_before : (first name : Text) (d : Data) (ms : Members) → slice_cmp nat_cmp name first ≡ Greater → IsBefore first ms → IsBefore first (put name d ms)
 put_before first name d no_members is before = (is, tt)
 put_before first name d (member other e ms) is before =
     put_before_at (slice_cmp nat_cmp name other) first name other d e ms is before (put_before first name d ms is before.1)
@@ -233,7 +234,7 @@ comma_utf8 true = IsUtf8-are_ascii (44 ∷ []) refl
 comma_utf8 false = IsUtf8-nil
 
 mutual
-  text_utf8 : (d : Data) → IsExact d → IsUtf8 (compact_text d)
+  pub text_utf8 : (d : Data) → IsExact d → IsUtf8 (compact_text d)
   text_utf8 null exact = IsUtf8-are_ascii _ refl
   text_utf8 (boolean true) exact = IsUtf8-are_ascii _ refl
   text_utf8 (boolean false) exact = IsUtf8-are_ascii _ refl
@@ -254,16 +255,26 @@ mutual
       (IsUtf8-append (58 ∷ []) (compact_text d ++ members_text true ms) (IsUtf8-are_ascii _ refl)
       (IsUtf8-append (compact_text d) (members_text true ms) (text_utf8 d exact.1) (members_utf8 true ms exact.3))))
 
-value_read : (d : Data) → IsExact d → depth d ≤ max_depth → read (compact_text d ++ 10 ∷ []) ≡ Some d
-value_read d exact shallow =
+value_read : (d : Data) (text : Text) → tokens text ≡ json_tokens (outline d) → IsExact d → depth d ≤ max_depth → read text ≡ Some d
+value_read d text is exact shallow =
     let j = outline d in
     let deep = same_depth d in
-    let spelt : tokens (compact_text d ++ 10 ∷ []) ≡ json_tokens j ++ [] =
-    ap (λ t. tokens (t ++ 10 ∷ [])) (sym (print-outline d)) ∙ (tokens_ended (json_tokens j) (ArePrintable-json_tokens j (spelled d exact)) ∙ sym (append-nil (json_tokens j))) in
+    let spelt : tokens text ≡ json_tokens j ++ [] = is ∙ sym (append-nil (json_tokens j)) in
     ap (λ ts. option_and_then of_json (option_and_then (λ p. json.if_last p.0 p.1) (json.value max_depth ts))) spelt
     ∙ (ap (λ o. option_and_then of_json (option_and_then (λ p. json.if_last p.0 p.1) o)) (value-json_tokens j max_depth [] (omega (arith, deep, shallow)))
     ∙ value_back d exact)
 
+printable : (d : Data) → IsExact d → ArePrintable (json_tokens (outline d))
+printable d exact = ArePrintable-json_tokens (outline d) (spelled d exact)
+
+-- with a line feed behind it
 pub exact_read : (d : Data) → IsExact d → depth d ≤ max_depth → json_of (compact_text d ++ 10 ∷ []) ≡ Some d
 exact_read d exact shallow =
-    json_found (compact_text d ++ 10 ∷ []) d (IsUtf8-append (compact_text d) (10 ∷ []) (text_utf8 d exact) (IsUtf8-are_ascii _ refl)) (value_read d exact shallow)
+    json_found (compact_text d ++ 10 ∷ []) d (IsUtf8-append (compact_text d) (10 ∷ []) (text_utf8 d exact) (IsUtf8-are_ascii _ refl))
+    (value_read d (compact_text d ++ 10 ∷ []) (ap (λ t. tokens (t ++ 10 ∷ [])) (sym (print-outline d)) ∙ tokens_ended (json_tokens (outline d)) (printable d exact)) exact shallow)
+
+-- and alone
+pub exact_alone : (d : Data) → IsExact d → depth d ≤ max_depth → json_of (compact_text d) ≡ Some d
+exact_alone d exact shallow =
+    json_found (compact_text d) d (text_utf8 d exact)
+    (value_read d (compact_text d) (ap tokens (sym (print-outline d)) ∙ tokens-print (json_tokens (outline d)) (printable d exact)) exact shallow)

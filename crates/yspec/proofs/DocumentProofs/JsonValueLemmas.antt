@@ -1,5 +1,5 @@
--- Texts in the JSON value of a text that is UTF-8 are so too.
-use Rattle.std.proofs.Common.{◌≡◌, ℕ, zero, suc, ◌<◌, Bool, true, false, cond, ◌&&◌, ◌==◌, ◌-◌, nat_eq, take, drop, ◌++◌, List, [], ◌∷◌, length, Option, Some, None, option_map, option_and_then, Ordering, Less, Equal, Greater, nat_cmp, IsUtf8, refl, sym, subst, arith, eqb-true, append_assoc}
+-- What is read of a text that is UTF-8: its texts are so too, its whole numbers have 64 bits, and members stand in order.
+use Rattle.std.proofs.Common.{◌≡◌, ℕ, zero, suc, ◌<◌, ◌≤◌, ◌^◌, pos, negsuc, neg_ℤ, Bool, true, false, cond, ◌&&◌, ◌==◌, ◌-◌, nat_eq, take, ◌++◌, List, [], ◌∷◌, length, Option, Some, None, option_map, option_and_then, Ordering, Less, Equal, Greater, nat_cmp, IsUtf8, refl, sym, subst, arith, eqb-true, append_assoc}
 use Rattle.std.proofs.lemmas.Str.{IsUtf8-from_is_utf8}
 use Rattle.std.specs.Cmp.Lexicographic.{slice_cmp}
 use Rattle.std.specs.Ordering.{match_ordering}
@@ -14,10 +14,15 @@ use Rattle.json.specs.Json as json
 use Rattle.json.specs.Json.{Json, Items, Members, Parse, parse_map, after_end_array, read_key, items_step, members_step, items, members, value_with, value, if_last}
 use Rattle.serde_json.specs.Data as values
 use Rattle.serde_json.specs.Data.{Data}
-use Rattle.serde_json.specs.Read.{number_of, of_json, of_items, of_members, read, max_depth}
+use Rattle.std.specs.Prelude.{drop, slice_index, nat_lt, nat_le}
+use Rattle.std.specs.Float.{binary64, float_is_finite}
+use Rattle.std.specs.Float.Numeral.{minus, Parts, scan_numeral, numeral_digits, nearest_float}
+use Rattle.std.proofs.lemmas.Bool.{and_parts, leb-true, ltb-true}
+use Rattle.serde_json.specs.Read.{is_integer, float_of, number_from, number_of, of_json, of_items, of_members, read, max_depth}
 use Rattle.yspec.specs.document.Reading.{json_of}
 use Rattle.yspec.proofs.BasicLemmas.{of_either}
 use Rattle.yspec.proofs.DocumentProofs.JsonTextLemmas.{IsTextIf, behind_ascii, content_text}
+use Rattle.yspec.proofs.DocumentProofs.ExactLemmas.{IsBefore, turned, before_later, put_before}
 
 -- ---- tokens
 
@@ -264,22 +269,27 @@ value_parsed (suc d) = one_level (λ ts. items (value d) (length ts) ts) (λ ts.
 
 -- ---- values
 
+abbrev pub IsOf64 : values.Num → Type 0
+IsOf64 (values.unsigned n) = n < 2 ^ 64
+IsOf64 (values.negative z) = (n : ℕ) × (z ≡ negsuc n) × (n < 2 ^ 63)
+IsOf64 (values.float x) = Unit {0}
+
 abbrev mutual
-  pub AreTexts : Data → Type 0
-  AreTexts values.null = Unit {0}
-  AreTexts (values.boolean b) = Unit {0}
-  AreTexts (values.number n) = Unit {0}
-  AreTexts (values.string s) = IsUtf8 s
-  AreTexts (values.array ds) = ItemsAreTexts ds
-  AreTexts (values.object ms) = MembersAreTexts ms
+  pub IsRead : Data → Type 0
+  IsRead values.null = Unit {0}
+  IsRead (values.boolean b) = Unit {0}
+  IsRead (values.number n) = IsOf64 n
+  IsRead (values.string s) = IsUtf8 s
+  IsRead (values.array ds) = ItemsAreRead ds
+  IsRead (values.object ms) = MembersAreRead ms
 
-  pub ItemsAreTexts : values.Items → Type 0
-  ItemsAreTexts values.no_items = Unit {0}
-  ItemsAreTexts (values.item d ds) = AreTexts d × ItemsAreTexts ds
+  pub ItemsAreRead : values.Items → Type 0
+  ItemsAreRead values.no_items = Unit {0}
+  ItemsAreRead (values.item d ds) = IsRead d × ItemsAreRead ds
 
-  pub MembersAreTexts : values.Members → Type 0
-  MembersAreTexts values.no_members = Unit {0}
-  MembersAreTexts (values.member k d ms) = AreTexts d × MembersAreTexts ms
+  pub MembersAreRead : values.Members → Type 0
+  MembersAreRead values.no_members = Unit {0}
+  MembersAreRead (values.member k d ms) = IsUtf8 k × IsRead d × IsBefore k ms × MembersAreRead ms
 
 abbrev IfThere : {A : Type 0} → (A → Type 0) → Option A → Type 0
 IfThere P None = Unit {0}
@@ -293,52 +303,80 @@ there_more : {A B : Type 0} (P : A → Type 0) (Q : B → Type 0) (h : A → Opt
 there_more P Q h keeps None is = tt
 there_more P Q h keeps (Some a) is = keeps a is
 
-always : {A : Type 0} (o : Option A) → IfThere (λ _. Unit {0}) o
-always None = tt
-always (Some a) = tt
+put_texts_at : (o : Ordering) (k l : List ℕ) (d e : Data) (ms : values.Members) → slice_cmp nat_cmp k l ≡ o → IsUtf8 k → IsRead d → MembersAreRead (values.member l e ms) → MembersAreRead (values.put k d ms)
+    → MembersAreRead (match_ordering o (values.member k d (values.member l e ms)) (values.member l d ms) (values.member l e (values.put k d ms)))
+put_texts_at Less k l d e ms is utf8 this these later =
+    let behind = turned k l Less Greater is refl in (utf8, this, (behind, before_later k l ms behind these.2), these)
+put_texts_at Equal k l d e ms is utf8 this these later = (these.0, this, these.2, these.3)
+put_texts_at Greater k l d e ms is utf8 this these later = (these.0, these.1, put_before l k d ms is these.2, later)
 
-put_texts_at : (o : Ordering) (k l : List ℕ) (d e : Data) (ms : values.Members) → AreTexts d → MembersAreTexts (values.member l e ms) → MembersAreTexts (values.put k d ms)
-    → MembersAreTexts (match_ordering o (values.member k d (values.member l e ms)) (values.member l d ms) (values.member l e (values.put k d ms)))
-put_texts_at Less k l d e ms this these later = (this, these)
-put_texts_at Equal k l d e ms this these later = (this, these.1)
-put_texts_at Greater k l d e ms this these later = (these.0, later)
+put_texts : (k : List ℕ) (d : Data) (ms : values.Members) → IsUtf8 k → IsRead d → MembersAreRead ms → MembersAreRead (values.put k d ms)
+put_texts k d values.no_members utf8 this these = (utf8, this, tt, tt)
+put_texts k d (values.member l e ms) utf8 this these =
+    put_texts_at (slice_cmp nat_cmp k l) k l d e ms refl utf8 this these (put_texts k d ms utf8 this these.3)
 
-put_texts : (k : List ℕ) (d : Data) (ms : values.Members) → AreTexts d → MembersAreTexts ms → MembersAreTexts (values.put k d ms)
-put_texts k d values.no_members this these = (this, tt)
-put_texts k d (values.member l e ms) this these = put_texts_at (slice_cmp nat_cmp k l) k l d e ms this these (put_texts k d ms this these.1)
+-- ---- numbers
+
+float_of_64 : (sign : Bool) (p : Parts) → IfThere IsOf64 (float_of sign p)
+float_of_64 sign p = by (float_is_finite (nearest_float binary64 sign p))
+  where
+    by : (b : Bool) → IfThere IsOf64 (cond b (Some (values.float (nearest_float binary64 sign p))) None)
+    by true = tt
+    by false = tt
+
+below_zero : (n : ℕ) → 0 < n → n ≤ 2 ^ 63 → IsOf64 (values.negative (neg_ℤ (pos n)))
+below_zero zero some few = absurd (omega (arith, some))
+below_zero (suc n) some few = (n, refl, omega (arith, few))
+
+from_64 : (sign : Bool) (p : Parts) → IfThere IsOf64 (number_from sign p)
+from_64 false p = of_either (IfThere IsOf64) (is_integer p && nat_lt (numeral_digits p) (2 ^ 64)) (Some (values.unsigned (numeral_digits p))) (float_of false p)
+    (λ e. ltb-true (numeral_digits p) (2 ^ 64) (and_parts (is_integer p) (nat_lt (numeral_digits p) (2 ^ 64)) e).1)
+    (λ _. float_of_64 false p)
+from_64 true p = of_either (IfThere IsOf64) (is_integer p && nat_lt 0 (numeral_digits p) && nat_le (numeral_digits p) (2 ^ 63))
+    (Some (values.negative (neg_ℤ (pos (numeral_digits p))))) (float_of true p)
+    (λ e.
+    let parts = and_parts (is_integer p && nat_lt 0 (numeral_digits p)) (nat_le (numeral_digits p) (2 ^ 63)) e in
+    let inner = and_parts (is_integer p) (nat_lt 0 (numeral_digits p)) parts.0 in
+    below_zero (numeral_digits p) (ltb-true 0 (numeral_digits p) inner.1) (leb-true (numeral_digits p) (2 ^ 63) parts.1))
+    (λ _. float_of_64 true p)
+
+number_64 : (s : List ℕ) → IfThere IsOf64 (number_of s)
+unfolding number_of
+number_64 s = of_either (IfThere IsOf64) (slice_index s 0 == minus) (number_from true (scan_numeral (drop 1 s))) (number_from false (scan_numeral s))
+    (λ _. from_64 true (scan_numeral (drop 1 s))) (λ _. from_64 false (scan_numeral s))
 
 mutual
-  json_texts : (j : Json) → JsonHasTexts j → IfThere AreTexts (of_json j)
+  json_texts : (j : Json) → JsonHasTexts j → IfThere IsRead (of_json j)
   json_texts json.null is = tt
   json_texts (json.boolean b) is = tt
-  json_texts (json.number s) is = there_mapped (λ _. Unit {0}) AreTexts values.number (λ n _. tt) (number_of s) (always (number_of s))
+  json_texts (json.number s) is = there_mapped IsOf64 IsRead values.number (λ n is. is) (number_of s) (number_64 s)
   json_texts (json.string s) is = is
-  json_texts (json.array js) is = there_mapped ItemsAreTexts AreTexts values.array (λ ds here. here) (of_items js) (items_texts js is)
-  json_texts (json.object ms) is = there_mapped MembersAreTexts AreTexts values.object (λ ms here. here) (of_members ms values.no_members) (members_texts ms values.no_members is tt)
+  json_texts (json.array js) is = there_mapped ItemsAreRead IsRead values.array (λ ds here. here) (of_items js) (items_texts js is)
+  json_texts (json.object ms) is = there_mapped MembersAreRead IsRead values.object (λ ms here. here) (of_members ms values.no_members) (members_texts ms values.no_members is tt)
 
-  items_texts : (js : Items) → ItemsHaveTexts js → IfThere ItemsAreTexts (of_items js)
+  items_texts : (js : Items) → ItemsHaveTexts js → IfThere ItemsAreRead (of_items js)
   items_texts json.no_items is = tt
-  items_texts (json.item j js) is = there_more AreTexts ItemsAreTexts (λ d. option_map (values.item d) (of_items js))
-      (λ d here. there_mapped ItemsAreTexts ItemsAreTexts (values.item d) (λ ds rest. (here, rest)) (of_items js) (items_texts js is.1)) (of_json j) (json_texts j is.0)
+  items_texts (json.item j js) is = there_more IsRead ItemsAreRead (λ d. option_map (values.item d) (of_items js))
+      (λ d here. there_mapped ItemsAreRead ItemsAreRead (values.item d) (λ ds rest. (here, rest)) (of_items js) (items_texts js is.1)) (of_json j) (json_texts j is.0)
 
-  members_texts : (ms : Members) (found : values.Members) → MembersHaveTexts ms → MembersAreTexts found → IfThere MembersAreTexts (of_members ms found)
+  members_texts : (ms : Members) (found : values.Members) → MembersHaveTexts ms → MembersAreRead found → IfThere MembersAreRead (of_members ms found)
   members_texts json.no_members found is before = before
-  members_texts (json.member k j ms) found is before = there_more AreTexts MembersAreTexts (λ d. of_members ms (values.put k d found))
-      (λ d here. members_texts ms (values.put k d found) is.2 (put_texts k d found here before)) (of_json j) (json_texts j is.1)
+  members_texts (json.member k j ms) found is before = there_more IsRead MembersAreRead (λ d. of_members ms (values.put k d found))
+      (λ d here. members_texts ms (values.put k d found) is.2 (put_texts k d found is.0 here before)) (of_json j) (json_texts j is.1)
 
 last_texts : (o : Option (Json × List Token)) → Gives JsonHasTexts o → IfThere JsonHasTexts (option_and_then (λ p. if_last p.0 p.1) o)
 last_texts None is = tt
 last_texts (Some (j, [])) is = is.0
 last_texts (Some (j, t ∷ ts)) is = tt
 
-read_texts : (text : List ℕ) → IsUtf8 text → IfThere AreTexts (read text)
+read_texts : (text : List ℕ) → IsUtf8 text → IfThere IsRead (read text)
 read_texts text utf8 =
-    there_more JsonHasTexts AreTexts of_json json_texts (option_and_then (λ p. if_last p.0 p.1) (value max_depth (tokens text)))
+    there_more JsonHasTexts IsRead of_json json_texts (option_and_then (λ p. if_last p.0 p.1) (value max_depth (tokens text)))
     (last_texts (value max_depth (tokens text)) (value_parsed max_depth (tokens text) (token_texts text utf8)))
 
-pub json_of_texts : (text : List ℕ) (d : Data) → json_of text ≡ Some d → AreTexts d
-json_of_texts text d is = subst (IfThere AreTexts) is (by (is_utf8 text) refl)
+pub json_is_read : (text : List ℕ) (d : Data) → json_of text ≡ Some d → IsRead d
+json_is_read text d is = subst (IfThere IsRead) is (by (is_utf8 text) refl)
   where
-    by : (b : Bool) → is_utf8 text ≡ b → IfThere AreTexts (cond b (read text) None)
+    by : (b : Bool) → is_utf8 text ≡ b → IfThere IsRead (cond b (read text) None)
     by true utf8 = read_texts text (IsUtf8-from_is_utf8 text utf8)
     by false utf8 = tt

@@ -6,9 +6,10 @@ use Rattle.serde_json.specs.Find.{as_object, get_member}
 use Rattle.yspec.specs.Forest.{Forest, end, node, size, join}
 use Rattle.yspec.specs.text.Text.{Text, is_text}
 use Rattle.yspec.specs.types.Types.{Raw}
-use Rattle.yspec.specs.schema.Schema.{Schema, SchemaNode, Kind, is_data, is_many, has_value, data_row, written_name, other_name}
+use Rattle.yspec.specs.schema.Schema.{Schema, SchemaNode, Kind, is_data, is_many, has_value, form_in, data_row, written_name, other_name}
 use Rattle.yspec.specs.document.Document.{Tree, Step, below_place, instance_place, document_limit}
-use Rattle.yspec.specs.document.Reading.{Visit, right, wrong, raw_of, refused_value, child, named_in, other_or, at_named, value_visit, object_visit, member_visits, node_visits, item_visits, instance_visits, visits, first_wrong, right_nodes, verdict, members_of, items_of, stored_node, item_row, instance_row, stored_rows, denoted, json_of, document_of}
+use Rattle.yspec.specs.document.Reading.{Visit, right, wrong, raw_by, refused_by, child, named_in, other_or, at_named, value_visit, object_visit, member_visits, node_visits, item_visits, instance_visits, visits, first_wrong, right_nodes, verdict, members_of, items_of, stored_node, item_row, instance_row, stored_rows, denoted, json_of, document_of}
+use Rattle.yspec.specs.document.Fitting.{IsBare, LeafsAreBare}
 use Rattle.yspec.specs.document.Writing.{IsNew, RowDiffers, AllDiffer, NamesDiffer}
 use Rattle.yspec.proofs.BasicLemmas.{other_text}
 use Rattle.yspec.proofs.DocumentProofs.MemberLemmas.{IsRising, ItemsRise, AreRising, json_rising}
@@ -101,33 +102,51 @@ rights_weighed s parent children place (member name d ms) =
     (rights_weighed s parent children place ms)
 
 members_counted : (s : Schema) (parent : Option ℕ) (children : Forest SchemaNode) (place : List Step) (ms : Members)
-    → RowDiffers s parent (data_row children) → AllDiffer s children → AreRising ms → EachMember (IsCountedBy s) ms
+    → RowDiffers s parent (data_row children) → AllDiffer s children → LeafsAreBare children → AreRising ms → EachMember (IsCountedBy s) ms
     → first_wrong (member_visits s parent children place ms) ≡ None
     → right_nodes (member_visits s parent children place ms) ≡ size (stored_rows s parent children ms)
-members_counted s parent children place ms differ all rising each is =
+members_counted s parent children place ms differ all bare rising each is =
     rights_weighed s parent children place ms
-    ∙ (row_counted s parent place ms (data_row children) (data_are_data children) differ rising each (all_visited s parent children place ms differ all is)
+    ∙ (row_counted s parent place ms (data_row children) (data_are_data children) differ rising each (all_visited s parent children place ms differ all bare is)
     ∙ ap size (sym (rows_of_data s parent children ms)))
 
 -- ---- values
 
 one_value : (kind : Kind) (place : List Step) (d : Data) → first_wrong (value_visit kind place d) ≡ None → right_nodes (value_visit kind place d) ≡ 1
-one_value kind place d is = by (has_value kind) (raw_of d) is
+one_value kind place d is = by (has_value kind) (raw_by (form_in kind) d) is
   where
-    by : (b : Bool) (o : Option Raw) → first_wrong (cond b (option_map_or (λ _. right place ∷ []) o (wrong (refused_value d) place ∷ [])) (wrong 5 place ∷ [])) ≡ None
-        → right_nodes (cond b (option_map_or (λ _. right place ∷ []) o (wrong (refused_value d) place ∷ [])) (wrong 5 place ∷ [])) ≡ 1
+    code : ℕ
+    code = refused_by (form_in kind) d
+
+    by : (b : Bool) (o : Option Raw) → first_wrong (cond b (option_map_or (λ _. right place ∷ []) o (wrong code place ∷ [])) (wrong 5 place ∷ [])) ≡ None
+        → right_nodes (cond b (option_map_or (λ _. right place ∷ []) o (wrong code place ∷ [])) (wrong 5 place ∷ [])) ≡ 1
     by true (Some raw) is = refl
     by true None is = let no : ⊥ = cc in absurd no
     by false o is = let no : ⊥ = cc in absurd no
 
-one_object : (kind : Kind) (place : List Step) (inner : List Visit) (k : ℕ) → first_wrong (object_visit kind place inner) ≡ None
-    → (first_wrong inner ≡ None → right_nodes inner ≡ k) → right_nodes (object_visit kind place inner) ≡ suc k
-one_object kind place inner k is counted = by (has_value kind) is
+one_object : (kind : Kind) (place : List Step) (ms : Members) (inner : List Visit) (k : ℕ) → first_wrong (object_visit kind place ms inner) ≡ None
+    → (has_value kind ≡ true → k ≡ 0) → (first_wrong inner ≡ None → right_nodes inner ≡ k) → right_nodes (object_visit kind place ms inner) ≡ suc k
+one_object kind place ms inner k is none counted = by (has_value kind) refl (raw_by (form_in kind) (object ms)) is
   where
-    by : (b : Bool) → first_wrong (cond b (wrong 5 place ∷ []) (right place ∷ inner)) ≡ None
-        → right_nodes (cond b (wrong 5 place ∷ []) (right place ∷ inner)) ≡ suc k
-    by true is = let no : ⊥ = cc in absurd no
-    by false is = ap suc (counted is)
+    code : ℕ
+    code = refused_by (form_in kind) (object ms)
+
+    by : (b : Bool) → has_value kind ≡ b → (o : Option Raw)
+        → first_wrong (cond b (option_map_or (λ _. right place ∷ []) o (wrong code place ∷ [])) (right place ∷ inner)) ≡ None
+        → right_nodes (cond b (option_map_or (λ _. right place ∷ []) o (wrong code place ∷ [])) (right place ∷ inner)) ≡ suc k
+    by true has (Some raw) is = ap suc (sym (none has))
+    by true has None is = let no : ⊥ = cc in absurd no
+    by false has o is = ap suc (counted is)
+
+-- nothing stands below a leaf
+end_size : (s : Schema) (parent : Option ℕ) (ms : Members) → size (stored_rows s parent end ms) ≡ 0
+unfolding stored_rows
+end_size s parent ms = refl
+
+bare_size : (s : Schema) (n : SchemaNode) (below : Forest SchemaNode) (ms : Members) → IsBare n.kind below → has_value n.kind ≡ true
+    → size (stored_rows s (Some n.module_number) below ms) ≡ 0
+bare_size s n below ms bare has =
+    ap (λ (f : Forest SchemaNode). size (stored_rows s (Some n.module_number) f ms)) (bare has) ∙ end_size s (Some n.module_number) ms
 
 other_counted : (s : Schema) (n : SchemaNode) (below : Forest SchemaNode) (place : List Step) (d : Data) → as_object d ≡ None
     → first_wrong (instance_visits s n below place d) ≡ None
@@ -179,8 +198,9 @@ mutual
   value_counted s (string t) rising = λ n below place differ is. other_counted s n below place (string t) refl is
   value_counted s (array ds) rising = λ n below place differ is. other_counted s n below place (array ds) refl is
   value_counted s (object ms) rising = λ n below place differ is.
-      one_object n.kind place (member_visits s (Some n.module_number) below place ms) (size (stored_rows s (Some n.module_number) below ms)) is
-      (λ inner. members_counted s (Some n.module_number) below place ms differ.0 differ.1 rising (each_counted s ms rising) inner)
+      one_object n.kind place ms (member_visits s (Some n.module_number) below place ms) (size (stored_rows s (Some n.module_number) below ms)) is
+      (bare_size s n below ms differ.2)
+      (λ inner. members_counted s (Some n.module_number) below place ms differ.0 differ.1 differ.3 rising (each_counted s ms rising) inner)
 
   inner_counted : (s : Schema) (d : Data) → IsRising d → EachItem (IsCounted s) (items_of d)
   inner_counted s null rising = tt
@@ -202,29 +222,29 @@ mutual
 -- ---- documents
 
 -- the top is an object
-all_counted : (s : Schema) (d : Data) → NamesDiffer s → IsRising d → verdict s d ≡ None → right_nodes (visits s d) ≡ size (denoted s d)
-all_counted s null differ rising is = let no : ⊥ = cc in absurd no
-all_counted s (boolean b) differ rising is = let no : ⊥ = cc in absurd no
-all_counted s (number x) differ rising is = let no : ⊥ = cc in absurd no
-all_counted s (string t) differ rising is = let no : ⊥ = cc in absurd no
-all_counted s (array ds) differ rising is = let no : ⊥ = cc in absurd no
-all_counted s (object ms) differ rising is =
-    members_counted s None s.nodes [] ms differ.0 differ.1 rising (each_counted s ms rising) (top_right s (object ms) is)
+all_counted : (s : Schema) (d : Data) → NamesDiffer s → LeafsAreBare s.nodes → IsRising d → verdict s d ≡ None → right_nodes (visits s d) ≡ size (denoted s d)
+all_counted s null differ bare rising is = let no : ⊥ = cc in absurd no
+all_counted s (boolean b) differ bare rising is = let no : ⊥ = cc in absurd no
+all_counted s (number x) differ bare rising is = let no : ⊥ = cc in absurd no
+all_counted s (string t) differ bare rising is = let no : ⊥ = cc in absurd no
+all_counted s (array ds) differ bare rising is = let no : ⊥ = cc in absurd no
+all_counted s (object ms) differ bare rising is =
+    members_counted s None s.nodes [] ms differ.0 differ.1 bare rising (each_counted s ms rising) (top_right s (object ms) is)
 
 same_value : (d e : Data) (o : Option Data) → o ≡ Some d → o ≡ Some e → d ≡ e
 same_value d e o first second = let is : Some d ≡ Some e = sym first ∙ second in cc
 
-pub read_counted : (s : Schema) (bytes : List ℕ) (d : Data) (t : Tree) → NamesDiffer s → json_of bytes ≡ Some d → document_of s bytes ≡ Ok t
+pub read_counted : (s : Schema) (bytes : List ℕ) (d : Data) (t : Tree) → NamesDiffer s → LeafsAreBare s.nodes → json_of bytes ≡ Some d → document_of s bytes ≡ Ok t
     → right_nodes (visits s d) ≡ size t
-read_counted s bytes d t differ json so =
+read_counted s bytes d t differ bare json so =
     let was = was_read s bytes t so in
     let same : was.value ≡ d = same_value was.value d (json_of bytes) was.json json in
     subst (λ (x : Data). right_nodes (visits s x) ≡ size t) same
-    (all_counted s was.value differ (json_rising bytes was.value was.json) was.right ∙ ap size was.is)
+    (all_counted s was.value differ bare (json_rising bytes was.value was.json) was.right ∙ ap size was.is)
 
-pub read_within : (s : Schema) (bytes : List ℕ) (t : Tree) → NamesDiffer s → document_of s bytes ≡ Ok t → size t ≤ document_limit
-read_within s bytes t differ so =
+pub read_within : (s : Schema) (bytes : List ℕ) (t : Tree) → NamesDiffer s → LeafsAreBare s.nodes → document_of s bytes ≡ Ok t → size t ≤ document_limit
+read_within s bytes t differ bare so =
     let was = was_read s bytes t so in
-    let counted = read_counted s bytes was.value t differ was.json so in
+    let counted = read_counted s bytes was.value t differ bare was.json so in
     let room = (none_refused (visits s was.value) document_limit was.right).1 in
     omega (arith, counted, room)

@@ -9,9 +9,10 @@ use Rattle.serde_json.specs.Data.{Data, null, boolean, number, string, array, ob
 use Rattle.serde_json.specs.Find.{as_object, get_member}
 use Rattle.yspec.specs.Forest.{Forest, end, node, join}
 use Rattle.yspec.specs.text.Text.{Text, is_text}
-use Rattle.yspec.specs.schema.Schema.{Schema, SchemaNode, is_data, is_many, data_row, written_name, other_name}
+use Rattle.yspec.specs.schema.Schema.{Schema, SchemaNode, is_data, is_many, has_value, form_in, data_row, written_name, other_name}
 use Rattle.yspec.specs.document.Document.{Step, below_place, document_limit}
-use Rattle.yspec.specs.document.Reading.{Visit, right, wrong, child, named_in, other_or, at_named, value_visit, member_visits, node_visits, item_visits, instance_visits, first_wrong, right_nodes, first_refusal, verdict, members_of}
+use Rattle.yspec.specs.document.Reading.{Visit, right, wrong, child, named_in, other_or, at_named, leaf_visit, value_visit, member_visits, node_visits, item_visits, instance_visits, first_wrong, right_nodes, first_refusal, verdict, members_of}
+use Rattle.yspec.specs.document.Fitting.{IsBare, LeafsAreBare}
 use Rattle.yspec.specs.document.Writing.{IsNew, RowDiffers, AllDiffer}
 use Rattle.yspec.proofs.BasicLemmas.{same_text, other_text}
 
@@ -97,6 +98,19 @@ other_visited s n below place (string t) other = refl
 other_visited s n below place (array ds) other = refl
 other_visited s n below place (object ms) other = let no : ⊥ = cc in absurd no
 
+-- a value of a leaf or an item
+pub leaf_visited : (s : Schema) (n : SchemaNode) (below : Forest SchemaNode) (place : List Step) (d : Data) → has_value n.kind ≡ true
+    → instance_visits s n below place d ≡ value_visit n.kind place d
+unfolding instance_visits
+leaf_visited s n below place null is = refl
+leaf_visited s n below place (boolean b) is = refl
+leaf_visited s n below place (number x) is = refl
+leaf_visited s n below place (string t) is = refl
+leaf_visited s n below place (array ds) is = refl
+leaf_visited s n below place (object ms) is =
+    ap (λ b. cond b (leaf_visit (form_in n.kind) place (object ms)) (right place ∷ member_visits s (Some n.module_number) below place ms)) is
+    ∙ sym (ap (λ b. cond b (leaf_visit (form_in n.kind) place (object ms)) (wrong 5 place ∷ [])) is)
+
 pub no_members_of : (d : Data) → as_object d ≡ None → members_of d ≡ no_members
 no_members_of null other = refl
 no_members_of (boolean b) other = refl
@@ -132,9 +146,10 @@ meant_themselves s parent (node n below after) differ =
       meant_later s parent n below after after differ.0 (meant_themselves s parent after differ.1),
     )
 
--- below a data node no two data nodes are written with one name
+-- below a data node no two data nodes are written with one name, and below a leaf stands nothing
 abbrev pub BelowDiffers : Schema → SchemaNode → Forest SchemaNode → Type 0
-BelowDiffers s n below = RowDiffers s (Some n.module_number) (data_row below) × AllDiffer s below
+BelowDiffers s n below =
+    RowDiffers s (Some n.module_number) (data_row below) × AllDiffer s below × IsBare n.kind below × LeafsAreBare below
 
 abbrev pub EachDiffers : Schema → Forest SchemaNode → Type 0
 EachDiffers s end = Unit {0}
@@ -144,14 +159,14 @@ each_joined : (s : Schema) (f g : Forest SchemaNode) → EachDiffers s f → Eac
 each_joined s end g first second = second
 each_joined s (node n below after) g first second = (first.0, each_joined s after g first.1 second)
 
-pub each_differs : (s : Schema) (f : Forest SchemaNode) → AllDiffer s f → EachDiffers s (data_row f)
-each_differs s end differ = tt
-each_differs s (node n below after) differ =
-    by (is_data n.kind) refl (each_differs s below differ.1) (each_differs s after differ.2)
+pub each_differs : (s : Schema) (f : Forest SchemaNode) → AllDiffer s f → LeafsAreBare f → EachDiffers s (data_row f)
+each_differs s end differ bare = tt
+each_differs s (node n below after) differ bare =
+    by (is_data n.kind) refl (each_differs s below differ.1 bare.1) (each_differs s after differ.2 bare.2)
   where
     by : (b : Bool) → is_data n.kind ≡ b → EachDiffers s (data_row below) → EachDiffers s (data_row after)
         → EachDiffers s (cond b (node n below (data_row after)) (join (data_row below) (data_row after)))
-    by true is inner rest = ((differ.0 is, differ.1), rest)
+    by true is inner rest = ((differ.0 is, differ.1, bare.0, bare.1), rest)
     by false is inner rest = each_joined s (data_row below) (data_row after) inner rest
 
 -- ---- members
@@ -215,7 +230,7 @@ row_visited s parent children place ms (node n below after) these meant differ =
 
 -- where nothing is refused of members
 pub all_visited : (s : Schema) (parent : Option ℕ) (children : Forest SchemaNode) (place : List Step) (ms : Members)
-    → RowDiffers s parent (data_row children) → AllDiffer s children → first_wrong (member_visits s parent children place ms) ≡ None
-    → AreVisited s parent place ms (data_row children)
-all_visited s parent children place ms differ all these =
-    row_visited s parent children place ms (data_row children) these (meant_themselves s parent (data_row children) differ) (each_differs s children all)
+    → RowDiffers s parent (data_row children) → AllDiffer s children → LeafsAreBare children
+    → first_wrong (member_visits s parent children place ms) ≡ None → AreVisited s parent place ms (data_row children)
+all_visited s parent children place ms differ all bare these =
+    row_visited s parent children place ms (data_row children) these (meant_themselves s parent (data_row children) differ) (each_differs s children all bare)

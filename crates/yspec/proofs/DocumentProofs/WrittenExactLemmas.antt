@@ -8,14 +8,15 @@ use Rattle.yspec.specs.Forest.{Forest, end, node, levels, size}
 use Rattle.yspec.specs.text.Text.{Text}
 use Rattle.yspec.specs.types.Ranges.{lies_in}
 use Rattle.yspec.specs.types.Types.{Raw, text, int, bool, empty}
-use Rattle.yspec.specs.schema.Breaks.{level_limit}
-use Rattle.yspec.specs.schema.Schema.{Schema, SchemaNode, is_data, is_many, has_value, module_name, written_name}
+use Rattle.yspec.specs.schema.Schema.{Schema, SchemaNode, JsonForm, by_type, any_value, any_object, has_anything, is_data, is_many, has_value, form_in, module_name, written_name}
 use Rattle.yspec.specs.document.Document.{Tree, instances, document_limit}
 use Rattle.yspec.specs.document.Reading.{whole_numbers, document_of}
 use Rattle.yspec.specs.document.Fitting.{IsNumbered, LeafsAreBare, next_after, FitsBy}
-use Rattle.yspec.specs.document.Writing.{leaf_data, written_node, written_items, with_instances, row_members, written_value, written_text, NamesDiffer, HasForm, IsDocument}
+use Rattle.yspec.specs.document.Writing.{leaf_data, written_node, written_items, with_instances, row_members, written_value, written_text, NamesDiffer, IsDocument}
 use Rattle.yspec.proofs.DocumentProofs.ReadBackLemmas.{written_read}
-use Rattle.yspec.proofs.DocumentProofs.WrittenShapeLemmas.{levels_fit, written_depth}
+use Rattle.yspec.proofs.DocumentProofs.WholeTextLemmas.{data_exact}
+use Rattle.yspec.proofs.DocumentProofs.WrittenShapeLemmas.{written_shallow}
+use Rattle.yspec.specs.schema.Breaks.{level_limit, low_level_limit}
 use Rattle.yspec.proofs.DocumentProofs.ReadTextLemmas.{HoldsText}
 use Rattle.yspec.proofs.LinkingProofs.LinkedTextLemmas.{NamesAreTexts, NodesAreTexts, name_text}
 use Rattle.yspec.proofs.DocumentProofs.ExactLemmas.{IsWhole, IsExact, ItemsAreExact, AreExact, put_exact, exact_read}
@@ -30,12 +31,14 @@ number_exact : (z : ℤ) (b : Bool) → lies_in z whole_numbers ≡ b → IsExac
 number_exact z true inside = integer_whole z inside
 number_exact z false outside = tt
 
-leaf_exact : (n : SchemaNode) (value : Option Raw) → HoldsText n value → IsExact (leaf_data value)
-leaf_exact n None held = tt
-leaf_exact n (Some (text t)) held = held
-leaf_exact n (Some (int z)) held = number_exact z (lies_in z whole_numbers) refl
-leaf_exact n (Some (bool b)) held = tt
-leaf_exact n (Some empty) held = (tt, tt)
+leaf_exact : (n : SchemaNode) (form : JsonForm) (value : Option Raw) → HoldsText n value → IsExact (leaf_data form value)
+leaf_exact n form None held = tt
+leaf_exact n by_type (Some (text t)) held = held
+leaf_exact n by_type (Some (int z)) held = number_exact z (lies_in z whole_numbers) refl
+leaf_exact n by_type (Some (bool b)) held = tt
+leaf_exact n by_type (Some empty) held = (tt, tt)
+leaf_exact n any_value (Some raw) held = data_exact raw
+leaf_exact n any_object (Some raw) held = data_exact raw
 
 -- ---- trees whose texts are UTF-8
 
@@ -68,8 +71,9 @@ instances_texts m (node st b a) texts = by (eqb st.schema_number m) (instances_t
 
 -- ---- nodes
 
-node_exact : (n : SchemaNode) (b : Bool) (value : Option Raw) (inner : Members) → HoldsText n value → AreExact inner → IsExact (cond b (leaf_data value) (object inner))
-node_exact n true value inner held exact = leaf_exact n value held
+node_exact : (n : SchemaNode) (b : Bool) (value : Option Raw) (inner : Members) → HoldsText n value → AreExact inner
+    → IsExact (cond b (leaf_data (form_in n.kind) value) (object inner))
+node_exact n true value inner held exact = leaf_exact n (form_in n.kind) value held
 node_exact n false value inner held exact = exact
 
 abbrev WritesExact : (Tree → Members) → Type 0
@@ -112,10 +116,9 @@ rows_exact s parent (node n below after) t found modules names texts these =
 
 -- ---- documents
 
-pub ended_read : (s : Schema) (t : Tree) → IsNumbered 0 s.nodes → NamesDiffer s → LeafsAreBare s.nodes → levels s.nodes ≤ level_limit → NamesAreTexts s
+pub ended_read : (s : Schema) (t : Tree) → IsNumbered 0 s.nodes → NamesDiffer s → LeafsAreBare s.nodes → levels s.nodes ≤ level_limit
+    → (has_anything s.nodes ≡ true → levels s.nodes ≤ low_level_limit) → NamesAreTexts s
     → IsDocument s t → FitsBy HoldsText s.nodes 0 t → size t ≤ document_limit → document_of s (written_text s t ++ 10 ∷ []) ≡ Ok t
-ended_read s t numbered differ bare few names whole holds within =
-    let lower = levels_fit HasForm s.nodes 0 t whole in
-    let deep = written_depth s t (levels s.nodes) lower in
+ended_read s t numbered differ bare few low names whole holds within =
     written_read s t (written_text s t ++ 10 ∷ []) numbered differ bare whole within
-    (exact_read (written_value s t) (rows_exact s None s.nodes t no_members names.0 names.1 (fitting_texts s.nodes 0 t holds) tt) (omega (arith, deep, few)))
+    (exact_read (written_value s t) (rows_exact s None s.nodes t no_members names.0 names.1 (fitting_texts s.nodes 0 t holds) tt) (written_shallow s t few low whole))

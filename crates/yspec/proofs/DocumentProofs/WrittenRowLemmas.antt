@@ -1,44 +1,31 @@
 -- What is written of a stored row denotes that row again.
-use Rattle.std.proofs.Common.{◌≡◌, ◌≢◌, ℕ, suc, ℤ, pos, negsuc, Bool, true, false, cond, Option, Some, None, refl, sym, ap, ap₂, ◌∙◌}
-use Rattle.serde_json.specs.Data.{Data, null, number, array, object, Members, no_members, put}
-use Rattle.serde_json.specs.Find.{get_member, of_integer}
+use Rattle.std.proofs.Common.{◌≡◌, ◌≢◌, ℕ, suc, Bool, true, false, cond, Option, Some, None, refl, sym, ap, ap₂, ◌∙◌}
+use Rattle.serde_json.specs.Data.{Data, array, object, Members, no_members, put}
+use Rattle.serde_json.specs.Find.{get_member}
 use Rattle.serde_json.proofs.Views.{get_member-put, get_member-put_other}
 use Rattle.yspec.specs.Forest.{Forest, end, node, join}
 use Rattle.yspec.specs.text.Text.{Text}
-use Rattle.yspec.specs.types.Ranges.{lies_in}
-use Rattle.yspec.specs.types.Types.{Raw, text, int, bool, empty}
-use Rattle.yspec.specs.schema.Schema.{Schema, SchemaNode, Kind, is_data, is_many, has_value, written_name}
+use Rattle.yspec.specs.types.Types.{Raw}
+use Rattle.yspec.specs.schema.Schema.{Schema, SchemaNode, Kind, JsonForm, is_data, is_many, has_value, form_in, written_name}
 use Rattle.yspec.specs.document.Document.{Stored, Tree}
-use Rattle.yspec.specs.document.Reading.{whole_numbers, raw_integer, raw_of, members_of, items_of, stored_node, item_row, instance_row, stored_rows}
+use Rattle.yspec.specs.document.Reading.{raw_by, members_of, items_of, stored_node, item_row, instance_row, stored_rows}
 use Rattle.yspec.specs.document.Fitting.{IsBare, FitsBy}
-use Rattle.yspec.specs.document.Writing.{data_of, leaf_data, written_node, written_items, with_instances, row_members, IsNew, RowDiffers, HasText, HasTextIf, HasForm}
+use Rattle.yspec.specs.document.Writing.{leaf_data, written_node, written_items, with_instances, row_members, IsNew, RowDiffers, HasText, HasTextIf, HasForm}
 use Rattle.yspec.proofs.DocumentProofs.DataRowWritingLemmas.{Rises, Each, OfData}
 use Rattle.yspec.proofs.DocumentProofs.AlongLemmas.{AreOf, MayBe, Along}
 use Rattle.yspec.proofs.DocumentProofs.WrittenAlongLemmas.{inner_members, first_written}
 
 -- ---- values
 
-whole_number_back : (z : ℤ) → lies_in z whole_numbers ≡ true → data_of (int z) ≡ number (of_integer z)
-whole_number_back z h = ap (λ b. cond b (number (of_integer z)) null) h
-
-integer_read : (z : ℤ) → raw_of (number (of_integer z)) ≡ raw_integer z
-integer_read (pos n) = refl
-integer_read (negsuc n) = refl
-
-raw_back : (raw : Raw) → HasText (Some raw) → raw_of (data_of raw) ≡ Some raw
-raw_back (text t) h = refl
-raw_back (int z) h = ap raw_of (whole_number_back z h) ∙ (integer_read z ∙ ap (λ b. cond b (Some (int z)) None) h)
-raw_back (bool b) h = refl
-raw_back empty h = refl
-
 -- of a leaf or an item, and of another node
-pub leaf_back : (value : Option Raw) → HasText value → raw_of (leaf_data value) ≡ value
-leaf_back (Some raw) h = raw_back raw h
-leaf_back None h = absurd h
+pub leaf_back : (form : JsonForm) (value : Option Raw) → HasText form value → raw_by form (leaf_data form value) ≡ value
+leaf_back form (Some raw) h = h
+leaf_back form None h = absurd h
 
-value_back : (b : Bool) (value : Option Raw) (inner : Members) → HasTextIf b value → cond b (raw_of (cond b (leaf_data value) (object inner))) None ≡ value
-value_back true value inner held = leaf_back value held
-value_back false value inner held = sym held
+value_back : (b : Bool) (form : JsonForm) (value : Option Raw) (inner : Members) → HasTextIf b form value
+    → cond b (raw_by form (cond b (leaf_data form value) (object inner))) None ≡ value
+value_back true form value inner held = leaf_back form value held
+value_back false form value inner held = sym held
 
 -- ---- names
 
@@ -110,9 +97,9 @@ module _ (s : Schema) where
   bare_row n (node m inner after) b d bare fits = absurd cc
 
   below_at : (c : Bool) (n : SchemaNode) (below : Forest SchemaNode) (value : Option Raw) (b : Tree) → has_value n.kind ≡ c → ComesBack n below → FitsBy HasForm below 0 b
-      → rows_below n below (cond c (leaf_data value) (object (inner_members s n below b))) ≡ b
+      → rows_below n below (cond c (leaf_data (form_in n.kind) value) (object (inner_members s n below b))) ≡ b
   unfolding rows_below
-  below_at true n below value b is back fits = bare_row n below b (leaf_data value) (back.0 is) fits
+  below_at true n below value b is back fits = bare_row n below b (leaf_data (form_in n.kind) value) (back.0 is) fits
   below_at false n below value b is back fits = back.1 b fits
 
   below_back : (n : SchemaNode) (below : Forest SchemaNode) (value : Option Raw) (b : Tree) → ComesBack n below → FitsBy HasForm below 0 b
@@ -124,7 +111,7 @@ module _ (s : Schema) where
       → node (stored_node n (written_node n.kind st.value (inner_members s n below b))) (rows_below n below (written_node n.kind st.value (inner_members s n below b))) rest ≡ node st b rest
   instance_back n below st b rest back same held fits =
       let labelled : ℕ → Option Raw → Stored = λ i v. record { schema_number = i; value = v } in
-      ap₂ (λ l (x : Tree). node l x rest) (ap₂ labelled (sym same) (value_back (has_value n.kind) st.value (inner_members s n below b) held)) (below_back n below st.value b back fits)
+      ap₂ (λ l (x : Tree). node l x rest) (ap₂ labelled (sym same) (value_back (has_value n.kind) (form_in n.kind) st.value (inner_members s n below b) held)) (below_back n below st.value b back fits)
 
   items_back : (n : SchemaNode) (below : Forest SchemaNode) (front : Tree) → ComesBack n below → AreOf HasForm n below front
       → item_row n (rows_below n below) (written_items n.kind (inner_members s n below) front) ≡ front

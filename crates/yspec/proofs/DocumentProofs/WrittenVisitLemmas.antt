@@ -1,24 +1,22 @@
 -- What is written of a stored row that fits is right, and has no more right nodes than are stored.
-use Rattle.std.proofs.Common.{◌≡◌, ℕ, suc, zero-add, ◌+◌, ◌-◌, ◌≤◌, Bool, true, false, cond, List, [], ◌∷◌, ◌++◌, Option, Some, None, Ordering, Less, Equal, Greater, nat_cmp, is_eq, ℤ, refl, sym, ap, ◌∙◌, subst, arith}
+use Rattle.std.proofs.Common.{◌≡◌, ℕ, suc, zero-add, ◌+◌, ◌-◌, ◌≤◌, Bool, true, false, cond, List, [], ◌∷◌, ◌++◌, Option, Some, None, Ordering, Less, Equal, Greater, nat_cmp, is_eq, refl, sym, ap, ◌∙◌, subst, arith}
 use Rattle.std.proofs.lemmas.Map.Text.{is_eq-slice_cmp}
 use Rattle.std.proofs.lemmas.Slice.Eq.{bytes_eq-Decides}
 use Rattle.std.specs.Cmp.Lexicographic.{slice_cmp}
 use Rattle.std.specs.Prelude.{unwrap_or}
 use Rattle.std.specs.Option.{option_map_or}
 use Rattle.std.specs.Ordering.{match_ordering}
-use Rattle.serde_json.specs.Data.{Data, null, number, array, object, Items, no_items, item, Members, no_members, member, put}
-use Rattle.serde_json.specs.Find.{as_object, of_integer}
+use Rattle.serde_json.specs.Data.{Data, array, object, Items, no_items, item, Members, no_members, member, put}
 use Rattle.yspec.specs.Forest.{Forest, end, node, size, join}
 use Rattle.yspec.specs.text.Text.{Text}
-use Rattle.yspec.specs.types.Ranges.{lies_in}
-use Rattle.yspec.specs.types.Types.{Raw, text, int, bool, empty}
-use Rattle.yspec.specs.schema.Schema.{Schema, SchemaNode, is_many, has_value, data_row, written_name}
+use Rattle.yspec.specs.types.Types.{Raw, empty}
+use Rattle.yspec.specs.schema.Schema.{Schema, SchemaNode, JsonForm, is_many, has_value, form_in, data_row, written_name}
 use Rattle.yspec.specs.document.Document.{Stored, Tree, Step, below_place, instance_place}
-use Rattle.yspec.specs.document.Reading.{whole_numbers, Visit, right, wrong, refused_value, child, named, at_named, leaf_visit, value_visit, member_visits, node_visits, item_visits, instance_visits, first_wrong, right_nodes, first_refusal}
+use Rattle.yspec.specs.document.Reading.{Visit, right, wrong, refused_by, child, named, at_named, leaf_visit, value_visit, member_visits, node_visits, item_visits, instance_visits, first_wrong, right_nodes, first_refusal}
 use Rattle.yspec.specs.document.Fitting.{FitsBy}
 use Rattle.yspec.specs.document.Writing.{leaf_data, written_node, written_items, with_instances, row_members, HasText, HasTextIf, HasForm}
 use Rattle.yspec.proofs.DocumentProofs.FittingLemmas.{eqb_other}
-use Rattle.yspec.proofs.DocumentProofs.VisitLemmas.{first_part, one_visited, other_visited, AreMeant}
+use Rattle.yspec.proofs.DocumentProofs.VisitLemmas.{first_part, one_visited, leaf_visited, AreMeant}
 use Rattle.yspec.proofs.DocumentProofs.DataRowWritingLemmas.{Rises, Each, OfData}
 use Rattle.yspec.proofs.DocumentProofs.AlongLemmas.{AreOf, Along}
 use Rattle.yspec.proofs.DocumentProofs.WrittenAlongLemmas.{inner_members, first_written}
@@ -108,23 +106,12 @@ module _ (s : Schema) (parent : Option ℕ) (children : Forest SchemaNode) (plac
 
 -- ---- nodes
 
-by_whole : (z : ℤ) (b : Bool) → as_object (cond b (number (of_integer z)) null) ≡ None
-by_whole z true = refl
-by_whole z false = refl
-
-no_object : (value : Option Raw) → as_object (leaf_data value) ≡ None
-no_object (Some (text t)) = refl
-no_object (Some (int z)) = by_whole z (lies_in z whole_numbers)
-no_object (Some (bool b)) = refl
-no_object (Some empty) = refl
-no_object None = refl
-
 module _ (s : Schema) where
   object_value : (n : SchemaNode) (below : Forest SchemaNode) (place : List Step) (inner : Members) → has_value n.kind ≡ false
       → instance_visits s n below place (object inner) ≡ right place ∷ member_visits s (Some n.module_number) below place inner
   unfolding instance_visits
   object_value n below place inner is =
-      ap (λ c. cond c (wrong 5 place ∷ []) (right place ∷ member_visits s (Some n.module_number) below place inner)) is
+      ap (λ c. cond c (leaf_visit (form_in n.kind) place (object inner)) (right place ∷ member_visits s (Some n.module_number) below place inner)) is
 
   many_visits : (n : SchemaNode) (below : Forest SchemaNode) (place : List Step) (ds : Items) → is_many n.kind ≡ true
       → node_visits s n below place (array ds) ≡ item_visits s n below place 1 ds
@@ -144,16 +131,22 @@ module _ (s : Schema) where
   abbrev pub IsRight : SchemaNode → Forest SchemaNode → Type 0
   IsRight n below = (place : List Step) (t : Tree) → FitsBy HasForm below 0 t → AreFine (member_visits s (Some n.module_number) below place (inner_members s n below t)) (size t)
 
-  leaf_fine : (n : SchemaNode) (below : Forest SchemaNode) (place : List Step) (value : Option Raw) (b : Tree) → has_value n.kind ≡ true → HasText value
-      → AreFine (instance_visits s n below place (leaf_data value)) (suc (size b))
+  leaf_fine : (n : SchemaNode) (below : Forest SchemaNode) (place : List Step) (value : Option Raw) (b : Tree) → has_value n.kind ≡ true → HasText (form_in n.kind) value
+      → AreFine (instance_visits s n below place (leaf_data (form_in n.kind) value)) (suc (size b))
   leaf_fine n below place value b is held =
       subst (λ vs. AreFine vs (suc (size b)))
-      (sym (other_visited s n below place (leaf_data value) (no_object value)
-      ∙ (ap (λ c. cond c (leaf_visit place (leaf_data value)) (wrong 5 place ∷ [])) is
-      ∙ ap (λ (o : Option Raw). option_map_or (λ _. right place ∷ []) o (wrong (refused_value (leaf_data value)) place ∷ [])) (leaf_back value held ∙ known value held))))
+      (sym (leaf_visited s n below place d is
+      ∙ (ap (λ c. cond c (leaf_visit form place d) (wrong 5 place ∷ [])) is
+      ∙ ap (λ (o : Option Raw). option_map_or (λ _. right place ∷ []) o (wrong (refused_by form d) place ∷ [])) (leaf_back form value held ∙ known value held))))
       (refl, omega arith)
     where
-      known : (value : Option Raw) → (held : HasText value) → value ≡ Some (unwrap_or value empty)
+      form : JsonForm
+      form = form_in n.kind
+
+      d : Data
+      d = leaf_data form value
+
+      known : (value : Option Raw) → (held : HasText form value) → value ≡ Some (unwrap_or value empty)
       known (Some raw) held = refl
       known None held = absurd held
 
@@ -168,7 +161,7 @@ module _ (s : Schema) where
       → AreFine (instance_visits s n below place (written_node n.kind value (inner_members s n below b))) (suc (size b))
   instance_fine n below place value b inner held fits = by (has_value n.kind) refl held
     where
-      by : (c : Bool) → has_value n.kind ≡ c → HasTextIf c value → AreFine (instance_visits s n below place (cond c (leaf_data value) (object (inner_members s n below b)))) (suc (size b))
+      by : (c : Bool) → has_value n.kind ≡ c → HasTextIf c (form_in n.kind) value → AreFine (instance_visits s n below place (cond c (leaf_data (form_in n.kind) value) (object (inner_members s n below b)))) (suc (size b))
       by true is held = leaf_fine n below place value b is held
       by false is held = object_fine n below place b is inner fits
 

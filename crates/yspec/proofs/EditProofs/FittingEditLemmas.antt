@@ -11,7 +11,7 @@ use Rattle.yspec.specs.types.Types.{Raw}
 use Rattle.yspec.specs.schema.Schema.{Schema, SchemaNode, is_many, data_row, child_in}
 use Rattle.yspec.specs.document.Document.{Stored, Tree, Step, instances_in, document_limit}
 use Rattle.yspec.specs.document.Reading.{Refusal, first_wrong, instance_visits, json_of, members_of, raw_in, stored_rows}
-use Rattle.yspec.specs.document.Fitting.{IsNumbered, next_after, FitsBy, Fits}
+use Rattle.yspec.specs.document.Fitting.{IsNumbered, next_after, FitsBy, Fits, LeafsAreBare}
 use Rattle.yspec.specs.document.Writing.{AllDiffer, NamesDiffer, HasForm, IsDocument}
 use Rattle.yspec.specs.edit.Edit.{is_of, instance_index, edit_at}
 use Rattle.yspec.specs.edit.EditText.{Path, Edit, create, replace, remove, move_to}
@@ -22,8 +22,9 @@ use Rattle.yspec.proofs.DocumentProofs.SortingLemmas.{child_number, not_before}
 use Rattle.yspec.proofs.DocumentProofs.HeldNodeLemmas.{schema_has_all}
 use Rattle.yspec.proofs.DocumentProofs.VisitLemmas.{EachDiffers, BelowDiffers, each_differs}
 use Rattle.yspec.proofs.DocumentProofs.FittingReadLemmas.{row_fits, ever_held}
-use Rattle.yspec.proofs.DocumentProofs.ReadWholeLemmas.{instance_held, right_rows}
-use Rattle.yspec.proofs.DocumentProofs.JsonValueLemmas.{AreTexts, json_of_texts}
+use Rattle.yspec.proofs.DocumentProofs.ReadWholeLemmas.{instance_held, right_rows, json_is_good}
+use Rattle.yspec.proofs.DocumentProofs.WholeTextLemmas.{IsGood}
+use Rattle.yspec.proofs.DocumentProofs.JsonValueLemmas.{IsRead, json_is_read}
 use Rattle.yspec.proofs.DocumentProofs.ReadTextLemmas.{HoldsText, members_texts, rows_hold, value_held}
 use Rattle.yspec.proofs.EditProofs.MoveLemmas.{OnSome, either_branch, goes_low, stays_behind, IsMany, EndsInMany, to_move, target_many, if_both}
 use Rattle.yspec.proofs.EditProofs.AnswerLemmas.{If, if_then, if_cond, IsOf, meant_of, edits_keep}
@@ -431,22 +432,30 @@ differs_there : (s : Schema) (n : SchemaNode) (g f : Forest SchemaNode) → Each
 differs_there s n g f differ first = differ.0
 differs_there s n g f differ (later {after = others} there) = differs_there s n g others differ.1 there
 
-value_sound : (s : Schema) → IsSound s HasForm (AllDiffer s) (λ d. Unit {0})
+-- names differ in a row and below it, and below a leaf stands nothing
+abbrev IsApart : Schema → Forest SchemaNode → Type 0
+IsApart s f = AllDiffer s f × LeafsAreBare f
+
+apart_there : (s : Schema) (n : SchemaNode) (g f : Forest SchemaNode) → IsApart s f → InRow n g (data_row f) → BelowDiffers s n g
+apart_there s n g f apart there = differs_there s n g (data_row f) (each_differs s f apart.0 apart.1) there
+
+value_sound : (s : Schema) → IsSound s HasForm (IsApart s) IsGood
 value_sound s = record {
-  given = λ text d is. tt;
-  extra_below = λ f n g there extra. (differs_there s n g (data_row f) (each_differs s f extra) there).1;
+  given = json_is_good;
+  extra_below = λ f n g there extra. let below = apart_there s n g f extra there in (below.1, below.3);
   holds = λ f n g d there stands extra given right.
-      let held = instance_held s n g [] d (differs_there s n g (data_row f) (each_differs s f extra) there) right in
+      let held = instance_held s n g [] d (apart_there s n g f extra there) given right in
       (held.0, right_rows s (Some n.module_number) g stands.0.0 (members_of d) stands.0.1 held.1);
 }
 
 -- in values too, where no two siblings are written with one name
-pub edit_whole : (s : Schema) (tree : Tree) (e : Edit) → IsNumbered 0 s.nodes → NamesDiffer s → IsDocument s tree → If (IsDocument s) (applied s tree e)
-edit_whole s tree e numbered differ whole = applied_fits s HasForm (AllDiffer s) (λ d. Unit {0}) tree (value_sound s) e numbered differ.1 whole
+pub edit_whole : (s : Schema) (tree : Tree) (e : Edit) → IsNumbered 0 s.nodes → NamesDiffer s → LeafsAreBare s.nodes → IsDocument s tree
+    → If (IsDocument s) (applied s tree e)
+edit_whole s tree e numbered differ bare whole = applied_fits s HasForm (IsApart s) IsGood tree (value_sound s) e numbered (differ.1, bare) whole
 
-text_sound : (s : Schema) → IsSound s HoldsText (λ f. Unit {0}) AreTexts
+text_sound : (s : Schema) → IsSound s HoldsText (λ f. Unit {0}) IsRead
 text_sound s = record {
-  given = json_of_texts;
+  given = json_is_read;
   extra_below = λ f n g there extra. tt;
   holds = λ f n g d there stands extra given right.
       (value_held n d given, rows_hold s (Some n.module_number) g stands.0.0 (members_of d) stands.0.1 (members_texts d given));
@@ -454,10 +463,11 @@ text_sound s = record {
 
 -- its texts stay UTF-8
 pub edit_holds : (s : Schema) (tree : Tree) (e : Edit) → IsNumbered 0 s.nodes → FitsBy HoldsText s.nodes 0 tree → If (FitsBy HoldsText s.nodes 0) (applied s tree e)
-edit_holds s tree e numbered fits = applied_fits s HoldsText (λ f. Unit {0}) AreTexts tree (text_sound s) e numbered tt fits
+edit_holds s tree e numbered fits = applied_fits s HoldsText (λ f. Unit {0}) IsRead tree (text_sound s) e numbered tt fits
 
 pub edits_fit : (s : Schema) (tree : Tree) (edits : List Edit) → IsNumbered 0 s.nodes → Fits s tree → Fits s (after s tree edits)
 edits_fit s tree edits numbered fits = edits_keep (Fits s) s tree edits (λ t e so. edit_fits s t e numbered so) fits
 
-pub edits_whole : (s : Schema) (tree : Tree) (edits : List Edit) → IsNumbered 0 s.nodes → NamesDiffer s → IsDocument s tree → IsDocument s (after s tree edits)
-edits_whole s tree edits numbered differ whole = edits_keep (IsDocument s) s tree edits (λ t e so. edit_whole s t e numbered differ so) whole
+pub edits_whole : (s : Schema) (tree : Tree) (edits : List Edit) → IsNumbered 0 s.nodes → NamesDiffer s → LeafsAreBare s.nodes → IsDocument s tree
+    → IsDocument s (after s tree edits)
+edits_whole s tree edits numbered differ bare whole = edits_keep (IsDocument s) s tree edits (λ t e so. edit_whole s t e numbered differ bare so) whole

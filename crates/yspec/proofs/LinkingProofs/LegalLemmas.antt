@@ -29,14 +29,14 @@ turned : (b : Bool) → not b ≡ false → b ≡ true
 turned true e = refl
 turned false e = absurd cc
 
-argument_fits : (form : Form) (given : Option Text) → option_map_or (fits form) given false ≡ true → fits form (unwrap_or given []) ≡ true
-argument_fits form None e = absurd cc
-argument_fits form (Some t) e = e
+argument_fits : (form : Form) (given : Option Text) (other : Text) → option_map_or (fits form) given false ≡ true → fits form (unwrap_or given other) ≡ true
+argument_fits form None other e = absurd cc
+argument_fits form (Some t) other e = e
 
-fitting_of : (m : ℕ) (k : Keyword) (s : Statement) (below : Forest Statement) → own_breaks m k s below ≡ [] → fits (rule_of k).form (unwrap_or s.argument []) ≡ true
+fitting_of : (m : ℕ) (k : Keyword) (s : Statement) (below : Forest Statement) → own_breaks m k s below ≡ [] → fits (rule_of k).form (unwrap_or s.argument s.keyword) ≡ true
 fitting_of m k s below e =
     let given = option_map_or (fits (rule_of k).form) s.argument false in
-    argument_fits (rule_of k).form s.argument
+    argument_fits (rule_of k).form s.argument s.keyword
     (turned given (unbroken (not given) 3 m s.line (none_first (argument_breaks m (rule_of k).form s) _ e)))
 
 -- a statement of a row with a keyword of the table
@@ -132,7 +132,7 @@ are_modules home end e number = tt
 are_modules home (node s below after) e number =
     let here = is_module home s below (none_first (top_breaks home s below) (breaks_from (home + 1) after) e) in
     subst (AreModules home) (sym (sources_first home number s below after here.keyword)) (
-      identifier_fits (unwrap_or s.argument []) (fitting_of home module_word s below here.own),
+      identifier_fits (unwrap_or s.argument s.keyword) (fitting_of home module_word s below here.own),
       legal_from home (rule_of module_word).substatements below here.inner (number + 1),
       are_modules (home + 1) after (none_second (top_breaks home s below) (breaks_from (home + 1) after) e) _,
     )

@@ -1,15 +1,16 @@
 -- What document a JSON text denotes under a schema, or why none (RFC 7951, 4 to 6).
-use Rattle.std.specs.Prelude.{ℕ, suc, ◌-◌, ◌+◌, ◌==◌, ◌^◌, ℤ, pos, negsuc, Bool, true, false, List, [], ◌∷◌, ◌++◌, Option, Some, None, Result, Ok, Err, if◌then◌else◌}
+use Rattle.std.specs.Prelude.{ℕ, suc, ◌-◌, ◌+◌, ◌==◌, ◌^◌, ℤ, pos, negsuc, Bool, true, false, not, ◌&&◌, nat_le, List, [], ◌∷◌, ◌++◌, Option, Some, None, Result, Ok, Err, if◌then◌else◌}
 use Rattle.std.specs.Option.{option_map_or}
 use Rattle.std.specs.Str.{is_utf8}
-use Rattle.serde_json.specs.Data.{Num, unsigned, negative, float, Data, null, boolean, number, string, array, object, Items, no_items, item, Members, no_members, member}
+use Rattle.serde_json.specs.Data.{Num, unsigned, negative, float, Data, null, boolean, number, string, array, object, Items, no_items, item, Members, no_members, member, depth}
 use Rattle.serde_json.specs.Find.{get_member}
 use Rattle.serde_json.specs.Read.{read}
+use Rattle.serde_json.specs.Written.{compact_text, has_float}
 use Rattle.yspec.specs.Forest.{Forest, end, node, join}
 use Rattle.yspec.specs.types.Ranges.{Part, lies_in}
 use Rattle.yspec.specs.types.Types.{Raw, text, int, bool, empty}
 use Rattle.yspec.specs.text.Text.{Text, is_text}
-use Rattle.yspec.specs.schema.Schema.{Schema, SchemaNode, Kind, is_data, is_many, has_value, data_row, written_name, other_name}
+use Rattle.yspec.specs.schema.Schema.{Schema, SchemaNode, Kind, JsonForm, by_type, any_value, any_object, is_data, is_many, has_value, form_in, data_row, written_name, other_name}
 use Rattle.yspec.specs.document.Document.{Stored, Tree, Step, below_place, instance_place, document_limit}
 
 -- why a document isn't read: the number behind the `J`, and the place
@@ -54,6 +55,33 @@ abbrev pub refused_value : Data → ℕ
 refused_value (number n) = 6
 refused_value _ = 5
 
+-- the values of `anydata` and `anyxml` nest no deeper
+abbrev pub nesting_limit : ℕ
+nesting_limit = 64
+
+-- Numbers in them are whole ones of 64 bits as well.
+abbrev pub is_kept : Data → Bool
+is_kept d = not (has_float d) && nat_le (depth d) nesting_limit
+
+abbrev pub whole_raw : Data → Option Raw
+whole_raw d = if is_kept d then Some (text (compact_text d)) else None
+
+abbrev pub is_object : Data → Bool
+is_object (object ms) = true
+is_object _ = false
+
+-- what is held of a value
+abbrev pub raw_by : JsonForm → Data → Option Raw
+raw_by by_type d = raw_of d
+raw_by any_value d = whole_raw d
+raw_by any_object d = if is_object d then whole_raw d else None
+
+-- where nothing is, the number of the refusal
+abbrev pub refused_by : JsonForm → Data → ℕ
+refused_by by_type d = refused_value d
+refused_by any_value d = if has_float d then 6 else 5
+refused_by any_object d = if is_object d && has_float d then 6 else 5
+
 -- ---- names of members
 
 -- the child that a member's name means; that it is in the form that isn't due; or that no child has it
@@ -84,16 +112,16 @@ at_named unknown place visits = wrong 3 place ∷ []
 
 -- ---- visits
 
-abbrev pub leaf_visit : List Step → Data → List Visit
-leaf_visit place d = option_map_or (λ _. right place ∷ []) (raw_of d) (wrong (refused_value d) place ∷ [])
+abbrev pub leaf_visit : JsonForm → List Step → Data → List Visit
+leaf_visit form place d = option_map_or (λ _. right place ∷ []) (raw_by form d) (wrong (refused_by form d) place ∷ [])
 
 -- of a value that is no object: only a leaf or an item has one
 abbrev pub value_visit : Kind → List Step → Data → List Visit
-value_visit kind place d = if has_value kind then leaf_visit place d else wrong 5 place ∷ []
+value_visit kind place d = if has_value kind then leaf_visit (form_in kind) place d else wrong 5 place ∷ []
 
--- of an object: no leaf or item has one; `inner` are the visits of its members
-abbrev pub object_visit : Kind → List Step → List Visit → List Visit
-object_visit kind place inner = if has_value kind then wrong 5 place ∷ [] else right place ∷ inner
+-- of an object; `inner` are the visits of its members, which are none of a leaf or an item
+abbrev pub object_visit : Kind → List Step → Members → List Visit → List Visit
+object_visit kind place ms inner = if has_value kind then leaf_visit (form_in kind) place (object ms) else right place ∷ inner
 
 -- a list or leaf-list is an array
 abbrev pub unless_many : Kind → List Step → List Visit → List Visit
@@ -112,7 +140,7 @@ unfoldable mutual
   node_visits schema n below place (array ds) = if is_many n.kind then item_visits schema n below place 1 ds
       else value_visit n.kind (below_place place n) (array ds)
   node_visits schema n below place (object ms) = unless_many n.kind (below_place place n)
-      (object_visit n.kind (below_place place n) (member_visits schema (Some n.module_number) below (below_place place n) ms))
+      (object_visit n.kind (below_place place n) ms (member_visits schema (Some n.module_number) below (below_place place n) ms))
   node_visits schema n below place null =
       unless_many n.kind (below_place place n) (value_visit n.kind (below_place place n) null)
   node_visits schema n below place (boolean b) =
@@ -131,7 +159,7 @@ unfoldable mutual
   -- of a container, an entry, a leaf or an item; the place is its own
   pub instance_visits : Schema → SchemaNode → Forest SchemaNode → List Step → Data → List Visit
   instance_visits schema n below place (object ms) =
-      object_visit n.kind place (member_visits schema (Some n.module_number) below place ms)
+      object_visit n.kind place ms (member_visits schema (Some n.module_number) below place ms)
   instance_visits schema n below place (array ds) = value_visit n.kind place (array ds)
   instance_visits schema n below place null = value_visit n.kind place null
   instance_visits schema n below place (boolean b) = value_visit n.kind place (boolean b)
@@ -175,7 +203,7 @@ items_of (array ds) = ds
 items_of _ = no_items
 
 abbrev pub raw_in : Kind → Data → Option Raw
-raw_in kind d = if has_value kind then raw_of d else None
+raw_in kind d = if has_value kind then raw_by (form_in kind) d else None
 
 abbrev pub stored_node : SchemaNode → Data → Stored
 stored_node n d = record { schema_number = n.number; value = raw_in n.kind d }

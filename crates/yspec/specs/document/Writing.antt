@@ -1,5 +1,5 @@
 -- The JSON text of a document (RFC 7951, 4 to 6).
-use Rattle.std.specs.Prelude.{◌<◌, ◌==◌, false, length, ◌≡◌, ◌≢◌, ℕ, ℤ, Bool, true, Option, Some, None, if◌then◌else◌}
+use Rattle.std.specs.Prelude.{◌<◌, ◌==◌, false, length, ◌≡◌, ◌≢◌, ℕ, ℤ, Bool, true, Option, Some, None, option_and_then, unwrap_or, if◌then◌else◌}
 use Rattle.std.specs.List.{list_any}
 use Rattle.std.specs.Option.{option_map_or}
 use Rattle.serde_json.specs.Data.{Data, null, boolean, number, string, array, object, Items, no_items, item, Members, no_members, put}
@@ -9,9 +9,9 @@ use Rattle.yspec.specs.Forest.{Forest, end, node}
 use Rattle.yspec.specs.text.Text.{Text, colon}
 use Rattle.yspec.specs.types.Ranges.{lies_in}
 use Rattle.yspec.specs.types.Types.{Raw, text, int, bool, empty}
-use Rattle.yspec.specs.schema.Schema.{Schema, SchemaNode, Kind, is_data, is_many, has_value, data_row, module_name, written_name}
+use Rattle.yspec.specs.schema.Schema.{Schema, SchemaNode, Kind, JsonForm, by_type, any_value, any_object, is_data, is_many, has_value, form_in, data_row, module_name, written_name}
 use Rattle.yspec.specs.document.Document.{Tree, instances}
-use Rattle.yspec.specs.document.Reading.{whole_numbers}
+use Rattle.yspec.specs.document.Reading.{whole_numbers, is_kept, raw_by, json_of}
 use Rattle.yspec.specs.document.Fitting.{FitsBy}
 
 -- ---- values of leafs
@@ -27,14 +27,27 @@ data_of (int z) = whole_number z
 data_of (bool b) = boolean b
 data_of empty = array (item null no_items)
 
-abbrev pub leaf_data : Option Raw → Data
-leaf_data value = option_map_or data_of value null
+-- the value that a text spells, where such a one is kept
+abbrev pub if_kept : Data → Option Data
+if_kept d = if is_kept d then Some d else None
+
+abbrev pub whole_data : Raw → Data
+whole_data (text t) = unwrap_or (option_and_then if_kept (json_of t)) null
+whole_data _ = null
+
+abbrev pub data_by : JsonForm → Raw → Data
+data_by by_type raw = data_of raw
+data_by any_value raw = whole_data raw
+data_by any_object raw = whole_data raw
+
+abbrev pub leaf_data : JsonForm → Option Raw → Data
+leaf_data form value = option_map_or (data_by form) value null
 
 -- ---- nodes
 
 -- `inner` are the members of what stands below the node
 abbrev pub written_node : Kind → Option Raw → Members → Data
-written_node kind value inner = if has_value kind then leaf_data value else object inner
+written_node kind value inner = if has_value kind then leaf_data (form_in kind) value else object inner
 
 abbrev pub written_items : Kind → (Tree → Members) → Tree → Items
 written_items kind inner end = no_items
@@ -87,19 +100,18 @@ AllDiffer schema (node n below after) = ChildrenDiffer schema n below × AllDiff
 abbrev pub NamesDiffer : Schema → Type 0
 NamesDiffer schema = RowDiffers schema None (data_row schema.nodes) × AllDiffer schema schema.nodes
 
--- a value that a document can have
-abbrev pub HasText : Option Raw → Type 0
-HasText None = ⊥
-HasText (Some (int z)) = lies_in z whole_numbers ≡ true
-HasText (Some _) = Unit {0}
+-- a value that a document can have: what is written for it is held as it
+abbrev pub HasText : JsonForm → Option Raw → Type 0
+HasText form None = ⊥
+HasText form (Some raw) = raw_by form (data_by form raw) ≡ Some raw
 
-abbrev pub HasTextIf : Bool → Option Raw → Type 0
-HasTextIf true value = HasText value
-HasTextIf false value = value ≡ None
+abbrev pub HasTextIf : Bool → JsonForm → Option Raw → Type 0
+HasTextIf true form value = HasText form value
+HasTextIf false form value = value ≡ None
 
 -- a leaf and an item have such a value, and nothing else has a value
 abbrev pub HasForm : SchemaNode → Option Raw → Type 0
-HasForm n value = HasTextIf (has_value n.kind) value
+HasForm n value = HasTextIf (has_value n.kind) (form_in n.kind) value
 
 -- a document that fits a schema, in values too
 abbrev pub IsDocument : Schema → Tree → Type 0

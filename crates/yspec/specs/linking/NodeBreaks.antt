@@ -11,7 +11,7 @@ use Rattle.yspec.specs.linking.Keyword as word
 use Rattle.yspec.specs.linking.Source.{Stated, argument_in}
 use Rattle.yspec.specs.linking.Scopes.{statement_at}
 use Rattle.yspec.specs.linking.TypeStatements.{Member, own_member, leafref_member, Meant, own, of_target, of_union}
-use Rattle.yspec.specs.linking.Planned.{Planned, Plan, same_number, nodes_of, node_of, child_called, is_a, is_leaf_or_leaf_list, stated_in, meant_in, path_target, target_meant, type_of, is_on_circle}
+use Rattle.yspec.specs.linking.Planned.{Planned, Plan, same_number, nodes_of, node_of, child_called, is_a, is_leaf_or_leaf_list, stated_in, is_leaf, meant_in, path_target, target_meant, type_of, is_on_circle}
 use Rattle.yspec.specs.linking.SchemaNodes.{is_mandatory, min_elements_of, key_names, key_numbers, unique_ways, own_defaults, default_texts, value_stated, default_case, is_key}
 use Rattle.yspec.specs.schema.Breaks.{Break, broken, when}
 
@@ -47,7 +47,7 @@ config_breaks plan p = when (p.config && (not (is_config_above plan p) || (is_a 
 -- ---- C12: keys and uniques
 
 abbrev pub is_key_leaf : Planned → Planned → Bool
-is_key_leaf list p = is_a word.leaf_word p && (p.part.owner == list.part.owner && same_config list.config p.config)
+is_key_leaf list p = is_leaf p && (p.part.owner == list.part.owner && same_config list.config p.config)
   where
     same_config : Bool → Bool → Bool
     same_config true b = b
@@ -65,7 +65,7 @@ is_wrong_key plan p = not (list_all (λ name. option_map_or (is_key_leaf p) (chi
 -- the leaf to which a way through containers leads
 abbrev pub leaf_behind : List Planned → Option Planned
 leaf_behind [] = None
-leaf_behind (p ∷ []) = if is_a word.leaf_word p then Some p else None
+leaf_behind (p ∷ []) = if is_leaf p then Some p else None
 leaf_behind (p ∷ q ∷ more) = if is_a word.container_word p then leaf_behind (q ∷ more) else None
 
 abbrev pub leaf_named : Option (List Planned) → Option Planned

@@ -1,5 +1,5 @@
 -- Parts with the numbers of their schema nodes, and what one finds by name among them (RFC 7950, 6.5, 7.8 and 9.9).
-use Rattle.std.specs.Prelude.{ℕ, zero, suc, ◌+◌, ◌==◌, ◌&&◌, ◌||◌, Bool, true, false, not, List, [], ◌∷◌, map, codes, Option, Some, None, find, filter, length, option_map, option_and_then, nat_lt, if◌then◌else◌}
+use Rattle.std.specs.Prelude.{ℕ, zero, suc, ◌+◌, ◌==◌, ◌&&◌, ◌||◌, Bool, true, false, not, List, [], ◌∷◌, map, codes, Option, Some, None, is_some, find, filter, length, option_map, option_and_then, nat_lt, if◌then◌else◌}
 use Rattle.std.specs.List.{filter_map, flat_map, list_any, range_with_len}
 use Rattle.std.specs.Option.{option_map_or, option_eq}
 use Rattle.yspec.specs.Forest.{Forest, end, node, size, preorder}
@@ -86,6 +86,13 @@ stated_in k p = argument_with k p.part.own
 abbrev pub is_leaf_or_leaf_list : Planned → Bool
 is_leaf_or_leaf_list p = is_a word.leaf_word p || is_a word.leaf_list_word p
 
+-- A leaf and a leaf-list have a type; an `anydata` and an `anyxml`, which are as leafs otherwise, have none (RFC 7950, 7.10 and 7.11).
+abbrev pub is_typed : Planned → Bool
+is_typed p = is_some (stated_in word.type_word p)
+
+abbrev pub is_leaf : Planned → Bool
+is_leaf p = is_a word.leaf_word p && is_typed p
+
 -- ---- by name
 
 abbrev pub same_number : Option ℕ → Option ℕ → Bool
@@ -143,7 +150,7 @@ meant_in plan p = option_and_then (λ s. type_meant plan.modules s.number) (firs
 -- ---- leafrefs
 
 abbrev pub leaf_found : Option Planned → Option Planned
-leaf_found found = option_and_then (λ p. if is_leaf_or_leaf_list p then Some p else None) found
+leaf_found found = option_and_then (λ p. if is_typed p then Some p else None) found
 
 -- the leaf or leaf-list to which a path leads that stands in a module and in the type of a node
 abbrev pub path_target : Plan → Planned → ℕ → List Name → Option Planned

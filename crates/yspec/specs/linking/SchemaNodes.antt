@@ -14,7 +14,7 @@ use Rattle.yspec.specs.linking.Identities.{names_of}
 use Rattle.yspec.specs.linking.DerivedTypes.{default_meant}
 use Rattle.yspec.specs.linking.Prefixes.{NodeName, node_name}
 use Rattle.yspec.specs.linking.Planned.{Planned, Plan, is_said, is_a, stated_in, node_of, child_called, way, meant_in, target_of, targets_of, type_of}
-use Rattle.yspec.specs.schema.Schema.{SchemaNode, Kind, container, leaf, leaf_list, list, choice, case, LeafType, Absence, allowed, default_used, mandatory, key, Amount, Tuples, LeafPath, Status, current}
+use Rattle.yspec.specs.schema.Schema.{SchemaNode, Kind, container, leaf, leaf_list, list, choice, case, by_type, LeafType, Absence, allowed, default_used, mandatory, key, Amount, Tuples, LeafPath, Status, current}
 
 abbrev pub is_mandatory : Planned → Bool
 is_mandatory p = option_map_or is_said (stated_in word.mandatory_word p) false
@@ -121,6 +121,7 @@ leaf_type plan p = record {
   type = unwrap_or (type_of plan p) string_type;
   target = option_map number_in (target_of plan p);
   targets = targets_of plan (type_of plan) p (meant_in plan p);
+  form = by_type;
 }
 
 abbrev pub is_among : List ℕ → Planned → Bool

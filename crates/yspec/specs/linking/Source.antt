@@ -50,9 +50,9 @@ sources_of modules = sources_from 0 0 modules
 
 -- ---- questions
 
--- the argument; no text where there is none
+-- the argument; a statement without one is called by its keyword, as `input` and `output` are (RFC 7950, 7.14.2 and 7.14.3)
 abbrev pub argument_in : Source → Text
-argument_in s = unwrap_or s.statement.argument []
+argument_in s = unwrap_or s.statement.argument s.statement.keyword
 
 abbrev pub is_source_of : Keyword → Source → Bool
 is_source_of k s = same_keyword k s.keyword

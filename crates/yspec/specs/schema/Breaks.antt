@@ -77,6 +77,10 @@ node_limit = 65535
 abbrev pub level_limit : ℕ
 level_limit = 60
 
+-- where there is an `anydata` or `anyxml`, whose values nest too
+abbrev pub low_level_limit : ℕ
+low_level_limit = 31
+
 -- the `module` statement given last
 abbrev pub last_module : ℕ → Forest Statement → Option (ℕ × ℕ)
 last_module m end = None

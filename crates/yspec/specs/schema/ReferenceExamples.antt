@@ -3,7 +3,7 @@ use Rattle.std.specs.Prelude.{ℕ, ◌==◌, ◌&&◌, ◌++◌, true, false, Li
 use Rattle.yspec.specs.types.Types.{Raw, Val, YangType, plain, integer_type, int8, uint16, uint8_type, boolean_base, string_type, taken}
 use Rattle.yspec.specs.types.Order.{same_value}
 use Rattle.yspec.specs.types.Restriction.{union_type}
-use Rattle.yspec.specs.schema.Schema.{LeafType}
+use Rattle.yspec.specs.schema.Schema.{LeafType, by_type}
 use Rattle.yspec.specs.schema.References.{Reference, reference_in}
 use Rattle.yspec.specs.document.Fault.{Fault}
 use Rattle.yspec.specs.document.Faults.{Times, reference_faults}
@@ -23,6 +23,7 @@ union_sample = record {
   type = union_type (uint8_type ∷ third ∷ fifth ∷ string_type ∷ []);
   target = None;
   targets = None ∷ (targets_by 3 true third.shape ++ (targets_by 5 false fifth.shape ++ None ∷ []));
+  form = by_type;
 }
 
 -- what it refers to where a document has something

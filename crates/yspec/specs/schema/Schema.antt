@@ -1,5 +1,5 @@
 -- The schema tree of a set of modules (RFC 7950, 4.2.2 and 7).
-use Rattle.std.specs.Prelude.{ℕ, ◌==◌, Bool, true, false, List, [], ◌∷◌, codes, filter, Option, Some, None, option_map, unwrap_or, if◌then◌else◌, find, slice_get, ◌&&◌, ◌++◌}
+use Rattle.std.specs.Prelude.{ℕ, ◌==◌, Bool, true, false, List, [], ◌∷◌, codes, filter, Option, Some, None, option_map, unwrap_or, if◌then◌else◌, find, slice_get, ◌&&◌, ◌||◌, ◌++◌}
 use Rattle.std.specs.Option.{option_map_or}
 use Rattle.yspec.specs.Forest.{Forest, end, node, row, join, find_label, find_below}
 use Rattle.yspec.specs.text.Text.{Text, is_text}
@@ -15,18 +15,26 @@ pub record MemberTarget : Type 0 where
   pub member : Option ℕ
   pub is_required : Bool
 
+-- How a document has a value: as its type says (RFC 7951, 6); or it has any JSON value, or any object, and the value is the compact
+-- text of that (RFC 7950, 7.10 and 7.11; RFC 7951, 5.5 and 5.6).
+pub data JsonForm : Type 0 where
+  by_type : JsonForm
+  any_value : JsonForm
+  any_object : JsonForm
+
 -- The type of a leaf or of items, and its name as the `type` statement has it. Of a leafref the type is that of its target, whose
 -- number stands beside it; of a union with leafrefs the members of these are those of their targets' types, and what each member
--- of the union refers to stands beside it.
+-- of the union refers to stands beside it. That of an `anydata` or `anyxml` is `string`.
 pub record LeafType : Type 0 where
   pub name : Text
   pub type : YangType
   pub target : Option ℕ
   pub targets : List (Option MemberTarget)
+  pub form : JsonForm
 
 -- the type of a leaf that refers to no other
 abbrev pub own_type : Text → YangType → LeafType
-own_type name type = record { name = name; type = type; target = None; targets = [] }
+own_type name type = record { name = name; type = type; target = None; targets = []; form = by_type }
 
 -- what it means that a leaf isn't stored: nothing; its default is in use; it is mandatory; it is a key of its list
 pub data Absence : Type 0 where
@@ -52,6 +60,7 @@ pub record Tuples : Type 0 where
 pub data Kind : Type 0 where
   -- whether its presence means something (RFC 7950, 7.5.1)
   container : Bool → Kind
+  -- a leaf, an `anydata` or an `anyxml`
   leaf : LeafType → Absence → Kind
   -- with its defaults
   leaf_list : LeafType → List Val → Amount → Kind
@@ -119,16 +128,30 @@ type_in (leaf type absence) = Some type
 type_in (leaf_list type defaults amount) = Some type
 type_in _ = None
 
+abbrev pub form_in : Kind → JsonForm
+form_in kind = option_map_or (λ type. type.form) (type_in kind) by_type
+
+-- whether it is an `anydata` or `anyxml`
+abbrev pub is_anything : JsonForm → Bool
+is_anything by_type = false
+is_anything _ = true
+
 abbrev pub keys_in : Kind → List ℕ
 keys_in (list tuples amount) = tuples.keys
 keys_in _ = []
 
 -- ---- statements
 
+-- the argument; the keyword where there is none
 abbrev pub argument_text : Statement → Text
-argument_text s = unwrap_or s.argument []
+argument_text s = unwrap_or s.argument s.keyword
 
 -- ---- what a schema holds
+
+-- whether an `anydata` or `anyxml` stands in a row or below it
+abbrev pub has_anything : Forest SchemaNode → Bool
+has_anything end = false
+has_anything (node n below after) = is_anything (form_in n.kind) || (has_anything below || has_anything after)
 
 -- the node of a number in a row or below it, and its children in order of definition
 abbrev pub node_in : Forest SchemaNode → ℕ → Option SchemaNode

@@ -1,4 +1,4 @@
-use Rattle.std.proofs.Common.{◌≡◌, ℕ, false}
+use Rattle.std.proofs.Common.{◌≡◌, ℕ, Bool, false}
 use Rattle.std.specs.Prelude.{string_bytes}
 use Rattle.yspec_session.specs.Session as spec
 use Rattle.yspec_session.specs.Remembering.{Kept}
@@ -14,5 +14,5 @@ returns c =
     let live = view c.args.live.now in
     let path = path_view c.args.path.now in
     if_ok (λ text. live.is_stale ≡ false → string_bytes text ≡ below_text live path)
-    (λ text. (limit : ℕ) (k : Kept) → Replies limit live k (spec.below path) (string_bytes text) live k)
-    (λ text said limit k. below_replied limit live k path (string_bytes text) said) c.node_faults.result c.node_faults.ensures
+    (λ text. (tells_changes : Bool) (limit : ℕ) (k : Kept) → Replies tells_changes limit live k (spec.below path) (string_bytes text) live k)
+    (λ text said tells_changes limit k. below_replied tells_changes limit live k path (string_bytes text) said) c.node_faults.result c.node_faults.ensures

@@ -13,6 +13,6 @@ returns-clause-answer c =
     let live = view c.args.live.now in
     let k = past_view c.args.past.now in
     let since = since_view c.in-Some.since in
-    replies_as c.args.limit live live k (past_view c.commit.new.self) (joined c.args.limit since k) spec.commit (string_bytes c.in_ok-text.text) done_text
+    replies_as c.args.tells_changes c.args.limit live live k (past_view c.commit.new.self) (joined c.args.limit since k) spec.commit (string_bytes c.in_ok-text.text) done_text
     c.in_ok-text.ensures c.in_ok-commit.ensures.ok
-    (commits_now c.args.limit live k since (sym c.begun.ensures ∙ ap (option_map since_view) c.in-Some.is))
+    (commits_now c.args.tells_changes c.args.limit live k since (sym c.begun.ensures ∙ ap (option_map since_view) c.in-Some.is))

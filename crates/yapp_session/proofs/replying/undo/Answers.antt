@@ -1,9 +1,7 @@
 use Rattle.std.proofs.Common.{◌≡◌, ◌≢◌, ◌-◌, rules, length, refl, sym, ap, ◌∙◌}
 use Rattle.std.specs.Prelude.{string_bytes}
 use Rattle.std.proofs.lemmas.List.{length-map}
-use Rattle.yspec.specs.edit.Live.{fault_count}
 use Rattle.yspec_session.specs.Session as spec
-use Rattle.ysay_session.specs.AnswerText.{changed_text}
 use Rattle.ylive.specs.View.{view}
 use Rattle.yapp_session.specs.View.{group_view, less_one, past_view}
 use Rattle.yapp_session.proofs.ReplyLemmas.{one_to_undo, replies_as}
@@ -18,6 +16,6 @@ returns-clause-answer c s h =
     let some : k.kept ≢ 0 = search rules in
     let at : count ≡ length k.groups - 1 =
     c.saturating_sub-groups.ensures ∙ ap (λ n. n - 1) (sym (length-map c.groups.result.now group_view) ∙ ap length c.groups.ensures) in
-    replies_as c.args.limit before after k (past_view c.take_back.new.self) (less_one count k) spec.undo (string_bytes c.in_ok-text.text)
-    (changed_text (fault_count before) (fault_count after)) (c.in_ok-text.ensures.text h.fresh) c.take_back.ensures
-    (one_to_undo c.args.limit before after k (fault_count before) (fault_count after) count some at h.fresh c.in_ok-text.ensures.live refl refl) s h
+    let t = string_bytes c.in_ok-text.text in
+    replies_as c.args.tells_changes c.args.limit before after k (past_view c.take_back.new.self) (less_one count k) spec.undo t t refl c.take_back.ensures
+    (one_to_undo c.args.tells_changes c.args.limit before after k t count some at h.fresh c.in_ok-text.ensures.live c.in_ok-text.ensures.text) s h

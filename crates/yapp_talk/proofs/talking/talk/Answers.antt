@@ -6,11 +6,13 @@ begin-requires g c = (_, c.in-Ok.ensures.opened c.requires)
 
 pub returns-in-Ok : goal.returns-in-Ok
 returns-in-Ok g c = inr (
-  c.in-Ok.session,
+  _,
   record {
     holds = c.in-Ok.ensures.opened c.requires;
     schema_is = c.in-Ok.ensures.schema;
-    limit = c.in-Ok.ensures.limit;
+    remembers = c.in-Ok.ensures.limit;
+    tells_changes = c.in-Ok.ensures.changes;
+    unrefused = refl;
   },
   c.begin.ensures,
 )

@@ -3,7 +3,7 @@ use Rattle.yspec.specs.document.Writing.{IsDocument}
 use Rattle.yspec.specs.edit.Editing.{applied}
 use Rattle.yspec.proofs.EditProofs.FittingEditLemmas.{edit_fits, edit_whole}
 use Rattle.yschema_model.specs.View.{view}
-use Rattle.yschema_model.proofs.CallerLemmas.{numbered, names_differ}
+use Rattle.yschema_model.proofs.CallerLemmas.{numbered, names_differ, leafs_are_bare}
 use Rattle.yinst_tree.specs.View.{tree_view}
 use Rattle.yinst_path.specs.EditView.{edit_view}
 use Rattle.yinst.proofs.EditLemmas.{if_given}
@@ -22,4 +22,4 @@ returns-clause-whole c whole =
     let before = tree_view c.args.tree.now in
     let edit = edit_view c.args.edit.now in
     if_given (IsDocument s) c.edited_tree.result (applied s before edit) c.edited_tree.ensures
-    (edit_whole s before edit (numbered c.args.schema.now) (names_differ c.args.schema.now) whole)
+    (edit_whole s before edit (numbered c.args.schema.now) (names_differ c.args.schema.now) (leafs_are_bare c.args.schema.now) whole)

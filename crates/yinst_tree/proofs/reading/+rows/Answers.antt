@@ -1,16 +1,14 @@
 use Rattle.std.proofs.Common.{◌≡◌, true, false, Some, option_map, sym, ap, ◌∙◌}
 use Rattle.serde_json.specs.Find.{get_member}
 use Rattle.serde_json.specs.View as json
-use Rattle.serde_json.proofs.Views.{view-Object}
 use Rattle.yspec.specs.schema.Schema as spec
 use Rattle.yspec.specs.schema.Schema.{is_data, is_many, written_name}
-use Rattle.ytype.specs.View.{raw_of}
 use Rattle.yschema_model.specs.View as schema_view
 use Rattle.yinst_tree.specs.View.{row_view}
 use Rattle.yinst_tree.specs.Taking.{without, taken_in}
-use Rattle.yinst_tree.proofs.ValueLemmas.{not_object, not_array}
+use Rattle.yinst_tree.proofs.ValueLemmas.{not_array}
 use Rattle.yinst_tree.proofs.RowLemmas.{row_pushed, at_no_items, item_on, items_end, seen_as, on_ok, fewer_after}
-use Rattle.yinst_tree.proofs.TakingLemmas.{next_taken, all_taken, data_taken, none_taken, inside_taken, object_node, held_node}
+use Rattle.yinst_tree.proofs.TakingLemmas.{next_taken, all_taken, data_taken, none_taken, inside_taken, node_taken}
 use Rattle.yinst_tree.proofs.reading.+rows.Goals as goal
 
 pub put_child-returns-in-Some : goal.put_child-returns-in-Some
@@ -85,14 +83,7 @@ pub put_rows-returns : goal.put_rows-returns
 put_rows-returns t c =
     sym c.loop-child.invariant.rows ∙ all_taken (schema_view.view c.args.schema.now) c.args.parent_module (schema_view.row_view c.loop-child.child-iterator) _ c.in-None.ensures.steps.0
 
-pub stored_node-returns-in_ok-put_rows-in-Object : goal.stored_node-returns-in_ok-put_rows-in-Object
-stored_node-returns-in_ok-put_rows-in-Object t c =
-    object_node (schema_view.view c.args.schema.now) (schema_view.node_view c.args.id.0 c.args.node.now) (schema_view.row_view c.args.children) (json.view c.args.value) c.new.result
-    (json.members_view c.in-Object.members.entries) _ _ _ c.new.ensures.node c.new.ensures.below
-    (ap json.view c.in-Object.is ∙ view-Object c.in-Object.members) (ap row_view c.in_ok-below-in-Object.ensures.items) c.in_ok-put_rows-in-Object.ensures
-
-pub stored_node-returns-in_default : goal.stored_node-returns-in_default
-stored_node-returns-in_default t c =
-    held_node (schema_view.view c.args.schema.now) (schema_view.node_view c.args.id.0 c.args.node.now) (json.view c.args.value) (schema_view.row_view c.args.children) c.new-in_default-2.result
-    (option_map raw_of c.held_of.result) c.new-in_default-2.ensures.node (c.new-in_default-2.ensures.below ∙ ap row_view c.new-in_default.ensures.items)
-    c.held_of.ensures (not_object c.args.value c.in_default.not-Object)
+pub stored_node-returns : goal.stored_node-returns
+stored_node-returns t c =
+    node_taken (schema_view.view c.args.schema.now) (schema_view.node_view c.args.id.0 c.args.node.now) (schema_view.row_view c.args.children) (json.view c.args.value) c.new.result
+    _ _ _ _ _ c.new.ensures.node c.in_ok-held.ensures.0 c.new.ensures.below c.in_ok-held.ensures.1 (ap row_view c.in_ok-below.ensures.items) c.in_ok-put_rows.ensures

@@ -4,7 +4,7 @@ use Rattle.serde_json.specs.View as json
 use Rattle.yschema_model.specs.View as schema_view
 use Rattle.yinst_tree.specs.View.{tree_view}
 use Rattle.yspec.proofs.DocumentProofs.JsonLemmas.{json_found, no_json}
-use Rattle.yschema_model.proofs.CallerLemmas.{numbered, names_differ}
+use Rattle.yschema_model.proofs.CallerLemmas.{numbered, names_differ, leafs_are_bare}
 use Rattle.yinst_tree.proofs.ReadLemmas.{of_json, of_none, fails_by, gives_same, fits_if_read, whole_if_read, within_if_read}
 use Rattle.yinst_tree.proofs.reading.read.Goals as goal
 
@@ -26,8 +26,8 @@ returns-in-Ok-clause-fitting c =
 
 pub returns-in-Ok-clause-whole : goal.returns-in-Ok-clause-whole
 returns-in-Ok-clause-whole c =
-    whole_if_read c.tree_of.result (schema_view.view c.args.schema.now) c.args.bytes.now (numbered c.args.schema.now) (names_differ c.args.schema.now) (returns-in-Ok-clause-answer c)
+    whole_if_read c.tree_of.result (schema_view.view c.args.schema.now) c.args.bytes.now (numbered c.args.schema.now) (names_differ c.args.schema.now) (leafs_are_bare c.args.schema.now) (returns-in-Ok-clause-answer c)
 
 pub returns-in-Ok-clause-within : goal.returns-in-Ok-clause-within
 returns-in-Ok-clause-within c =
-    within_if_read c.tree_of.result (schema_view.view c.args.schema.now) c.args.bytes.now (names_differ c.args.schema.now) (returns-in-Ok-clause-answer c)
+    within_if_read c.tree_of.result (schema_view.view c.args.schema.now) c.args.bytes.now (names_differ c.args.schema.now) (leafs_are_bare c.args.schema.now) (returns-in-Ok-clause-answer c)

@@ -5,13 +5,13 @@ use Rattle.serde_json.specs.View as json
 use Rattle.serde_json.proofs.Views.{view-Array, view-Object}
 use Rattle.yspec.specs.schema.Schema.{module_at, row_at, node_at, children_of}
 use Rattle.yspec.specs.document.Document.{step_at}
-use Rattle.yspec.specs.document.Reading.{Refusal, Visit, right, wrong, member_visits, item_visits, value_visit}
-use Rattle.yschema_model.specs.Layout.{number_of}
+use Rattle.yspec.specs.document.Reading.{Refusal, Visit, right, wrong, member_visits, item_visits, leaf_visit}
+use Rattle.yschema_model.specs.Layout.{number_of, form_view}
 use Rattle.yschema_model.specs.View.{view, node_view}
 use Rattle.yinst_tree.specs.View.{place_view, step_view}
 use Rattle.yinst_tree.specs.declared.tree.Step.{Step}
 use Rattle.yinst_tree.specs.Told.{told_within, visits_at}
-use Rattle.yinst_tree.proofs.VisitLemmas.{walks_same, walks_wrong, walks_then, walks_stop, front_right, front_wrong, none_left, member_first, no_member, visits_one, visits_array, visits_no_array, no_array, item_first, no_item, object_inside, object_at_leaf, value_inside, as_before}
+use Rattle.yinst_tree.proofs.VisitLemmas.{walks_same, walks_wrong, walks_then, walks_stop, front_right, front_wrong, none_left, member_first, no_member, visits_one, visits_array, visits_no_array, no_array, item_first, no_item, object_inside, leaf_at, other_at, as_before}
 use Rattle.yinst_tree.proofs.visits.+visits.Goals as goal
 
 -- ---- members
@@ -135,19 +135,6 @@ visit_items-returns-clause-told t c =
 
 -- ---- one instance
 
-pub visit_instance-returns-in-Object-clause-told :
-    goal.visit_instance-returns-in-Object-clause-told
-visit_instance-returns-in-Object-clause-told t c =
-    let s = view c.args.schema.now in
-    let i = c.args.id.0 in
-    let n = node_view i c.in-Some.node.now in
-    let place = place_view c.args.place.now.items in
-    let d = json.view c.args.value.now in
-    let at : node_at s i ≡ Some n = sym c.kind.ensures ∙ ap (option_map (λ m. node_view i m.now)) c.in-Some.is in
-    walks_wrong c.args.room _ 5 (place_view c.deref.result.now) c.refused.result
-    (object_at_leaf s i n place d (json.members_view c.in-Object.field-0.entries) at (ap json.view c.in-Object.is ∙ view-Object c.in-Object.field-0) (sym c.has_value.ensures ∙ c.if-has_value.true)
-    ∙ ap (λ steps. wrong 5 (place_view steps) ∷ []) (sym c.deref.ensures.value)) c.refused.ensures
-
 pub visit_instance-returns-in-Ok-clause-told : goal.visit_instance-returns-in-Ok-clause-told
 visit_instance-returns-in-Ok-clause-told t c =
     let s = view c.args.schema.now in
@@ -155,11 +142,11 @@ visit_instance-returns-in-Ok-clause-told t c =
     let n = node_view i c.in-Some.node.now in
     let place = place_view c.args.place.now.items in
     let d = json.view c.args.value.now in
-    let ms = json.members_view c.in-Object-2.members.entries in
+    let ms = json.members_view c.in-Object.members.entries in
     let at : node_at s i ≡ Some n = sym c.kind.ensures ∙ ap (option_map (λ m. node_view i m.now)) c.in-Some.is in
     let of_module = ap (λ m. member_visits s m (children_of s i) place ms) (sym (ap (option_map (λ m. m.module_number)) at)) in
     walks_same c.args.room _ _ c.visit_members.result
-    (object_inside s i n place d ms at (ap json.view c.in-Object-2.is ∙ view-Object c.in-Object-2.members) (sym c.has_value.ensures ∙ c.if-has_value.false)
+    (object_inside s i n place d ms at (ap json.view c.in-Object.is ∙ view-Object c.in-Object.members) (sym c.has_value.ensures ∙ c.if-has_value.false)
     ∙ ap (λ vs. right place ∷ vs) of_module)
     (walks_then c.args.room c.in-Ok.left place (member_visits s (module_at s (Some i)) (children_of s i) place ms) c.visit_members.result (c.in-Ok.ensures place) c.visit_members.ensures.told)
 
@@ -170,10 +157,10 @@ visit_instance-returns-in-Err-clause-told t c =
     let n = node_view i c.in-Some.node.now in
     let place = place_view c.args.place.now.items in
     let d = json.view c.args.value.now in
-    let ms = json.members_view c.in-Object-2.members.entries in
+    let ms = json.members_view c.in-Object.members.entries in
     let at : node_at s i ≡ Some n = sym c.kind.ensures ∙ ap (option_map (λ m. node_view i m.now)) c.in-Some.is in
     walks_same c.args.room _ _ (Err c.in-Err.fault)
-    (object_inside s i n place d ms at (ap json.view c.in-Object-2.is ∙ view-Object c.in-Object-2.members) (sym c.has_value.ensures ∙ c.if-has_value.false))
+    (object_inside s i n place d ms at (ap json.view c.in-Object.is ∙ view-Object c.in-Object.members) (sym c.has_value.ensures ∙ c.if-has_value.false))
     (walks_stop c.args.room place (member_visits s (Some n.module_number) (children_of s i) place ms) c.in-Err.fault (c.in-Err.ensures place))
 
 pub visit_instance-returns-in_default-value : goal.visit_instance-returns-in_default-value
@@ -182,11 +169,28 @@ visit_instance-returns-in_default-value t c =
     let i = c.args.id.0 in
     let n = node_view i c.in-Some.node.now in
     let place = place_view c.args.place.now.items in
+    let at : node_at s i ≡ Some n = sym c.kind.ensures ∙ ap (option_map (λ m. node_view i m.now)) c.in-Some.is in
+    record {
+      told = walks_wrong c.args.room _ 5 (place_view c.deref-in_default-value.result.now) c.refused.result
+          (other_at s i n place c.args.value.now at (sym c.has_value.ensures ∙ c.if-has_value.false) c.in_default-value.not-Object
+          ∙ ap (λ steps. wrong 5 (place_view steps) ∷ []) (sym c.deref-in_default-value.ensures.value)) c.refused.ensures;
+      place = tt;
+    }
+
+-- ---- a leaf or an item
+
+pub visit_instance-returns-then-has_value : goal.visit_instance-returns-then-has_value
+visit_instance-returns-then-has_value t c =
+    let s = view c.args.schema.now in
+    let i = c.args.id.0 in
+    let n = node_view i c.in-Some.node.now in
+    let place = place_view c.args.place.now.items in
     let d = json.view c.args.value.now in
     let at : node_at s i ≡ Some n = sym c.kind.ensures ∙ ap (option_map (λ m. node_view i m.now)) c.in-Some.is in
     record {
-      told = walks_same c.args.room _ _ c.visit_value.result
-          (value_inside s i n place c.args.value.now at c.in_default-value.not-Object ∙ ap (λ p. value_visit n.kind (place_view p) d) (sym c.deref-in_default-value.ensures.value))
-          c.visit_value.ensures;
-      place = as_before c.visit_value.result _;
+      told = walks_same c.args.room _ _ c.visit_leaf.result
+          (leaf_at s i n place d at (sym c.has_value.ensures ∙ c.if-has_value.true)
+          ∙ (ap (λ form. leaf_visit form place d) (sym c.form.ensures) ∙ ap (λ p. leaf_visit (form_view c.form.result) (place_view p) d) (sym c.deref.ensures.value)))
+          c.visit_leaf.ensures;
+      place = as_before c.visit_leaf.result _;
     }

@@ -2,7 +2,7 @@ use Rattle.std.proofs.Common.{[], ◌∷◌, ◌++◌, ap, ap₂, not, false, �
 use Rattle.yspec.specs.schema.Breaks.{broken, least_from, when}
 use Rattle.std.specs.List.{list_any}
 use Rattle.std.specs.Option.{option_map_or}
-use Rattle.yspec_wide.specs.Table.{fits_in, rule_in}
+use Rattle.yspec_wide.specs.Table.{fits_in, takes_none, rule_in}
 use Rattle.yspec_wide.specs.StatementBreaks.{argument_breaks, type_breaks, version_breaks, count_breaks, is_miscounted}
 use Rattle.ytext.specs.View.{view}
 use Rattle.ylink_conditions.specs.View.{version_view}
@@ -22,7 +22,7 @@ returns-then-not-miscounted c =
     let s = (view c.args.statement.now).0 in
     let below = (view c.args.statement.now).1 in
     let form = ap (λ r. r.form) c.rule_in-rule.ensures.rule in
-    let fitting = c.in_ok-unfitting.ensures ∙ ap (λ f. option_map_or (fits_in v f) s.argument false) form in
+    let fitting = c.in_ok-unfitting.ensures ∙ ap (λ f. option_map_or (fits_in v f) s.argument (takes_none f)) form in
     let counted = c.is_miscounted-miscounted.ensures ∙ ap (λ r. list_any (is_miscounted l below) r.substatements) c.rule_in-rule.ensures.rule in
     let told = seen c.args.told.now in
     unbroken told _ _ _ _ (broken 3 m s.line) (broken 1 m s.line) (broken 4 m s.line) (broken 2 m s.line) c.if-not-miscounted.true
@@ -40,7 +40,7 @@ returns c =
     let s = (view c.args.statement.now).0 in
     let below = (view c.args.statement.now).1 in
     let form = ap (λ r. r.form) c.rule_in-rule.ensures.rule in
-    let fitting = c.in_ok-unfitting.ensures ∙ ap (λ f. option_map_or (fits_in v f) s.argument false) form in
+    let fitting = c.in_ok-unfitting.ensures ∙ ap (λ f. option_map_or (fits_in v f) s.argument (takes_none f)) form in
     let counted = c.is_miscounted-miscounted.ensures ∙ ap (λ r. list_any (is_miscounted l below) r.substatements) c.rule_in-rule.ensures.rule in
     judged_alone (seen c.args.told.now) (seen c.least_when-first.result) (seen c.least_when-first-2.result) (seen c.least_when-first-3.result)
     (seen c.least_when.result) (when _ (break_view c.broken.result ∷ [])) (when _ (break_view c.broken-2.result ∷ []))

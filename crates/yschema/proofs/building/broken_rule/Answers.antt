@@ -3,7 +3,7 @@ use Rattle.std.specs.List.{flat_map}
 use Rattle.yspec.specs.schema.Breaks.{least_from, limit_breaks}
 use Rattle.yspec.specs.linking.Compiling as spec
 use Rattle.yspec.specs.linking.Planned.{nodes_of}
-use Rattle.yspec_wide.specs.Compiling.{node_breaks_in, own_breaks_in}
+use Rattle.yspec_wide.specs.Compiling.{node_breaks_in, own_breaks_in, is_too_deep_in}
 use Rattle.ytext.specs.View.{modules_view}
 use Rattle.ylink_grammar.specs.LanguageView.{language_view}
 use Rattle.ylink.specs.Told.{break_view, seen}
@@ -26,7 +26,7 @@ returns c = λ whole added.
     let l = language_view c.args.language.now in
     let p = plans.view c.args.plan.now in
     let f = modules_view c.args.modules.now in
-    let deep = limit_breaks (spec.is_too_deep p.nodes) f in
+    let deep = limit_breaks (is_too_deep_in l p) f in
     let none : None ≡ _ = sym (ap seen c.in_default.is) ∙ least_of_phase (flat_map (own_breaks_in l p) (nodes_of p)) (all_addition_breaks l whole) _ (c.in_ok-told.ensures ∙ ap (λ t. least_from t (flat_map (own_breaks_in l p) (nodes_of p))) added) in
-    c.at_last.ensures ∙ (ap (λ b. least_from None (limit_breaks b f)) c.is_too_deep.ensures
+    c.at_last.ensures ∙ (ap (λ b. least_from None (limit_breaks b f)) c.is_too_deep_in.ensures
     ∙ (sym (told_last deep) ∙ sym (told_later (node_breaks_in l whole p) _ none)))

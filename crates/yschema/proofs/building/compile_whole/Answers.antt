@@ -16,6 +16,7 @@ use Rattle.yschema_resolve.specs.Guarding.{TellsUnguarded}
 use Rattle.yschema_resolve.specs.Standing.{TellsStanding}
 use Rattle.yschema_resolve.proofs.CallerLemmas.{none_told, none_unguarded}
 use Rattle.yschema.specs.Phases.{all_addition_breaks, expansion_part, plan_part}
+use Rattle.yschema.proofs.PlaceLemmas.{places_in_core}
 use Rattle.yschema.proofs.ToldLemmas.{all_stand, conditions_hold, in_plan, linking_passed, names_told}
 use Rattle.yschema.proofs.building.compile_whole.Goals as goal
 
@@ -32,7 +33,7 @@ returns-in-Some c =
     let none = subst (λ m. None ≡ first_broken (expansion_part l f m)) (sym (ap (λ (q : Plan). q.modules) plan_is)) c.requires.none in
     subst (λ fault. Fails (told_by fault) (compiled_in l f)) (sym c.from.ensures)
     (in_plan l f v (plan_in l (sources_in l f)) whole_is refl passed.0 (break_view c.in-Some.found)
-    (names_told l f v (Some (break_view c.in-Some.found)) none (sym (ap seen c.in-Some.is) ∙ c.broken_name_rule.ensures)))
+    (names_told l f v (Some (break_view c.in-Some.found)) none (sym (ap seen c.in-Some.is) ∙ (c.broken_name_rule.ensures ∙ places_in_core l c.requires.core v))))
 
 pub broken_addition_rule-requires : goal.broken_addition_rule-requires
 broken_addition_rule-requires c =
@@ -106,4 +107,4 @@ compile_rules-requires-clause-second c =
     let whole_is : v ≡ whole_plan l (sources_in l f) = plan_is ∙ ap (whole_plan l) passed.1 in
     let none = subst (λ m. None ≡ first_broken (expansion_part l f m)) (sym (ap (λ (q : Plan). q.modules) plan_is)) c.requires.none in
     subst (λ w. None ≡ first_broken (plan_part l f w)) whole_is
-    (names_told l f v None none (sym (ap seen c.in_default.is) ∙ c.broken_name_rule.ensures))
+    (names_told l f v None none (sym (ap seen c.in_default.is) ∙ (c.broken_name_rule.ensures ∙ places_in_core l c.requires.core v)))

@@ -15,4 +15,4 @@ returns-in-Core-clause-standing c = λ is kept shows.
     shows ∙ ap (places None 0) (sym (ap (λ k. standing k m parts) (ap language_view c.in-Core.is) ∙ standing_alike m parts))
 
 pub returns-in-Rfc-clause-standing : goal.returns-in-Rfc-clause-standing
-returns-in-Rfc-clause-standing c = c.cut_by_features.ensures (language_view c.args.language.now)
+returns-in-Rfc-clause-standing c = c.cut_by_features.ensures

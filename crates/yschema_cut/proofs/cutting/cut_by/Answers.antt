@@ -1,7 +1,8 @@
 use Rattle.std.proofs.Common.{map, ap, ap₂, ◌∙◌, arith}
 use Rattle.ybase_preorder.specs.Layout.{laid, seen}
 use Rattle.yschema_expand.specs.NodeView.{numbered_part, part_view}
-use Rattle.yschema_given.specs.Holding.{holds_in, kept_hold}
+use Rattle.ylink_grammar.specs.LanguageView.{language_view}
+use Rattle.yschema_cut.specs.Cutting.{stands_by}
 use Rattle.yschema_cut.specs.Totals.{fate_of, standing_in, totals_by}
 use Rattle.yschema_cut.specs.Keeping.{kept_from}
 use Rattle.yschema_cut.specs.Defaults.{off_in, with_off}
@@ -10,7 +11,7 @@ use Rattle.yschema_cut.proofs.cutting.cut_by.Goals as goal
 
 pub returns : goal.returns
 returns c = λ f shows.
-    let h = kept_hold (holds_in c.args.holding.now) in
+    let h = stands_by (language_view c.args.language.now) c.args.holding.now in
     all_cut h f c.args.table.slots.items c.lose_defaults.new.slots.items c.in_ok-made.made.items c.in_ok-fates.fates.items c.in_ok-totals.totals.items
     c.in_ok-standing.standing.items c.in_ok-off.off.items shows
     (c.in_ok-fates.ensures ∙ ap (map (λ r. fate_of h (part_view r.label))) c.as_slice.ensures.value)

@@ -24,7 +24,7 @@ returns c = λ kept shows.
     let parts = standing l m (augmented_in l m).0 in
     let others = c.as_slice.result.now in
     let test : Part → Bool = λ p. kept_hold (holds_in others) p.own in
-    IfOk-weaker c.own_standing_of.result _ _ (λ unguarded e. tells_by unguarded.items (λ (p : Part). not (bears_when l p.own)) (preorder parts)
+    IfOk-weaker c.own_holding_of.result _ _ (λ unguarded e. tells_by unguarded.items (λ (p : Part). not (bears_when l p.own)) (preorder parts)
     (e ∙ (ap (map (λ (r : Slot ExpandedNode). test (part_view r.label))) c.slots.ensures ∙ (parts_laid test (slots_of c.args.table.now) parts shows
     ∙ own_unguarded l (slots_in c.args.sources.now.table) others (c.as_slice.ensures.value ∙ c.in_ok-others.ensures) kept))))
-    c.own_standing_of.ensures
+    c.own_holding_of.ensures

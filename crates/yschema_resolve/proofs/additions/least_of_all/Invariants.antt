@@ -7,11 +7,11 @@ use Rattle.ylink_grammar.specs.LanguageView.{language_view}
 use Rattle.yschema_plan.specs.Needs.{stands_in}
 use Rattle.yschema_plan.specs.NodesView.{left}
 use Rattle.yschema_plan.specs.PlanView.{view}
-use Rattle.yschema_resolve.specs.Standing.{addition_breaks_unless_let}
+use Rattle.yschema_resolve.specs.Standing.{addition_breaks_outside}
 use Rattle.yschema_resolve.proofs.additions.least_of_all.Given as goal
 
 -- the least so far, with what is told of the others
 abbrev pub invariant-loop-node : goal.invariant-loop-node
 invariant-loop-node l =
-    least_from (seen l.told) (flat_map (addition_breaks_unless_let (language_view l.language) (stands_in l.standing) (view l.plan)) (left l.node-iterator))
-    ≡ least_from None (flat_map (addition_breaks_unless_let (language_view l.language) (stands_in l.standing) (view l.plan)) (nodes_of (view l.plan)))
+    least_from (seen l.told) (flat_map (addition_breaks_outside (language_view l.language) (stands_in l.standing) l.inside (view l.plan)) (left l.node-iterator))
+    ≡ least_from None (flat_map (addition_breaks_outside (language_view l.language) (stands_in l.standing) l.inside (view l.plan)) (nodes_of (view l.plan)))

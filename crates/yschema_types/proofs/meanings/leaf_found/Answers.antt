@@ -4,14 +4,14 @@ use Rattle.yspec.specs.linking.Planned as spec
 use Rattle.yschema_plan.specs.NodesView.{node_view}
 use Rattle.yschema_types.proofs.meanings.leaf_found.Goals as goal
 
-pub returns-then-is_leaf_or_leaf_list : goal.returns-then-is_leaf_or_leaf_list
-returns-then-is_leaf_or_leaf_list c =
+pub returns-then-is_typed : goal.returns-then-is_typed
+returns-then-is_typed c =
     let node = c.in-Some.node in
     sym (ap (λ o. spec.leaf_found (option_map node_view o)) c.in-Some.is
-    ∙ ap (λ b. cond b (Some (node_view node)) None) (sym (c.is_leaf_or_leaf_list.ensures node.number) ∙ c.if-is_leaf_or_leaf_list.true))
+    ∙ ap (λ b. cond b (Some (node_view node)) None) (sym (c.is_typed.ensures node.number) ∙ c.if-is_typed.true))
 
-pub returns-else-is_leaf_or_leaf_list : goal.returns-else-is_leaf_or_leaf_list
-returns-else-is_leaf_or_leaf_list c =
+pub returns-else-is_typed : goal.returns-else-is_typed
+returns-else-is_typed c =
     let node = c.in-Some.node in
     sym (ap (λ o. spec.leaf_found (option_map node_view o)) c.in-Some.is
-    ∙ ap (λ b. cond b (Some (node_view node)) None) (sym (c.is_leaf_or_leaf_list.ensures node.number) ∙ c.if-is_leaf_or_leaf_list.false))
+    ∙ ap (λ b. cond b (Some (node_view node)) None) (sym (c.is_typed.ensures node.number) ∙ c.if-is_typed.false))

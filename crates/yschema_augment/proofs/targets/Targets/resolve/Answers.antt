@@ -3,7 +3,7 @@ use Rattle.ybase_index.specs.Index.{texts_of}
 use Rattle.yschema_expand.specs.AugmentView.{augments_seen}
 use Rattle.yschema_augment.specs.Arranging.{rows_of}
 use Rattle.yschema_expand.specs.NamedView.{language_of, modules_of}
-use Rattle.yschema_augment.specs.Picking.{are_old, is_waiting, count_left, AllSettled, Picks}
+use Rattle.yschema_augment.specs.Picking.{askings_of, is_waiting, count_left, AllSettled, Picks}
 use Rattle.yschema_augment.specs.SearchView.{AreTexts}
 use Rattle.yschema_expand.specs.TableView.{slots_of}
 use Rattle.yschema_augment.specs.Turning.{Goes}
@@ -13,7 +13,7 @@ use Rattle.yschema_augment.proofs.ResolvingLemmas.{goes_on, goes_end}
 use Rattle.yschema_augment.proofs.targets.Targets.resolve.Goals as goal
 
 pub next-requires-clause-settled : goal.next-requires-clause-settled
-next-requires-clause-settled c = subst (λ ws. AllSettled (are_old c.args.self.now.named.now) (slots_of c.args.self.now.nodes.now) (augments_seen c.args.self.now.augments.now) c.args.self.now.paths.now ws c.loop-applied.search)
+next-requires-clause-settled c = subst (λ ws. AllSettled (askings_of c.args.self.now.named.now) (slots_of c.args.self.now.nodes.now) (augments_seen c.args.self.now.augments.now) c.args.self.now.paths.now ws c.loop-applied.search)
     (sym c.deref.ensures.value) c.loop-applied.invariant.settled
 
 pub apply-requires-clause-sound : goal.apply-requires-clause-sound
@@ -51,8 +51,8 @@ loop-applied-preserved c =
     let a = c.in-Some.applied in
     let waits = c.loop-applied.waits.items in
     let order = c.loop-applied.order.items in
-    let picks : Picks (are_old c.args.self.now.named.now) slots augments paths waits (Some a) c.loop-applied.search c.next.new.search =
-    subst (λ ws. Picks (are_old c.args.self.now.named.now) slots augments paths ws (Some a) c.loop-applied.search c.next.new.search) c.deref.ensures.value c.in-Some.ensures in
+    let picks : Picks (askings_of c.args.self.now.named.now) slots augments paths waits (Some a) c.loop-applied.search c.next.new.search =
+    subst (λ ws. Picks (askings_of c.args.self.now.named.now) slots augments paths ws (Some a) c.loop-applied.search c.next.new.search) c.deref.ensures.value c.in-Some.ensures in
     subst (λ as_pushed. Goes l m augments slots starts paths c.args.search.now (set waits a.augment false) as_pushed c.apply.new.search) (sym c.in_ok-push.ensures.items)
     (goes_on l m augments slots starts paths c.args.search.now c.loop-applied.search c.next.new.search c.apply.new.search waits order a c.requires c.loop-applied.invariant
     picks.0 picks.1 picks.2 c.in_ok-apply.ensures)
@@ -79,6 +79,6 @@ returns c =
     let starts = c.args.self.now.starts.now in
     let paths = c.args.self.now.paths.now in
     let waits = c.loop-applied.waits.items in
-    let picks : Picks (are_old c.args.self.now.named.now) slots augments paths waits None c.loop-applied.search c.next.new.search =
-    subst (λ ws. Picks (are_old c.args.self.now.named.now) slots augments paths ws None c.loop-applied.search c.next.new.search) c.deref.ensures.value c.in_default.ensures in
+    let picks : Picks (askings_of c.args.self.now.named.now) slots augments paths waits None c.loop-applied.search c.next.new.search =
+    subst (λ ws. Picks (askings_of c.args.self.now.named.now) slots augments paths ws None c.loop-applied.search c.next.new.search) c.deref.ensures.value c.in_default.ensures in
     goes_end l m augments slots starts paths c.args.search.now c.loop-applied.search c.next.new.search waits c.loop-applied.order.items c.requires c.loop-applied.invariant picks.0 picks.1

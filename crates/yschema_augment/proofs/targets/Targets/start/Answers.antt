@@ -3,7 +3,7 @@ use Rattle.std.proofs.lemmas.List.{length-map}
 use Rattle.std.proofs.lemmas.Result.{on_ok_weaker}
 use Rattle.yschema_expand.specs.AugmentView.{augment_view, augments_seen}
 use Rattle.yschema_expand.specs.NamedView.{language_of, modules_of}
-use Rattle.yschema_augment.specs.Picking.{are_old, refused_by}
+use Rattle.yschema_augment.specs.Picking.{askings_of, refused_by}
 use Rattle.yschema_augment.specs.Searching.{reached}
 use Rattle.yschema_augment.specs.SearchView.{look_in}
 use Rattle.yschema_augment.specs.Settling.{Among, steps_of}
@@ -31,5 +31,5 @@ returns c =
     let paired : length paths ≡ length c.args.self.now.augments.now = c.args.self.now.paired in
     on_ok_weaker c.settle.result (λ moves. subst (λ n. Goes l m augments slots starts paths s (replicate n true) [] c.settle.new.self) same
     (goes_first l m augments slots starts paths s c.settle.new.self c.deref.result.now c.requires moves
-    (λ j less. moves.settled (refused_by (are_old c.args.self.now.named.now) slots augments) (record { augment = j; found = 0 })
+    (λ j less. moves.settled (refused_by (askings_of c.args.self.now.named.now) slots augments) (record { augment = j; found = 0 })
     (subst (Among (record { augment = j; found = 0 })) (sym c.deref.ensures.value) (c.in_ok-all.ensures.all j (omega (arith, less, same, paired))))))) c.settle.ensures

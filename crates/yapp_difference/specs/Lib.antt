@@ -1,0 +1,5 @@
+pub mod Turning
+pub mod Carried
+pub mod Keys
+pub mod KeyView
+pub mod Counting

@@ -1,0 +1,7 @@
+use Rattle.std.proofs.Common.{refl}
+use Rattle.yspec_wide.proofs.WideLiterals.{ywide_on_literals}
+use Rattle.yspec_wide.proofs.anything.values.Goals as goal
+
+pub returns : goal.returns
+unfolding ywide_on_literals
+returns c = record { kept = refl; refused = refl; fractions = refl; faults = refl }

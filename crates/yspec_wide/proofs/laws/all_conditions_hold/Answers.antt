@@ -1,5 +1,0 @@
-use Rattle.yspec_wide.proofs.StandingLemmas.{all_stand_alike}
-use Rattle.yspec_wide.proofs.laws.all_conditions_hold.Goals as goal
-
-pub returns : goal.returns
-returns c = all_stand_alike
