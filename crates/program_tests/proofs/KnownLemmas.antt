@@ -5,9 +5,10 @@ use Rattle.yspec_run.specs.Output.{Outcome, Request, files_of, outcome, plainly,
 use Rattle.yspec_run.specs.Unjudged.{outcome_said}
 use Rattle.ybase_output.specs.Writing.{Side}
 use Rattle.clap.proofs.OnLiterals.{clap_on_literals}
-use Rattle.yapp_words.specs.Command.{asked_in, asks_reasons, refusals}
+use Rattle.yapp_words.specs.Command.{asked_in, asks_reasons, folders_in, refusals}
 use Rattle.yapp_words.specs.Running.{End}
 use Rattle.ybase_talk.specs.Talk.{Party}
+use Rattle.yapp.specs.Searching.{DoesIn}
 use Rattle.yapp.specs.Sessions.{Does}
 use Rattle.yspec_opening.specs.Opening.{Asked, report}
 use Rattle.yapp.specs.Files.{Answered, Contents, FileAnswers, IsOutcome, Store, WereRead, unread_in}
@@ -21,6 +22,10 @@ are_taken = refl
 pub ask_for : asked_in validate_words ≡ report (validate core plainly (codes "d.json") (codes "p.yang" ∷ []))
 unfolding clap_on_literals
 ask_for = refl
+
+pub name_no_folder : folders_in validate_words ≡ []
+unfolding clap_on_literals
+name_no_folder = refl
 
 pub ask_no_reasons : asks_reasons validate_words ≡ false
 unfolding clap_on_literals
@@ -54,9 +59,10 @@ is_known before after request names texts o tells same asked (inl came) =
     ∙ ap (outcome (validate core plainly (codes "d.json") (codes "p.yang" ∷ []))) (known_answers names texts came.0 answered none))
 is_known before after request names texts o tells same asked (inr none) = inr none.1
 
-pub told_once : (before after : Store) (asked : Asked) (request : Request) (given wanted : Bool) (caller caller_after : Party) (output output_after errors errors_after : Side) (end : End)
-    → asked ≡ report request → given ≡ wanted → Does before after asked given caller caller_after output output_after errors errors_after end
+pub told_once : (folders : List Text) (before after : Store) (asked : Asked) (request : Request) (given wanted : Bool) (caller caller_after : Party) (output output_after errors errors_after : Side) (end : End)
+    → folders ≡ [] → asked ≡ report request → given ≡ wanted → DoesIn folders before after asked given caller caller_after output output_after errors errors_after end
     → Does before after (report request) wanted caller caller_after output output_after errors errors_after end
-told_once before after asked request given wanted caller caller_after output output_after errors errors_after end is reasons does =
+told_once folders before after asked request given wanted caller caller_after output output_after errors errors_after end none is reasons does =
     subst (λ (b : Bool). Does before after (report request) b caller caller_after output output_after errors errors_after end) reasons
-    (subst (λ (a : Asked). Does before after a given caller caller_after output output_after errors errors_after end) is does)
+    (subst (λ (a : Asked). Does before after a given caller caller_after output output_after errors errors_after end) is
+    (subst (λ (fs : List Text). DoesIn fs before after asked given caller caller_after output output_after errors errors_after end) none does))

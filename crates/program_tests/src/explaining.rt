@@ -111,6 +111,11 @@ const SEVERAL: &str = "module s { yang-version 1.1; namespace urn:s; prefix s;
 }
 ";
 
+const PATTERNED: &str = "module w { yang-version 1.1; namespace urn:w; prefix w;
+  leaf a { type string { pattern 'a)b'; } }
+}
+";
+
 const ROWS: &str = "yanglive explain V3
 0 0
 V3: A leaf that must be there is missing.
@@ -210,6 +215,17 @@ yanglive compile --explain several.yang
 several.yang:2: C1
   | leaf a { range 1; }
   A statement or a built-in type isn't known, may not stand there, or isn't read by this program. Correct its name, or move it; README says what of YANG is read.
+==
+yanglive compile --explain --profile rfc patterned.yang
+2 4
+patterned.yang:2: C20
+  | leaf a { type string { pattern 'a)b'; } }
+  character 2 of the pattern can't stand there: )b
+  A pattern isn't a regular expression as XML Schema has it. Close each class and group, and put a backslash before a sign that stands for itself; blocks such as IsGreek aren't read.
+==
+yanglive compile --profile rfc patterned.yang
+2 1
+patterned.yang:2: C20
 ==
 yanglive tree --explain q p.yang
 2 1
@@ -696,6 +712,7 @@ fn is_said_of_runs(alloc: Global, row: &str) -> Option<bool> {
         file("binary.yang", BINARY),
         file("placed.yang", PLACED),
         file("several.yang", SEVERAL),
+        file("patterned.yang", PATTERNED),
         file("bare.json", "{\"p:c\":{\"speed\":1}}"),
         file("two.json", "{\"p:c\":{\"id\":256,\"note\":5}}"),
         file("empty.json", "{}"),

@@ -34,6 +34,8 @@ mod running;
 #[cfg(test)]
 mod saving;
 #[cfg(test)]
+mod searching;
+#[cfg(test)]
 mod strictness;
 #[cfg(test)]
 mod telling;

@@ -221,6 +221,10 @@ yanglive session --changes --changes d.json p.yang
 errors 3
 '--changes'
 ==
+yanglive session --config --config d.json p.yang
+errors 3
+'--config'
+==
 yanglive validate --undo 1 d.json p.yang
 errors 3
 '--undo'

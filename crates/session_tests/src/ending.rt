@@ -39,6 +39,21 @@ fn unsaid_notes(rt: HostRuntime) {
     assert!(rt; is_silent(rt.alloc()) == Some(true));
 }
 
+// Whether a session under a module that imports one of a folder is held.
+fn is_held_with_folders(alloc: Global, words: &str) -> Option<bool> {
+    let held = hold(alloc, over(words, "{\"i:x\":1}", &["value /i:x"])).ok()?;
+    Some(is_held(&held, "{\"value\":1}\n", "", 0))
+}
+
+#[test]
+fn folders(rt: HostRuntime) {
+    let alloc = rt.alloc();
+    assert!(rt; is_held_with_folders(alloc, "yanglive session -p f d.json i.yang") == Some(true));
+    assert!(rt;
+        is_held_with_folders(alloc, "yanglive session -p e -p f d.json i.yang") == Some(true)
+    );
+}
+
 // So many times two edits.
 fn many_edits<'a>(alloc: Global, count: usize) -> Option<Vec<&'a str>> {
     let mut lines = Vec::new(alloc);

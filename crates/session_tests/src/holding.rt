@@ -16,7 +16,30 @@ pub const MODULE: &str = "module p {
     must \"id\";
     leaf id { type uint8; }
     leaf note { type string; }
+    leaf seen { config false; type string; }
   }
+  container e {
+    presence \"e\";
+    leaf up { config false; mandatory true; type boolean; }
+  }
+}
+";
+
+/// One that imports a module which isn't named, and that module, in a folder.
+const IMPORTING: &str = "module i {
+  yang-version 1.1;
+  namespace \"urn:i\";
+  prefix i;
+  import n { prefix n; }
+  leaf x { type n:t; }
+}
+";
+
+const TYPES: &str = "module n {
+  yang-version 1.1;
+  namespace \"urn:n\";
+  prefix n;
+  typedef t { type uint8; }
 }
 ";
 
@@ -44,6 +67,8 @@ impl<'a> Pair<'a> {
         match name {
             "d.json" => Some(self.document),
             "p.yang" => Some(self.module),
+            "i.yang" => Some(IMPORTING),
+            "f/n.yang" => Some(TYPES),
             _ => None,
         }
     }

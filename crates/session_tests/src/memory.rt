@@ -46,12 +46,14 @@ fn is_whole_or_short(held: &Held) -> bool {
     }
 }
 
-fn is_told(alloc: Global) -> Option<bool> {
-    let held = hold(alloc, over(SESSION, GOOD, LINES)).ok()?;
+fn is_told(alloc: Global, more: &str) -> Option<bool> {
+    let words = [SESSION, more].concat(alloc).ok()?;
+    let held = hold(alloc, over(words.as_str(), GOOD, LINES)).ok()?;
     Some(is_ended_or_short(&held))
 }
 
 #[test]
 fn answers_or_memory(rt: HostRuntime) {
-    assert!(rt; is_told(rt.alloc()) != Some(false));
+    assert!(rt; is_told(rt.alloc(), "") != Some(false));
+    assert!(rt; is_told(rt.alloc(), " --config") != Some(false));
 }

@@ -83,8 +83,8 @@ fn refused_words(rt: HostRuntime) {
     assert!(rt;
         is_misused(
             alloc,
-            "yanglive session --config d.json p.yang",
-            "error: unexpected argument '--config'"
+            "yanglive session --format json d.json p.yang",
+            "error: unexpected argument '--format'"
         ) == Some(true)
     );
     assert!(rt;

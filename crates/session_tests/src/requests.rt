@@ -154,6 +154,49 @@ document
 what
 > {"refused":"E1","message":"The line is no request."}
 ==
+1
+create /p:c/seen "x"
+> {"before":0,"after":0}
+create /p:e {}
+> {"before":0,"after":1}
+==
+0 --config
+create /p:e {}
+> {"before":0,"after":0}
+==
+1 --config
+create /p:c/seen "x"
+> {"before":0,"after":1}
+==
+0 --config --changes
+create /p:c/seen "x"
+> {"before":0,"after":1,"told":[{"error-message":"seen is config false, so no configuration holds it.","error-path":"/p:c/seen","error-tag":"unknown-element","error-type":"application","yanglive:code":"V12","yanglive:path":"/p:c/seen"}],"gone":[]}
+replace /p:c/id "x"
+> {"before":1,"after":2,"told":[{"error-message":"\"x\" isn't a value of uint8: it takes an integer without quotes in 0..255.","error-path":"/p:c/id","error-tag":"invalid-value","error-type":"application","yanglive:code":"V1","yanglive:path":"/p:c/id"}],"gone":[]}
+faults
+> {"faults":[{"error-message":"seen is config false, so no configuration holds it.","error-path":"/p:c/seen","error-tag":"unknown-element","error-type":"application","yanglive:code":"V12","yanglive:path":"/p:c/seen"},{"error-message":"\"x\" isn't a value of uint8: it takes an integer without quotes in 0..255.","error-path":"/p:c/id","error-tag":"invalid-value","error-type":"application","yanglive:code":"V1","yanglive:path":"/p:c/id"}],"count":2}
+faults 2
+> {"faults":[{"error-message":"\"x\" isn't a value of uint8: it takes an integer without quotes in 0..255.","error-path":"/p:c/id","error-tag":"invalid-value","error-type":"application","yanglive:code":"V1","yanglive:path":"/p:c/id"}],"count":2}
+below /p:c/seen
+> {"faults":[{"error-message":"seen is config false, so no configuration holds it.","error-path":"/p:c/seen","error-tag":"unknown-element","error-type":"application","yanglive:code":"V12","yanglive:path":"/p:c/seen"}],"count":2}
+value /p:c/seen
+> {"value":"x"}
+document
+> {"document":{"p:c":{"id":"x","seen":"x"}}}
+save a.json
+> {"saved":"a.json"}
+< a.json {"p:c":{"id":"x","seen":"x"}}
+undo
+> {"before":2,"after":1,"told":[],"gone":[{"error-message":"\"x\" isn't a value of uint8: it takes an integer without quotes in 0..255.","error-path":"/p:c/id","error-tag":"invalid-value","error-type":"application","yanglive:code":"V1","yanglive:path":"/p:c/id"}]}
+begin
+> {"done":true}
+remove /p:c/seen
+> {"before":1,"after":0,"told":[],"gone":[{"error-message":"seen is config false, so no configuration holds it.","error-path":"/p:c/seen","error-tag":"unknown-element","error-type":"application","yanglive:code":"V12","yanglive:path":"/p:c/seen"}]}
+back
+> {"before":0,"after":1,"told":[{"error-message":"seen is config false, so no configuration holds it.","error-path":"/p:c/seen","error-tag":"unknown-element","error-type":"application","yanglive:code":"V12","yanglive:path":"/p:c/seen"}],"gone":[]}
+undo
+> {"before":1,"after":0,"told":[],"gone":[{"error-message":"seen is config false, so no configuration holds it.","error-path":"/p:c/seen","error-tag":"unknown-element","error-type":"application","yanglive:code":"V12","yanglive:path":"/p:c/seen"}]}
+==
 0
 document
 > {"document":{"p:c":{"id":1}}}

@@ -2,6 +2,8 @@
 
 use crate::rows::all_hold;
 use std::alloc::Global;
+use ysay_names::{name_sentence, prefix_sentence};
+use ysay_pattern::{Stop, pattern_sentence, stop_of};
 use ysay_text::{is_near, is_unread, line_sentence, nearest, nearest_word, shown_line};
 use ytext::parse;
 
@@ -169,6 +171,137 @@ fn sentences(rt: HostRuntime) {
 14|
 15|";
     all_hold(&rt, rt.alloc(), rows, is_said);
+}
+
+const PATTERNS: &str = "module m {
+  yang-version 1.1; namespace m; prefix m;
+  leaf a { type string { pattern 'a(b|[c-e])*'; } }
+  leaf b { type string { pattern 'ab(c|d[e-]))+'; } }
+  leaf c { type string { pattern 'a'; pattern '[a-z'; pattern '*'; } }
+  leaf d { type string { pattern '\\p{IsGreek}'; } }
+  leaf e { type string { pattern '[0-9]{2,1}x'; } }
+  leaf f { type string { pattern
+    '\u{e9}{x}'; } }
+}
+";
+
+// `LINE|SENTENCE`
+fn is_said_of_patterns(alloc: Global, row: &str) -> Option<bool> {
+    let (line, wanted) = row.split_once('|')?;
+    let line = line.parse::<u32>().ok()?;
+    let module = parse(alloc, PATTERNS.as_bytes()).ok()?;
+    Some(pattern_sentence(alloc, line, &module).ok()?.as_str() == wanted)
+}
+
+#[test]
+fn sentences_of_patterns(rt: HostRuntime) {
+    let rows = "3|the pattern is too large.
+4|character 12 of the pattern can't stand there: )+
+5|the pattern ends too soon.
+6|character 6 of the pattern can't stand there: Greek}
+7|character 10 of the pattern can't stand there: }x
+8|character 3 of the pattern can't stand there: x}
+9|";
+    all_hold(&rt, rt.alloc(), rows, is_said_of_patterns);
+}
+
+const NAMING: &str = "module m {
+  yang-version 1.1; namespace m;
+  prefix m;
+  import acme-types { prefix at; }
+  typedef size { type uint8; }
+  grouping rate { leaf r { type att:vlan-id; } }
+  leaf a { type unit16; }
+  uses rates;
+  leaf b { type at:vlan; }
+  leaf c { type m:sise; }
+  identity i { base at:kind; }
+  leaf d { type size; }
+  augment \"/at:x/au:y\" { leaf z { type string; } }
+  leaf e { type nothing-alike; }
+  leaf f { type longest:of-all; } leaf g { type uint8 { range \"no:prefix\"; } }
+  import other { prefix at; }
+}
+";
+
+const NAMED: &str = "module acme-types {
+  prefix t; typedef vlan-id { type uint16; } identity kinds;
+  container c { typedef vlan { type uint8; } }
+}
+";
+
+// `LINE|SENTENCE`
+fn is_said_of_prefixes(alloc: Global, row: &str) -> Option<bool> {
+    let (line, wanted) = row.split_once('|')?;
+    let line = line.parse::<u32>().ok()?;
+    let module = parse(alloc, NAMING.as_bytes()).ok()?;
+    Some(prefix_sentence(alloc, line, &module).ok()?.as_str() == wanted)
+}
+
+#[test]
+fn sentences_of_prefixes(rt: HostRuntime) {
+    let rows = "5|
+6|no import declares the prefix att; near it: at.
+7|
+9|
+13|no import declares the prefix au; near it: at.
+15|no import declares the prefix longest.
+16|the prefix at is given twice.";
+    all_hold(&rt, rt.alloc(), rows, is_said_of_prefixes);
+}
+
+fn said_of_name(alloc: Global, line: u32) -> Option<String> {
+    let mut modules = Vec::new(alloc);
+    modules.push(parse(alloc, NAMED.as_bytes()).ok()?).ok()?;
+    modules.push(parse(alloc, NAMING.as_bytes()).ok()?).ok()?;
+    name_sentence(alloc, line, &modules, modules.get(1)?).ok()
+}
+
+// `LINE|SENTENCE`
+fn is_said_of_names(alloc: Global, row: &str) -> Option<bool> {
+    let (line, wanted) = row.split_once('|')?;
+    let said = said_of_name(alloc, line.parse::<u32>().ok()?)?;
+    Some(said.as_str() == wanted)
+}
+
+#[test]
+fn sentences_of_names(rt: HostRuntime) {
+    let rows = "5|
+6|no type is called att:vlan-id.
+7|no type is called unit16; near it: uint16.
+8|no grouping is called rates; near it: rate.
+9|no type is called at:vlan.
+10|no type is called m:sise; near it: m:size.
+11|no identity is called at:kind; near it: at:kinds.
+12|
+13|
+14|no type is called nothing-alike.";
+    all_hold(&rt, rt.alloc(), rows, is_said_of_names);
+}
+
+// `PATTERN STOP`: a number, `end` or `none`
+fn stops_so(alloc: Global, row: &str) -> Option<bool> {
+    let (pattern, wanted) = row.split_once(' ')?;
+    let characters: Vec<char> = pattern.chars().collect(alloc).ok()?;
+    let wanted = match wanted {
+        "none" => None,
+        "end" => Some(Stop::TooSoon),
+        number => Some(Stop::At(number.parse::<usize>().ok()?)),
+    };
+    Some(stop_of(alloc, &characters).ok()? == wanted)
+}
+
+#[test]
+fn stops(rt: HostRuntime) {
+    let rows = "a none
+a) 2
+(a end
+[z-a] 4
+\\q 2
+a{2,1} 6
+a{3 end
+** 1";
+    all_hold(&rt, rt.alloc(), rows, stops_so);
 }
 
 // Whether the line of a number is shown so.

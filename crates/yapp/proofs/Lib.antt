@@ -3,3 +3,4 @@ pub mod ContentsLemmas
 pub mod DocumentLemmas
 pub mod NotedLemmas
 mod SessionLemmas
+mod SearchedLemmas

@@ -1,6 +1,6 @@
 -- From the files of a session to its talk.
 use Rattle.std.proofs.Common.{◌≡◌, ◌⊎◌, inl, inr, ℕ, Bool, true, false, List, [], ◌++◌, map, Some, refl, sym, subst, ap, ◌∙◌, string_bytes, arith}
-use Rattle.std.specs.Prelude.{Result, Ok, Err, IfOk, if◌then◌else◌}
+use Rattle.std.specs.Prelude.{Result, Ok, Err, IfOk, Option, option_map, if◌then◌else◌}
 use Rattle.yspec.specs.text.Text.{Text}
 use Rattle.yspec.specs.schema.Schema.{Schema}
 use Rattle.yspec.specs.document.Document.{Tree}
@@ -10,6 +10,9 @@ use Rattle.yspec_run.specs.Output.{Besides, Outcome, printed_with, with_files, w
 use Rattle.yspec_run.specs.Unjudged.{is_any, note_of}
 use Rattle.yspec_opening.specs.Opening.{Asked, Opening, files_opened, opened_from, opened_with, report, session, with_conditions}
 use Rattle.ybase_output.specs.Writing.{Side}
+use Rattle.yspec_session.specs.Session.{configured_by}
+use Rattle.yschema_model.specs.View as schema_view
+use Rattle.yschema_model.specs.declared.schema.Schema as rust
 use Rattle.ylive.specs.View.{view}
 use Rattle.yapp_words.specs.Running.{Brings, End, memory_told, with_status, without_memory}
 use Rattle.yapp_report.specs.Failing.{FailsWith, LeadsTo, besides_in, outcome_of, unsaid}
@@ -36,10 +39,6 @@ wide_said language wide names contents next go r is leads = subst (λ (l : Langu
 
 -- ---- what a document is opened to
 
--- behind the document comes what is said of conditions
-abbrev pub then_said : Language → List Text → List (List ℕ) → (Schema → Tree → Text → Outcome) → Schema → Tree → List (List ℕ) → Outcome
-then_said language names contents next schema tree files = with_conditions language names contents (next schema tree)
-
 abbrev pub goes_on : (Schema → Tree → Text → Outcome) → Opened → Outcome
 goes_on next o = next (view o.live).schema (view o.live).tree (string_bytes o.note)
 
@@ -51,6 +50,13 @@ opened_leads s t whole middle next (Err failure) e leads is = subst (FailsWith f
 pub opened_fresh : (s : Schema) (t : Tree) (r : Result Opened Failure) → IfOk r (λ o. view o.live ≡ opened s t) → IfOk r (λ o. (view o.live).is_stale ≡ false)
 opened_fresh s t (Ok o) is = ap (λ (l : Live). l.is_stale) is
 opened_fresh s t (Err failure) is = tt
+
+pub opened_configured : (of_configuration : Bool) (configured : Option rust.Schema) (s : Schema) (t : Tree) (r : Result Opened Failure)
+    → option_map schema_view.view configured ≡ configured_by of_configuration s → IfOk r (λ o. view o.live ≡ opened s t) → IfOk r (λ o. o.configured ≡ configured)
+    → IfOk r (λ o. option_map schema_view.view o.configured ≡ configured_by of_configuration (view o.live).schema)
+opened_configured of_configuration configured s t (Ok o) looks is same =
+    ap (option_map schema_view.view) same ∙ (looks ∙ sym (ap (λ (l : Live). configured_by of_configuration l.schema) is))
+opened_configured of_configuration configured s t (Err failure) looks is same = tt
 
 -- ---- files
 

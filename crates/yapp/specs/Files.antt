@@ -1,4 +1,5 @@
--- What files contain, as far as that is told, how often one was read, and how often that failed.
+-- What comes of reading the files of a request.
+pub use Rattle.yapp_search.specs.Reading.{Answered, Contents, FileAnswers, Store, WasCut, WereRead, store, unread_in}
 use Rattle.std.specs.Prelude.{◌≡◌, ◌⊎◌, ℕ, ◌+◌, ◌≤◌, true, List, [], ◌∷◌, length, map, string_bytes, Option, Some, None, Result, Ok, Err}
 use Rattle.yspec_run.specs.Output.{Besides, Outcome, Request, as_json_of, files_of, with_files}
 use Rattle.yspec_run.specs.Unjudged.{outcome_said, said_of, with_note}
@@ -9,51 +10,6 @@ use Rattle.yapp_words.specs.Running.{without_memory}
 use Rattle.yapp_report.specs.declared.failure.Failure.{Failure}
 use Rattle.yapp_report.specs.declared.failure.Failure.TheVariants.{Memory}
 use Rattle.yapp.specs.declared.unjudged.Found.{Found}
-
--- ---- several files
-
-abbrev pub Contents : Type 0
-Contents = Text → Option (List ℕ)
-
--- files, as they tell of themselves: what they contain, and how many reads of them were made, and how many failed
-pub record Store : Type 0 where
-  pub contents : Contents
-  pub reads : ℕ
-  pub failures : ℕ
-
-abbrev pub store : {F : Type 0} → (F → Contents) → (F → ℕ) → (F → ℕ) → F → Store
-store contents reads failures f = record { contents = contents f; reads = reads f; failures = failures f }
-
--- what files answered: contents, or that they couldn't be read
-abbrev pub FileAnswers : Type 0
-FileAnswers = List (Option (List ℕ))
-
--- the files of some names answered so, in order: with what is told of them, up to the first that couldn't be read
-abbrev pub Answered : Contents → List Text → FileAnswers → Type 0
-Answered contents [] [] = Unit {0}
-Answered contents [] (answer ∷ answers) = ⊥
-Answered contents (name ∷ names) [] = ⊥
-Answered contents (name ∷ names) (None ∷ answers) = answers ≡ []
-Answered contents (name ∷ names) (Some bytes ∷ answers) = IsTold (contents name) bytes × Answered contents names answers
-
--- how many couldn't be read
-abbrev pub unread_in : FileAnswers → ℕ
-unread_in [] = 0
-unread_in (None ∷ answers) = unread_in answers + 1
-unread_in (Some bytes ∷ answers) = unread_in answers
-
--- the files of some names were read, and answered so: one read a name, in order, up to the first that couldn't be read
-pub record WereRead (before after : Store) (names : List Text) (answers : FileAnswers) : Type 0 where
-  pub answered : Answered before.contents names answers
-  pub reads : after.reads ≡ before.reads + length answers
-  pub failures : after.failures ≡ before.failures + unread_in answers
-
--- ---- reading them, and what comes of it
-
--- memory was wanting: no read failed for another cause, and the file of each name was read at most once
-pub record WasCut (before after : Store) (names : List Text) : Type 0 where
-  pub failures : after.failures ≡ before.failures
-  pub reads : after.reads ≤ before.reads + length names
 
 -- All were read, none failing. Or one couldn't be read, whatever was to be made of them. Or memory was wanting.
 abbrev pub ReadsAll : {X : Type 0} → (X → List (List ℕ)) → Store → Store → List Text → Result X Failure → Type 0

@@ -5,3 +5,5 @@ pub mod Edited
 pub mod Files
 pub mod Telling
 pub mod Sessions
+pub mod Requests
+pub mod Searching

@@ -62,6 +62,7 @@ fn read_under<'a>(
         (next : schema_spec.Schema → document_spec.Tree → Outcome)
         → LeadsTo (with_tree s name.entry.now bytes.now (document_of s bytes.now) (next s))
         (λ d. next (schema_of d) (tree_of d)) result }
+    ensures under { IfOk result (λ d. schema_of d ≡ schema_view.view schema) }
     ensures sound { IfOk result (λ d. IsSound (schema_of d) (tree_of d)) }
     ensures unrefused { IfOk result (λ d. refused_of d ≡ []) }
 {
@@ -79,7 +80,7 @@ fn read_under<'a>(
 }
 
 /// The same, where one that gives a member twice may be refused.
-fn read_by<'a>(
+pub(crate) fn read_by<'a>(
     alloc: Global,
     is_strict: bool,
     name: &'a str,
@@ -91,6 +92,7 @@ fn read_by<'a>(
         → LeadsTo (with_tree s name.entry.now bytes.now (document_of s bytes.now)
         (unless_repeated is_strict s name.entry.now bytes.now (next s)))
         (λ d. next (schema_of d) (tree_of d)) result }
+    ensures under { IfOk result (λ d. schema_of d ≡ schema_view.view schema) }
     ensures sound { IfOk result (λ d. IsSound (schema_of d) (tree_of d)) }
     ensures unrefused { IfOk result (λ d. refused_of d ≡ []) }
 {

@@ -7,6 +7,7 @@ mod document;
 mod modules;
 mod opening;
 mod program;
+mod requests;
 mod saying;
 mod unjudged;
 

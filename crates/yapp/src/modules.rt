@@ -1,9 +1,10 @@
 //! From the contents of modules' files to their schema.
 
-ghost use Rattle.std.specs.Prelude.{◌≡◌, ◌∷◌, [], ◌++◌, ℕ, List, map, IfOk, string_bytes};
+ghost use Rattle.std.specs.Prelude.{◌≡◌, ◌∷◌, [], ◌++◌, ℕ, List, Ok, map, option_map, IfOk, string_bytes};
 ghost use Rattle.yspec.specs.Forest.{Forest};
 ghost use Rattle.yspec_wide.specs.Compiling.{compiled_in};
 ghost use Rattle.ylink_grammar.specs.LanguageView.{language_view};
+ghost use Rattle.yspec_session.specs.Session.{configured_by};
 ghost use Rattle.yspec_run.specs.Output as spec;
 ghost use Rattle.yspec_run.specs.Output.{Outcome, with_compiled, with_modules, with_schema};
 ghost use Rattle.yspec.specs.schema.Schema as schema_spec;
@@ -110,6 +111,13 @@ fn text_failure<'a>(
     }
 }
 
+/// A schema, and that of its configuration where that alone is looked at.
+#[derive(Drop)]
+pub(crate) struct Compiled {
+    pub schema: Schema,
+    pub configured: Option<Schema>,
+}
+
 /// The schema in a language of the modules of some names.
 fn compile_modules<'a>(
     alloc: Global,
@@ -118,10 +126,12 @@ fn compile_modules<'a>(
     contents: &[Vec<u8>],
     modules: &[Module],
 ) -> Result<Schema, Failure<'a>>
-    ensures { (next : schema_spec.Schema → Outcome)
+    ensures leads { (next : schema_spec.Schema → Outcome)
         → LeadsTo (with_compiled (language_view language.now) (map (λ n. n.now) names.now) (map (λ c. c.items) contents.now)
         (modules_view modules.now) (compiled_in (language_view language.now) (modules_view modules.now)) next)
         (λ schema. next (schema_view.view schema)) result }
+    ensures exact { IfOk result (λ schema. compiled_in (language_view language.now) (modules_view modules.now)
+        ≡ Ok (schema_view.view schema)) }
 {
     match compile_in(alloc, modules, language) {
         Ok(schema) => Ok(schema),
@@ -246,6 +256,85 @@ pub fn compile_contents<'a, 'b>(
         Ok(parsed) => match compile_modules(alloc, language, names, contents, &parsed.value) {
             Ok(schema) => Ok(Taken {
                 value: schema,
+                rest: parsed.rest,
+            }),
+            Err(failure) => Err(failure),
+        },
+        Err(failure) => Err(failure),
+    }
+}
+
+/// The schema of the configuration of modules that compile, where that alone is looked at: they are compiled once more for it.
+fn configured_of(
+    alloc: Global,
+    language: &Language,
+    modules: &[Module],
+    of_configuration: bool,
+) -> Result<Option<Schema>, AllocError>
+    ensures { IfOk result (λ configured. (schema : schema_spec.Schema)
+        → compiled_in (language_view language.now) (modules_view modules.now) ≡ Ok schema
+        → option_map schema_view.view configured ≡ configured_by of_configuration schema) }
+{
+    if !of_configuration {
+        return Ok(None);
+    }
+    match compile_in(alloc, modules, language) {
+        Ok(schema) => Ok(Some(schema.configuration(alloc)?)),
+        Err(_) => Err(AllocError),
+    }
+}
+
+/// The schema in a language of the modules of some names, with that of its configuration where that alone is looked at.
+fn compile_both<'a>(
+    alloc: Global,
+    language: &Language,
+    names: &[&'a str],
+    contents: &[Vec<u8>],
+    modules: &[Module],
+    of_configuration: bool,
+) -> Result<Compiled, Failure<'a>>
+    ensures leads { (next : schema_spec.Schema → Outcome)
+        → LeadsTo (with_compiled (language_view language.now) (map (λ n. n.now) names.now) (map (λ c. c.items) contents.now)
+        (modules_view modules.now) (compiled_in (language_view language.now) (modules_view modules.now)) next)
+        (λ compiled. next (schema_view.view compiled.schema)) result }
+    ensures configured { IfOk result (λ compiled. option_map schema_view.view compiled.configured
+        ≡ configured_by of_configuration (schema_view.view compiled.schema)) }
+{
+    match compile_modules(alloc, language, names, contents, modules) {
+        Ok(schema) => {
+            let configured = configured_of(alloc, language, modules, of_configuration)?;
+            Ok(Compiled { schema, configured })
+        }
+        Err(failure) => Err(failure),
+    }
+}
+
+/// The same by the contents of their files. Their statements go as soon as it stands.
+pub(crate) fn compile_opened<'a, 'b>(
+    alloc: Global,
+    language: &Language,
+    names: &[&'a str],
+    contents: &'b [Vec<u8>],
+    of_configuration: bool,
+) -> Result<Taken<'b, Compiled>, Failure<'a>>
+    ensures leads { (next : schema_spec.Schema → List (List ℕ) → Outcome)
+        → LeadsTo (with_schema (language_view language.now) (map (λ n. n.now) names.now)
+        (map (λ c. c.items) contents.entry.now) next)
+        (λ compiled. next (schema_view.view compiled.value.schema) (map (λ c. c.items) compiled.rest.now)) result }
+    ensures configured { IfOk result (λ compiled. option_map schema_view.view compiled.value.configured
+        ≡ configured_by of_configuration (schema_view.view compiled.value.schema)) }
+{
+    match parse_modules(alloc, language, names, contents) {
+        Ok(parsed) => match compile_both(
+            alloc,
+            language,
+            names,
+            contents,
+            &parsed.value,
+            of_configuration,
+        ) {
+            Ok(compiled) => Ok(Taken {
+                value: compiled,
                 rest: parsed.rest,
             }),
             Err(failure) => Err(failure),

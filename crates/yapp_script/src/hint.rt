@@ -18,6 +18,8 @@ use yinst::{Edit, EditCode};
 use yinst_tree::{DocCode, Step};
 use ylink_grammar::{BrokenRule, CompileCode};
 use ysay_edit::{said_of_edit, said_of_line};
+use ysay_names::{key_sentence, name_sentence, prefix_sentence};
+use ysay_pattern::pattern_sentence;
 use ysay_refusal::said_of_refusal;
 use ysay_repeated::said_of_repeated;
 use ysay_text::{line_sentence, shown, shown_line};
@@ -74,32 +76,35 @@ pub fn slip_hint(alloc: Global, line: u32, bytes: &[u8]) -> Result<String, Alloc
     Ok(hint)
 }
 
-/// What is said of the statements of a line of a module, of C1 alone.
-fn statement_hint(
+/// What is said of the statements of a line of a module of a set, by the code that is told of it.
+fn said_of_statements(
     alloc: Global,
     code: CompileCode,
     line: u32,
+    modules: &[Module],
     of: &Module,
 ) -> Result<String, AllocError>
-    ensures { IfOk result (λ hint. string_bytes hint
-        ≡ spec.statement_hint (code_number code) line (modules_view (of.now ∷ []))) }
+    ensures { IfOk result (λ said. string_bytes said ≡ spec.statement_said
+        (code_number code) line (modules_view modules.now) (modules_view (of.now ∷ []))) }
 {
-    if code.number() == 1 {
-        let said = line_sentence(alloc, line, of)?;
-        as_line(alloc, "  ", said.as_str())
-    } else {
-        Ok(String::new(alloc))
+    match code.number() {
+        1 => line_sentence(alloc, line, of),
+        6 => prefix_sentence(alloc, line, of),
+        8 => name_sentence(alloc, line, modules, of),
+        12 => key_sentence(alloc, line, of),
+        20 => pattern_sentence(alloc, line, of),
+        _ => Ok(String::new(alloc)),
     }
 }
 
 /// The same of a module of a set, by its number.
-fn module_hint(alloc: Global, modules: &[Module], rule: BrokenRule) -> Result<String, AllocError>
-    ensures { let b = break_view rule in IfOk result (λ hint. string_bytes hint
-        ≡ spec.statement_hint b.code b.line
+fn said_of_module(alloc: Global, modules: &[Module], rule: BrokenRule) -> Result<String, AllocError>
+    ensures { let b = break_view rule in IfOk result (λ said. string_bytes said
+        ≡ spec.statement_said b.code b.line (modules_view modules.now)
         (spec.module_at b.module_number (modules_view modules.now))) }
 {
     match modules.get(rule.module) {
-        Some(of) => statement_hint(alloc, rule.code, rule.line, of),
+        Some(of) => said_of_statements(alloc, rule.code, rule.line, modules, of),
         None => Ok(String::new(alloc)),
     }
 }
@@ -125,8 +130,9 @@ pub fn break_hint(
         (map (λ c. c.items) contents.now) (modules_view modules.now) (break_view rule)) }
 {
     let mut hint = line_hint(alloc, rule.line, contents_at(contents, rule.module))?;
-    let said = module_hint(alloc, modules, rule)?;
-    hint.push_str(said.as_str())?;
+    let said = said_of_module(alloc, modules, rule)?;
+    let told = as_line(alloc, "  ", said.as_str())?;
+    hint.push_str(told.as_str())?;
     Ok(hint)
 }
 

@@ -7,17 +7,16 @@ use Rattle.yspec.specs.text.Text.{Text}
 use Rattle.yspec.specs.schema.Schema.{Schema}
 use Rattle.yspec.specs.document.Document.{Tree, Step}
 use Rattle.yspec.specs.document.Fault.{Fault}
-use Rattle.yspec.specs.document.Faults.{faults_of}
 use Rattle.yspec.specs.edit.EditText.{Path}
 use Rattle.yspec.specs.edit.Editing.{Branch, EditRefusal, target_of}
-use Rattle.yspec.specs.edit.Live.{Live, faults_in}
+use Rattle.yspec.specs.edit.Live.{Live}
 use Rattle.yspec_session.specs.Session as spec
-use Rattle.yspec_session.specs.Session.{below_told, faults_below, place_of, value_at, value_told}
+use Rattle.yspec_session.specs.Session.{below_told, faults_below, place_of, told_of, value_at, value_told}
 use Rattle.yspec_session.specs.Remembering.{Kept}
 use Rattle.ysay_session.specs.AnswerText as text
 use Rattle.yinst_path.specs.Applying.{told_by}
 use Rattle.yinst_path.specs.declared.edit.EditFault.{EditFault}
-use Rattle.yapp_session.specs.Answered.{Replies, Told, answer_text, below_text, found_text, value_text}
+use Rattle.yapp_session.specs.Answered.{Replies, Told, answer_text, below_text, found_text, told_in, value_text}
 
 -- a document with its schema and its faults
 abbrev Seen : Type 0
@@ -26,20 +25,20 @@ Seen = Schema × (Tree × List Fault)
 said_of : Path → Seen → Text
 said_of path d = answer_text false d.0 d.1.0 d.1.0 (below_told d.1.1 (place_of d.0 d.1.0 path))
 
-module _ (live : Live) (path : Path) (s : Schema) (tree : Tree) (fs : List Fault) (schema : s ≡ live.schema) (copy : tree ≡ live.tree) (told : fs ≡ faults_in live) where
-  same_said : said_of path (s, (tree, fs)) ≡ below_text live path
+module _ (configured : Option Schema) (live : Live) (path : Path) (s : Schema) (tree : Tree) (fs : List Fault) (schema : s ≡ live.schema) (copy : tree ≡ live.tree) (told : fs ≡ told_in configured live) where
+  same_said : said_of path (s, (tree, fs)) ≡ below_text configured live path
   unfolding said_of
   same_said = ap (said_of path) (ap₂ (λ (s : Schema) (p : Tree × List Fault). (s, p)) schema (ap₂ (λ (t : Tree) (fs : List Fault). (t, fs)) copy told))
 
-  pub below_listed : (place : List Step) (t : Text) → place_of s tree path ≡ Ok place → t ≡ text.listed_text s tree (faults_below place fs) (length fs) → t ≡ below_text live path
+  pub below_listed : (place : List Step) (t : Text) → place_of s tree path ≡ Ok place → t ≡ text.listed_text s tree (faults_below place fs) (length fs) → t ≡ below_text configured live path
   unfolding said_of
   below_listed place t found is = is ∙ (sym (ap (λ r. answer_text false s tree tree (below_told fs r)) found) ∙ same_said)
 
-  pub below_refused : (fault : EditFault) (t : Text) → Fails (told_by fault) (place_of s tree path) → option_map text.edit_refused_text (told_by fault) ≡ Some t → t ≡ below_text live path
+  pub below_refused : (fault : EditFault) (t : Text) → Fails (told_by fault) (place_of s tree path) → option_map text.edit_refused_text (told_by fault) ≡ Some t → t ≡ below_text configured live path
   unfolding said_of
   below_refused fault t fails is = by (told_by fault) fails is
     where
-      by : (o : Option EditRefusal) → Fails o (place_of s tree path) → option_map text.edit_refused_text o ≡ Some t → t ≡ below_text live path
+      by : (o : Option EditRefusal) → Fails o (place_of s tree path) → option_map text.edit_refused_text o ≡ Some t → t ≡ below_text configured live path
       by None fails is = absurd cc
       by (Some e) fails is = sym (same_Some (text.edit_refused_text e) t is) ∙ (sym (ap (λ r. answer_text false s tree tree (below_told fs r)) fails) ∙ same_said)
 
@@ -49,20 +48,20 @@ below_as : (tells_changes : Bool) (schema : Schema) (tree : Tree) (fs : List Fau
 below_as tells_changes schema tree fs (Err e) = refl
 below_as tells_changes schema tree fs (Ok place) = refl
 
-pub below_replied : (tells_changes : Bool) (limit : ℕ) (live : Live) (k : Kept) (path : Path) (t : Text) → (live.is_stale ≡ false → t ≡ below_text live path)
-    → Replies tells_changes limit live k (spec.below path) t live k
-below_replied tells_changes limit live k path t said s h = (
-  said h.fresh ∙ (ap (λ (tree : Tree). below_text (record live { tree = tree }) path) h.tree
-      ∙ below_as tells_changes live.schema s.tree (faults_of live.schema s.tree) (place_of live.schema s.tree path)),
+pub below_replied : (tells_changes : Bool) (configured : Option Schema) (limit : ℕ) (live : Live) (k : Kept) (path : Path) (t : Text) → (live.is_stale ≡ false → t ≡ below_text configured live path)
+    → Replies tells_changes configured limit live k (spec.below path) t live k
+below_replied tells_changes configured limit live k path t said s h = (
+  said h.fresh ∙ (ap (λ (tree : Tree). below_text configured (record live { tree = tree }) path) h.tree
+      ∙ below_as tells_changes live.schema s.tree (told_of configured live.schema s.tree) (place_of live.schema s.tree path)),
   h,
 )
 
 -- nothing changes with a question
-pub told_question : (tells_changes : Bool) (limit : ℕ) (live after : Live) (k l : Kept) (asked : Option spec.Request) (r : spec.Request) (t : Text) → asked ≡ Some r
-    → after ≡ live → l ≡ k → Replies tells_changes limit live k r t live k → Told tells_changes limit live k asked t after l
-told_question tells_changes limit live after k l asked r t is same past replies =
-    subst (λ (o : Option spec.Request). Told tells_changes limit live k o t after l) (sym is)
-    (subst (λ (after : Live). Replies tells_changes limit live k r t after l) (sym same) (subst (λ (l : Kept). Replies tells_changes limit live k r t live l) (sym past) replies))
+pub told_question : (tells_changes : Bool) (configured : Option Schema) (limit : ℕ) (live after : Live) (k l : Kept) (asked : Option spec.Request) (r : spec.Request) (t : Text) → asked ≡ Some r
+    → after ≡ live → l ≡ k → Replies tells_changes configured limit live k r t live k → Told tells_changes configured limit live k asked t after l
+told_question tells_changes configured limit live after k l asked r t is same past replies =
+    subst (λ (o : Option spec.Request). Told tells_changes configured limit live k o t after l) (sym is)
+    (subst (λ (after : Live). Replies tells_changes configured limit live k r t after l) (sym same) (subst (λ (l : Kept). Replies tells_changes configured limit live k r t live l) (sym past) replies))
 
 -- ---- what is stored at a node
 
@@ -97,9 +96,9 @@ value_as tells_changes schema tree (Err e) = refl
 value_as tells_changes schema tree (Ok None) = refl
 value_as tells_changes schema tree (Ok (Some b)) = refl
 
-pub value_replied : (tells_changes : Bool) (limit : ℕ) (live : Live) (k : Kept) (path : Path) (t : Text) → t ≡ value_text live path
-    → Replies tells_changes limit live k (spec.value path) t live k
-value_replied tells_changes limit live k path t said s h = (
+pub value_replied : (tells_changes : Bool) (configured : Option Schema) (limit : ℕ) (live : Live) (k : Kept) (path : Path) (t : Text) → t ≡ value_text live path
+    → Replies tells_changes configured limit live k (spec.value path) t live k
+value_replied tells_changes configured limit live k path t said s h = (
   said ∙ (ap (λ (tree : Tree). value_text (record live { tree = tree }) path) h.tree
       ∙ value_as tells_changes live.schema s.tree (target_of live.schema s.tree false path >>= value_at live.schema)),
   h,

@@ -3,6 +3,7 @@ use Rattle.std.specs.Prelude.{ℕ, Bool, Option, Some, None}
 use Rattle.yspec.specs.schema.Schema.{Schema}
 use Rattle.yspec.specs.document.Fitting.{Fits}
 use Rattle.yspec_session.specs.Remembering.{Kept, Later}
+use Rattle.yschema_model.specs.declared.schema.Schema as rust
 use Rattle.ylive.specs.Kept as live
 use Rattle.ylive.specs.View.{view}
 use Rattle.yapp_session.specs.View.{past_view}
@@ -13,6 +14,7 @@ pub record Parts : Type 0 where
   pub past : Past
   pub limit : ℕ
   pub tells_changes : Bool
+  pub configured : Option rust.Schema
 
 abbrev pub LaterFits : Schema → Option Later → Type 0
 LaterFits schema None = Unit {0}

@@ -1,7 +1,8 @@
 //! What questions are answered.
 
-ghost use Rattle.std.specs.Prelude.{◌≡◌, ℕ, Bool, IfOk, IfSome, Some, false, length, option_map, string_bytes};
+ghost use Rattle.std.specs.Prelude.{◌≡◌, ℕ, Bool, IfOk, IfSome, Option, Some, false, length, option_map, string_bytes};
 ghost use Rattle.yspec.specs.document.Sorting.{IsSorted};
+ghost use Rattle.yspec.specs.schema.Schema as schemas;
 ghost use Rattle.yspec_session.specs.Session as spec;
 ghost use Rattle.yspec_session.specs.Remembering.{Kept};
 ghost use Rattle.ysay_session.specs.AnswerText.{document_text, edit_refused_text, listed_text};
@@ -13,9 +14,10 @@ ghost use Rattle.yinst_path.specs.EditView.{path_view};
 ghost use Rattle.yinst.specs.Locating.{spots_view};
 ghost use Rattle.ylive.specs.View.{view};
 ghost use Rattle.yapp_asking.specs.Asking.{found_view};
-ghost use Rattle.yapp_session.specs.Answered.{Replies, below_text, found_text, page_text, value_text};
+ghost use Rattle.yapp_session.specs.Answered.{Replies, below_text, configured_view, found_text, page_text, value_text};
 
 use crate::parts::{first_items, items_behind};
+use crate::telling::told_of;
 use std::alloc::{AllocError, Global};
 use yapp_asking::{keep_below, place_of, value_at};
 use ycheck::Fault;
@@ -28,15 +30,14 @@ use yschema_model::Schema;
 pub(crate) fn page(
     alloc: Global,
     live: &Live,
+    configured: &Option<Schema>,
     behind: usize,
     count: Option<usize>,
 ) -> Result<String, AllocError>
     ensures { IfOk result (λ text. (view live.now).is_stale ≡ false
-        → string_bytes text ≡ page_text (view live.now) behind count) }
+        → string_bytes text ≡ page_text (configured_view configured.now) (view live.now) behind count) }
 {
-    let Ok(faults) = live.list() else {
-        return Err(AllocError);
-    };
+    let faults = told_of(alloc, live, configured)?;
     let tree = live.tree()?;
     listed_text(
         alloc,
@@ -68,20 +69,28 @@ pub(crate) fn document(alloc: Global, live: &Live) -> Result<String, AllocError>
 }
 
 /// The faults of a node and of all below it, and how many there are of all.
-pub(crate) fn below(alloc: Global, live: &Live, path: &Path) -> Result<String, AllocError>
-    ensures { IfOk result (λ text. (tells_changes : Bool) (limit : ℕ) (k : Kept) → Replies tells_changes limit (view live.now) k
-        (spec.below (path_view path.now)) (string_bytes text) (view live.now) k) }
+pub(crate) fn below(
+    alloc: Global,
+    live: &Live,
+    configured: &Option<Schema>,
+    path: &Path,
+) -> Result<String, AllocError>
+    ensures { IfOk result (λ text. (tells_changes : Bool) (limit : ℕ) (k : Kept) → Replies tells_changes (configured_view configured.now) limit
+        (view live.now) k (spec.below (path_view path.now)) (string_bytes text) (view live.now) k) }
 {
-    node_faults(alloc, live, path)
+    node_faults(alloc, live, configured, path)
 }
 
-fn node_faults(alloc: Global, live: &Live, path: &Path) -> Result<String, AllocError>
+fn node_faults(
+    alloc: Global,
+    live: &Live,
+    configured: &Option<Schema>,
+    path: &Path,
+) -> Result<String, AllocError>
     ensures { IfOk result (λ text. (view live.now).is_stale ≡ false
-        → string_bytes text ≡ below_text (view live.now) (path_view path.now)) }
+        → string_bytes text ≡ below_text (configured_view configured.now) (view live.now) (path_view path.now)) }
 {
-    let Ok(faults) = live.list() else {
-        return Err(AllocError);
-    };
+    let faults = told_of(alloc, live, configured)?;
     let tree = live.tree()?;
     match place_of(alloc, live.schema(), &tree, path) {
         Ok(place) => listed_below(alloc, live.schema(), &tree, faults, place.as_slice()),
@@ -118,8 +127,9 @@ fn fault_text(alloc: Global, fault: EditFault) -> Result<String, AllocError>
 
 /// What is stored at a node.
 pub(crate) fn value(alloc: Global, live: &Live, path: &Path) -> Result<String, AllocError>
-    ensures { IfOk result (λ text. (tells_changes : Bool) (limit : ℕ) (k : Kept) → Replies tells_changes limit (view live.now) k
-        (spec.value (path_view path.now)) (string_bytes text) (view live.now) k) }
+    ensures { IfOk result (λ text. (tells_changes : Bool) (configured : Option schemas.Schema) (limit : ℕ)
+        (k : Kept) → Replies tells_changes configured limit (view live.now) k (spec.value (path_view path.now))
+        (string_bytes text) (view live.now) k) }
 {
     node_value(alloc, live, path)
 }

@@ -1,23 +1,23 @@
 //! What requests are answered that change a session.
 
-ghost use Rattle.std.specs.Prelude.{◌≡◌, IfOk, OnErr, false, string_bytes};
-ghost use Rattle.yspec.specs.edit.Live.{fault_count};
+ghost use Rattle.std.specs.Prelude.{◌≡◌, IfOk, OnErr, string_bytes};
 ghost use Rattle.yspec_session.specs.Session as spec;
 ghost use Rattle.yinst_path.specs.EditView.{edit_view};
 ghost use Rattle.ylive.specs.View.{view};
 ghost use Rattle.yapp_session.specs.View.{past_view};
 ghost use Rattle.yapp_session.specs.Kept.{AreFit};
-ghost use Rattle.yapp_session.specs.Answered.{IsPlaced, Replies, Stays};
+ghost use Rattle.yapp_session.specs.Answered.{IsPlaced, Replies, Stays, configured_view};
 ghost use Rattle.yapp_session.specs.Came.{Falls};
 
 use crate::past::Past;
 use crate::rewinding::rewind;
-use crate::telling::{seen, seen_text};
+use crate::telling::{count_of, seen, seen_text};
 use crate::turning::{turns_behind, turns_there};
 use std::alloc::{AllocError, Global};
 use yinst::{Edit, EditFault};
 use ylive::{Live, Refused};
 use ysay_session::{begun_text, done_text, edit_refused_text, not_begun_text, nothing_text};
+use yschema_model::Schema;
 
 /// Applies an edit and remembers it.
 pub(crate) fn change(
@@ -26,18 +26,21 @@ pub(crate) fn change(
     past: &mut Past,
     limit: usize,
     tells_changes: bool,
+    configured: &Option<Schema>,
     edit: Edit,
 ) -> Result<String, AllocError>
-    ensures answer { IfOk result (λ text. Replies tells_changes limit (view live.old) (past_view past.old)
+    ensures answer { IfOk result (λ text. Replies tells_changes (configured_view configured.now) limit (view live.old) (past_view past.old)
         (spec.change (edit_view edit)) (string_bytes text) (view live.new) (past_view past.new)) }
     ensures stays { Stays (view live.old) (past_view past.old) (view live.new) (past_view past.new) }
     ensures memory { OnErr result (past_view past.new ≡ past_view past.old) }
 {
-    let earlier = seen(live, tells_changes)?;
+    let before = count_of(alloc, live, configured)?;
+    let earlier = seen(alloc, live, tells_changes, configured)?;
     let turns = turns_there(alloc, live, &earlier, &edit)?;
     match live.edit(&edit) {
-        Ok(applied) => {
-            let text = seen_text(alloc, live, earlier, &turns, applied.before, applied.after)?;
+        Ok(_) => {
+            let after = count_of(alloc, live, configured)?;
+            let text = seen_text(alloc, live, configured, earlier, &turns, before, after)?;
             past.add(limit, edit)?;
             Ok(text)
         }
@@ -48,13 +51,6 @@ pub(crate) fn change(
     }
 }
 
-/// How many faults a live document has; none of a stale one.
-fn count_of(live: &Live) -> usize
-    ensures { (view live.now).is_stale ≡ false → result ≡ fault_count (view live.now) }
-{
-    live.fault_count().unwrap_or(0)
-}
-
 /// Puts a live document to where it was behind the first groups of edits, and tells what came of its faults.
 fn go_back(
     alloc: Global,
@@ -62,18 +58,20 @@ fn go_back(
     past: &Past,
     groups: usize,
     tells_changes: bool,
+    configured: &Option<Schema>,
 ) -> Result<String, AllocError>
     requires { AreFit (view live.old).schema (past_view past.now) }
-    ensures text { IfOk result (λ text. Falls tells_changes (view live.old) (past_view past.now) groups
+    ensures text { IfOk result (λ text. Falls tells_changes (configured_view configured.now) (view live.old) (past_view past.now) groups
         (string_bytes text) (view live.new)) }
     ensures live { IfOk result (λ text. IsPlaced (view live.old).schema (past_view past.now) groups (view live.new)) }
     ensures schema { (view live.new).schema ≡ (view live.old).schema }
 {
-    let before = count_of(live);
-    let earlier = seen(live, tells_changes)?;
+    let before = count_of(alloc, live, configured)?;
+    let earlier = seen(alloc, live, tells_changes, configured)?;
     rewind(live, past, groups)?;
     let turns = turns_behind(alloc, live, past, groups, tells_changes)?;
-    seen_text(alloc, live, earlier, &turns, before, count_of(live))
+    let after = count_of(alloc, live, configured)?;
+    seen_text(alloc, live, configured, earlier, &turns, before, after)
 }
 
 /// Takes back the last group of edits that is remembered.
@@ -83,9 +81,10 @@ pub(crate) fn undo(
     past: &mut Past,
     limit: usize,
     tells_changes: bool,
+    configured: &Option<Schema>,
 ) -> Result<String, AllocError>
     requires { AreFit (view live.old).schema (past_view past.old) }
-    ensures answer { IfOk result (λ text. Replies tells_changes limit (view live.old) (past_view past.old)
+    ensures answer { IfOk result (λ text. Replies tells_changes (configured_view configured.now) limit (view live.old) (past_view past.old)
         spec.undo (string_bytes text) (view live.new) (past_view past.new)) }
     ensures stays { Stays (view live.old) (past_view past.old) (view live.new) (past_view past.new) }
     ensures memory { OnErr result (past_view past.new ≡ past_view past.old) }
@@ -94,7 +93,7 @@ pub(crate) fn undo(
         return nothing_text(alloc);
     }
     let groups = past.groups().len().saturating_sub(1);
-    let text = go_back(alloc, live, past, groups, tells_changes)?;
+    let text = go_back(alloc, live, past, groups, tells_changes, configured)?;
     past.take_back(groups);
     Ok(text)
 }
@@ -106,8 +105,9 @@ pub(crate) fn begin(
     past: &mut Past,
     limit: usize,
     tells_changes: bool,
+    configured: &Option<Schema>,
 ) -> Result<String, AllocError>
-    ensures answer { IfOk result (λ text. Replies tells_changes limit (view live.now) (past_view past.old)
+    ensures answer { IfOk result (λ text. Replies tells_changes (configured_view configured.now) limit (view live.now) (past_view past.old)
         spec.begin (string_bytes text) (view live.now) (past_view past.new)) }
     ensures stays { Stays (view live.now) (past_view past.old) (view live.now) (past_view past.new) }
     ensures memory { OnErr result (past_view past.new ≡ past_view past.old) }
@@ -127,8 +127,9 @@ pub(crate) fn commit(
     past: &mut Past,
     limit: usize,
     tells_changes: bool,
+    configured: &Option<Schema>,
 ) -> Result<String, AllocError>
-    ensures answer { IfOk result (λ text. Replies tells_changes limit (view live.now) (past_view past.old)
+    ensures answer { IfOk result (λ text. Replies tells_changes (configured_view configured.now) limit (view live.now) (past_view past.old)
         spec.commit (string_bytes text) (view live.now) (past_view past.new)) }
     ensures stays { Stays (view live.now) (past_view past.old) (view live.now) (past_view past.new) }
     ensures memory { OnErr result (past_view past.new ≡ past_view past.old) }
@@ -148,9 +149,10 @@ pub(crate) fn back(
     past: &mut Past,
     limit: usize,
     tells_changes: bool,
+    configured: &Option<Schema>,
 ) -> Result<String, AllocError>
     requires { AreFit (view live.old).schema (past_view past.old) }
-    ensures answer { IfOk result (λ text. Replies tells_changes limit (view live.old) (past_view past.old)
+    ensures answer { IfOk result (λ text. Replies tells_changes (configured_view configured.now) limit (view live.old) (past_view past.old)
         spec.back (string_bytes text) (view live.new) (past_view past.new)) }
     ensures stays { Stays (view live.old) (past_view past.old) (view live.new) (past_view past.new) }
     ensures memory { OnErr result (past_view past.new ≡ past_view past.old) }
@@ -158,7 +160,7 @@ pub(crate) fn back(
     let Some(since) = past.begun() else {
         return not_begun_text(alloc);
     };
-    let text = go_back(alloc, live, past, since.groups, tells_changes)?;
+    let text = go_back(alloc, live, past, since.groups, tells_changes, configured)?;
     past.back(since);
     Ok(text)
 }

@@ -8,17 +8,19 @@ ghost use Rattle.yspec_session.specs.Requests.{request_of};
 ghost use Rattle.ysay_session.specs.AnswerText.{short_text};
 ghost use Rattle.yapp_session.specs.Asked.{request_view};
 ghost use Rattle.yapp_session.specs.Kept.{AreFit};
-ghost use Rattle.yapp_session.specs.Answered.{Holds, IsPlaced, Says, Stays, Told};
+ghost use Rattle.yapp_session.specs.Answered.{Holds, IsPlaced, Says, Stays, Told, configured_view};
 
 use crate::past::Past;
 use crate::questions::{below, document, page, value};
 use crate::replying::{back, begin, change, commit, undo};
 use crate::request::{Request, request_of};
 use crate::rewinding::rewind;
+use crate::telling::count_of;
 use std::alloc::{AllocError, Global};
 use std::marker::Model;
 use ylive::Live;
 use ysay_session::{not_understood_text, short_text, unserved_text};
+use yschema_model::Schema;
 
 /// A live document, and the edits since another that lead to it.
 #[derive(Drop)]
@@ -28,43 +30,48 @@ pub struct Session {
     past: Past,
     limit: usize,
     tells_changes: bool,
+    configured: Option<Schema>,
 }
 
 impl Model for Session {
     ghost use Rattle.std.specs.Coded.{codes};
+    ghost use Rattle.yschema_model.specs.contracts.schema.Schema as schemas;
     ghost use Rattle.ylive.specs.contracts.live.Live as lives;
     ghost use Rattle.yapp_session.specs.contracts.past.Past as pasts;
     ghost use Rattle.yapp_session.specs.Kept.{IsKept, Parts};
 
     ghost Value = { Parts };
 
-    ghost coded = { Prim.hlevel (codes, lives.the_row.coded, pasts.the_row.coded) };
+    ghost coded = { Prim.hlevel (codes, schemas.the_row.coded, lives.the_row.coded, pasts.the_row.coded) };
 
-    ghost view = { λ a. record { live = a.live; past = a.past; limit = a.limit; tells_changes = a.tells_changes } };
+    ghost view = { λ a. record { live = a.live; past = a.past; limit = a.limit; tells_changes = a.tells_changes; configured = a.configured } };
 
     ghost invariant = { λ a. IsKept a.live a.past };
 }
 
 impl Session {
-    ghost use Rattle.std.specs.Prelude.{◌≡◌, IfErr, IfOk, false, string_bytes};
+    ghost use Rattle.std.specs.Prelude.{◌≡◌, IfErr, IfOk, OnErr, false, is_some, string_bytes, true};
     ghost use Rattle.yspec_session.specs.Session.{opened};
     ghost use Rattle.ylive.specs.View.{view};
     ghost use Rattle.yapp_session.specs.View.{past_view};
-    ghost use Rattle.yapp_session.specs.Answered.{AnswersLine, Holds};
+    ghost use Rattle.yapp_session.specs.Answered.{AnswersLine, Holds, configured_view, told_count};
 
     /// A session over a live document, in which so many edits can be taken back, and perhaps which faults are new and which are
-    /// gone is told of each change. Where memory runs out the document is given back.
+    /// gone is told of each change, and, where the schema of its configuration is given, the faults of that alone. Where memory
+    /// runs out the document is given back.
     pub fn open(
         alloc: Global,
         live: Live,
         limit: usize,
         tells_changes: bool,
+        configured: Option<Schema>,
     ) -> Result<Session, Live>
         ensures opened { IfOk result (λ session. (view live).is_stale ≡ false
             → Holds (view session.live) (past_view session.past) (opened (view live).tree)) }
         ensures schema { IfOk result (λ session. (view session.live).schema ≡ (view live).schema) }
         ensures limit { IfOk result (λ session. session.limit ≡ limit) }
         ensures changes { IfOk result (λ session. session.tells_changes ≡ tells_changes) }
+        ensures looks { IfOk result (λ session. session.configured ≡ configured) }
         ensures err { IfErr result (λ given. given ≡ live) }
     {
         match live.tree() {
@@ -74,6 +81,7 @@ impl Session {
                 past: Past::of(alloc, base),
                 limit,
                 tells_changes,
+                configured,
             }),
             Err(_) => Err(live),
         }
@@ -84,6 +92,15 @@ impl Session {
         ensures { result.now ≡ self.now.live }
     {
         &self.live
+    }
+
+    /// How many faults are told of its document.
+    pub fn fault_count(&self) -> Result<usize, AllocError>
+        ensures counted { IfOk result (λ count. (view self.now.live).is_stale ≡ false
+            → count ≡ told_count (configured_view self.now.configured) (view self.now.live)) }
+        ensures err { OnErr result (is_some self.now.configured ≡ true) }
+    {
+        count_of(self.alloc, &self.live, &self.configured)
     }
 
     /// The answer to a line.
@@ -97,6 +114,7 @@ impl Session {
             &mut self.past,
             self.limit,
             self.tells_changes,
+            &self.configured,
             line,
         ) {
             Ok(text) => {
@@ -115,16 +133,17 @@ fn answer_line(
     past: &mut Past,
     limit: usize,
     tells_changes: bool,
+    configured: &Option<Schema>,
     line: &[u8],
 ) -> Result<String, AllocError>
     requires { AreFit (view live.old).schema (past_view past.old) }
-    ensures answer { IfOk result (λ text. Says tells_changes limit (view live.old) (past_view past.old)
+    ensures answer { IfOk result (λ text. Says tells_changes (configured_view configured.now) limit (view live.old) (past_view past.old)
         (request_of line.now) (string_bytes text) (view live.new) (past_view past.new)) }
     ensures stays { Stays (view live.old) (past_view past.old) (view live.new) (past_view past.new) }
     ensures memory { OnErr result (past_view past.new ≡ past_view past.old) }
 {
     match request_of(alloc, line)? {
-        Some(request) => reply(alloc, live, past, limit, tells_changes, request),
+        Some(request) => reply(alloc, live, past, limit, tells_changes, configured, request),
         None => not_understood_text(alloc),
     }
 }
@@ -166,24 +185,25 @@ fn reply(
     past: &mut Past,
     limit: usize,
     tells_changes: bool,
+    configured: &Option<Schema>,
     request: Request,
 ) -> Result<String, AllocError>
     requires { AreFit (view live.old).schema (past_view past.old) }
-    ensures answer { IfOk result (λ text. Told tells_changes limit (view live.old) (past_view past.old)
+    ensures answer { IfOk result (λ text. Told tells_changes (configured_view configured.now) limit (view live.old) (past_view past.old)
         (request_view request) (string_bytes text) (view live.new) (past_view past.new)) }
     ensures stays { Stays (view live.old) (past_view past.old) (view live.new) (past_view past.new) }
     ensures memory { OnErr result (past_view past.new ≡ past_view past.old) }
 {
     match request {
-        Request::Change(edit) => change(alloc, live, past, limit, tells_changes, edit),
-        Request::Faults { behind, count } => page(alloc, live, behind, count),
-        Request::Below(path) => below(alloc, live, &path),
+        Request::Change(edit) => change(alloc, live, past, limit, tells_changes, configured, edit),
+        Request::Faults { behind, count } => page(alloc, live, configured, behind, count),
+        Request::Below(path) => below(alloc, live, configured, &path),
         Request::Value(path) => value(alloc, live, &path),
-        Request::Undo => undo(alloc, live, past, limit, tells_changes),
+        Request::Undo => undo(alloc, live, past, limit, tells_changes, configured),
         Request::Document => document(alloc, live),
-        Request::Begin => begin(alloc, live, past, limit, tells_changes),
-        Request::Commit => commit(alloc, live, past, limit, tells_changes),
-        Request::Back => back(alloc, live, past, limit, tells_changes),
+        Request::Begin => begin(alloc, live, past, limit, tells_changes, configured),
+        Request::Commit => commit(alloc, live, past, limit, tells_changes, configured),
+        Request::Back => back(alloc, live, past, limit, tells_changes, configured),
         Request::Unserved => unserved_text(alloc),
     }
 }

@@ -1,20 +1,19 @@
 -- A talk from its beginning to its end.
-use Rattle.std.proofs.Common.{◌≡◌, ◌⊎◌, inl, inr, ℕ, Bool, List, [], ◌∷◌, ◌++◌, Option, Some, None, ap, refl, sym, subst, ◌∙◌}
-use Rattle.std.specs.Prelude.{Result, Ok, Err, is_ok, if◌then◌else◌, unwrap_or}
+use Rattle.std.proofs.Common.{◌≡◌, false, ◌⊎◌, inl, inr, ℕ, Bool, List, [], ◌∷◌, ◌++◌, Option, Some, None, ap, refl, sym, subst, ◌∙◌}
+use Rattle.std.specs.Prelude.{Result, Ok, Err, codes, is_ok, if◌then◌else◌}
 use Rattle.yspec_opening.specs.Closing.{Close, at_end, closing_status, closing_text, endless, short, unread, untold}
 use Rattle.ybase_output.specs.Writing.{Broke, Side, Writes, Wrote}
 use Rattle.ybase_output.proofs.WritingLemmas.{broke_second, wrote_both}
 use Rattle.ybase_talk.specs.Talk.{Answering, Exchange, Goes, Keeping, Party, Talks}
 use Rattle.ybase_talk.specs.declared.talk.TalkFault.{TalkFault}
 use Rattle.ybase_talk.specs.declared.talk.TalkFault.TheVariants.{Unread, Unwritten, Memory, Endless}
-use Rattle.ylive.specs.Answers.{known_count}
 use Rattle.ylive.specs.View.{view}
 use Rattle.yapp_words.specs.Running.{Ends}
 use Rattle.yapp_session.specs.Kept as session
 use Rattle.yspec_session.specs.Requests.{request_of}
 use Rattle.yapp_talk.specs.Saving.{file_asked}
 use Rattle.yapp_talk.specs.Watching.{AnswersOrSaves, AnswersWatched, as_result, close_of}
-use Rattle.yapp_talk.specs.Talked.{HoldsOn, IsThere, faults_left}
+use Rattle.yapp_talk.specs.Talked.{EndsTalk, HoldsOn, IsThere, faults_left}
 use Rattle.yapp_talk.specs.declared.watching.Watched.{Watched}
 
 -- a text that is written alone ends a run
@@ -45,8 +44,11 @@ talks_as answers caller s caller_after last (Err Endless) talks = talks
 -- a talk behind what is said first
 pub held_behind : (w : Watched) (note : List ℕ) (with_reasons : Bool) (caller caller_after : Party) (a b c : Side) (status : ℕ) → Wrote a b note
     → HoldsOn w [] with_reasons caller caller_after b c status → HoldsOn w note with_reasons caller caller_after a c status
-held_behind w note with_reasons caller caller_after a b c status wrote held =
-    (held.0, held.1, held.2, ends_behind a b c note (closing_text with_reasons held.0) _ status wrote held.3)
+held_behind w note with_reasons caller caller_after a b c status wrote held = (held.0, held.1, held.2, by held.3)
+  where
+    by : EndsTalk held.1 held.0 [] with_reasons b c status → EndsTalk held.1 held.0 note with_reasons a c status
+    by (inl ends) = inl (ends_behind a b c note (closing_text with_reasons held.0) _ status wrote ends)
+    by (inr (is, ends)) = inr (is, ends_behind a b c note (codes "memory\n") 4 status wrote ends)
 
 -- ---- a session stays there
 
@@ -71,16 +73,13 @@ there_last : (xs : List Exchange) (start last : Watched) → Goes AnswersWatched
 there_last [] start last goes there = subst IsThere (sym goes) there
 there_last (x ∷ xs) start last goes there = there_last xs goes.0 last goes.2 (there_behind start goes.0 x.line x.keepings x.answer goes.1 there)
 
-known_there : (w : Watched) → IsThere w → unwrap_or (known_count (view w.session.live)) 1 ≡ faults_left w
-known_there w there = ap (λ (b : Bool). unwrap_or (if b then None else Some (faults_left w)) 1) there.1.fresh
-
 -- where a talk comes to its end, the faults are known
 pub closed_so : (caller caller_after : Party) (start last : Watched) (close : Close) (has_refused : Bool) (faults : ℕ)
-    → Talks {X = Bool} AnswersWatched caller start caller_after last (as_result close) → IsThere start → faults ≡ unwrap_or (known_count (view last.session.live)) 1
+    → Talks {X = Bool} AnswersWatched caller start caller_after last (as_result close) → IsThere start → ((view last.session.live).is_stale ≡ false → faults ≡ faults_left last)
     → closing_status close has_refused faults ≡ closing_status close has_refused (faults_left last)
 closed_so caller caller_after start last at_end has_refused faults talks there is =
     let there : IsThere last = subst IsThere (sym talks.3.3) (there_last talks.0 start talks.1 talks.2 there) in
-    ap (closing_status at_end has_refused) (is ∙ known_there last there)
+    ap (closing_status at_end has_refused) (is there.1.fresh)
 closed_so caller caller_after start last unread has_refused faults talks there is = refl
 closed_so caller caller_after start last untold has_refused faults talks there is = refl
 closed_so caller caller_after start last short has_refused faults talks there is = refl

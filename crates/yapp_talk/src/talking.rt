@@ -7,16 +7,19 @@ ghost use Rattle.ybase_talk.specs.Talk.{party};
 ghost use Rattle.yapp_words.specs.Command.{opening_view};
 ghost use Rattle.yapp_words.specs.Running.{Ends};
 ghost use Rattle.ylive.specs.View.{view};
+ghost use Rattle.yspec_session.specs.Session.{configured_by};
+ghost use Rattle.yapp_session.specs.Answered.{configured_view};
 ghost use Rattle.yapp_talk.specs.Watching.{close_of};
 ghost use Rattle.yapp_talk.specs.Talked.{Begins, HoldsOn, IsTalk, IsThere};
 
 use crate::watching::Watched;
-use std::alloc::Global;
+use std::alloc::{AllocError, Global};
 use yapp_session::Session;
 use yapp_words::Opening;
 use ybase_output::{Sink, SinkFault, write_texts};
 use ybase_talk::{Caller, TalkFault, converse};
 use ylive::Live;
+use yschema_model::Schema;
 
 /// What is said where a talk ends.
 fn closing_text(ended: Result<(), TalkFault>, with_reasons: bool) -> &'static str
@@ -72,10 +75,13 @@ fn hold<C: Caller, E: Sink>(
         (side E.taken E.failures errors.old) (side E.taken E.failures errors.new) result }
 {
     let ended = converse(caller, &mut watched);
-    // Where a talk comes to its end, they are known.
-    let faults = watched.session.live().fault_count().unwrap_or(1);
-    let status = closing_status(ended, watched.has_refused, faults);
-    end_with(closing_text(ended, with_reasons), status, errors)
+    match watched.session.fault_count() {
+        Ok(faults) => {
+            let status = closing_status(ended, watched.has_refused, faults);
+            end_with(closing_text(ended, with_reasons), status, errors)
+        }
+        Err(AllocError) => end_with("memory\n", 4, errors),
+    }
 }
 
 /// Says what is known of conditions, and holds the talk of a session.
@@ -96,23 +102,32 @@ fn begin<C: Caller, E: Sink>(
     }
 }
 
-/// Opens a session over a live document, as words ask for it, says what is known of the conditions of its modules, and answers
-/// requests until there are no more. Answers the exit status.
+/// Opens a session over a live document, as words ask for it, with the schema of its configuration where that alone is looked
+/// at, says what is known of the conditions of its modules, and answers requests until there are no more. Answers the exit status.
 pub fn talk<C: Caller, E: Sink>(
     alloc: Global,
     opening: &Opening<'_>,
     live: Live,
+    configured: Option<Schema>,
     note: &str,
     with_reasons: bool,
     caller: &mut C,
     errors: &mut E,
 ) -> u8
-    requires { (view live).is_stale ≡ false }
+    requires fresh { (view live).is_stale ≡ false }
+    requires looks { configured_view configured
+        ≡ configured_by (opening_view opening.now).of_configuration (view live).schema }
     ensures { IsTalk (opening_view opening.now) (view live).schema (view live).tree note.now with_reasons
         (party C.events C.failures caller.old) (party C.events C.failures caller.new)
         (side E.taken E.failures errors.old) (side E.taken E.failures errors.new) result }
 {
-    match Session::open(alloc, live, opening.remembers, opening.tells_changes) {
+    match Session::open(
+        alloc,
+        live,
+        opening.remembers,
+        opening.tells_changes,
+        configured,
+    ) {
         Ok(session) => {
             let watched = Watched {
                 alloc,

@@ -1,12 +1,12 @@
 -- What clap's answers come to.
-use Rattle.std.proofs.Common.{◌≡◌, ◌⊎◌, inl, inr, List, [], ◌∷◌, ℕ, Bool, Option, Some, None, Bor, map, false, true, refl, sym, subst, ap, ap₂, ◌∙◌}
+use Rattle.std.proofs.Common.{◌≡◌, ◌⊎◌, inl, inr, List, [], ◌∷◌, ℕ, Bool, Option, Some, None, Bor, false, true, refl, sym, subst, ap, ap₂, ◌∙◌}
 use Rattle.std.specs.Prelude.{Result, Ok, Err, IsErrAnd, option_map, unwrap_or, ◌||◌, if◌then◌else◌}
 use Rattle.yspec_wide.specs.Language.{Language, core}
 use Rattle.yspec_run.specs.Output as spec
 use Rattle.yspec_run.specs.Output.{compile, edit, validate}
 use Rattle.yspec_opening.specs.Opening.{Opening, report}
 use Rattle.clap.specs.Kinds.{or_else}
-use Rattle.clap.specs.Words.{AddsArg, AddsSubcommand, App, Kinds, IsAmong, Row, Rule, Text, all_of, app_of, fault_of, first_of, first_value, matched_of, raw_values, rows_of, is_simple, is_simple_and_free, new_app, subcommand_of, with_rule, with_subcommand}
+use Rattle.clap.specs.Words.{AddsArg, AddsSubcommand, App, Kinds, IsAmong, Row, Rule, Text, app_of, fault_of, first_value, rows_of, is_simple, is_simple_and_free, new_app, subcommand_of, with_rule, with_subcommand}
 use Rattle.clap.specs.Simple.{app_of_fields}
 use Rattle.clap.specs.declared.builder.arg.Arg.{Arg}
 use Rattle.clap.specs.declared.builder.command.Command.{Command}
@@ -15,10 +15,11 @@ use Rattle.clap.specs.declared.builder.command.Command.TheOpen.{Command-F}
 use Rattle.clap.specs.declared.error.kind.ErrorKind.{ErrorKind}
 use Rattle.clap.specs.declared.error.kind.ErrorKind.TheVariants.{OutOfMemory}
 use Rattle.clap.specs.declared.parser.matches.Found.{Found}
-use Rattle.clap.proofs.WalkLemmas.{first_value-rows, raw_values-rows}
+use Rattle.clap.proofs.WalkLemmas.{first_value-rows}
 use Rattle.clap.proofs.OnLiterals.{clap_on_literals}
+use Rattle.yapp_profile.proofs.GivenLemmas.{now_or}
 use Rattle.yapp_words.specs.Application.{IsArgument, IsCommand, yanglive}
-use Rattle.yapp_words.specs.Command.{Declines, Explains, Refuses, Takes, TakesFit, asked_by, asked_of, asks_help, conditions_in_core, drawing_by, explained_by, features_in_core, is_help, misuse_fault, named_stream, reads_input_twice, reads_requests_twice, refused_number, refused_pair, refused_value, unfit_conditions, unfit_count, unfit_features, unknown_format, unknown_profile, value_of}
+use Rattle.yapp_words.specs.Command.{Declines, Explains, Refuses, Takes, TakesFit, asked_by, asked_of, asks_help, conditions_in_core, drawing_by, explained_by, features_in_core, folders_by, is_help, misuse_fault, named_stream, reads_input_twice, reads_requests_twice, refused_number, refused_pair, refused_value, unfit_conditions, unfit_count, unfit_features, unknown_format, unknown_profile, value_of}
 use Rattle.yapp_words.specs.Running.{refused, shown, with_text}
 use Rattle.yapp_words.specs.declared.command.CommandLine.{CommandLine}
 use Rattle.yapp_words.specs.declared.command.NoRequest.{NoRequest}
@@ -59,23 +60,6 @@ pub is_plain : is_simple yanglive ≡ true
 unfolding clap_on_literals
 is_plain = refl
 
-pub now_or : {X : Type 0} → (o : Option (Bor X)) (d : Bor X) → (unwrap_or o d).now ≡ unwrap_or (option_map (λ b. b.now) o) d.now
-now_or None d = refl
-now_or (Some b) d = refl
-
-pub names_or : (o : Option (Bor (List (Bor Text)))) (d : Bor (List (Bor Text)))
-    → map (λ name. name.now) (unwrap_or o d).now ≡ unwrap_or (option_map (λ s. map (λ name. name.now) s.now) o) (map (λ name. name.now) d.now)
-names_or None d = refl
-names_or (Some b) d = refl
-
--- the texts of an argument, or none
-pub given_all : (found : Found) (name : Text) (o : Option (Bor (List (Bor Text)))) (d b : Bor (List (Bor Text)))
-    → option_map (λ s. map (λ word. word.now) s.now) o ≡ option_map raw_values (matched_of found name)
-    → b ≡ unwrap_or o d → map (λ word. word.now) d.now ≡ [] → map (λ word. word.now) b.now ≡ unwrap_or (all_of name (rows_of found)) []
-given_all found name o d b is taken none = ap (λ (x : Bor (List (Bor Text))). map (λ (word : Bor Text). word.now) x.now) taken
-    ∙ (names_or o d ∙ (ap (unwrap_or (option_map (λ (s : Bor (List (Bor Text))). map (λ (word : Bor Text). word.now) s.now) o)) none
-    ∙ ap (λ (x : Option (List Text)). unwrap_or x []) (is ∙ raw_values-rows found name)))
-
 -- the text of an argument, or an empty one
 pub given : (found : Found) (name : Text) (o : Option (Bor Text)) (d b : Bor Text) → option_map (λ s. s.now) o ≡ first_value found name
     → b ≡ unwrap_or o d → d.now ≡ [] → b.now ≡ value_of name (rows_of found)
@@ -92,32 +76,25 @@ pub validate_same : (k l : Language) (d e : spec.Options) (a b : Text) (ms ns : 
 validate_same k l d e a b ms ns languages options documents modules =
     ap₂ (λ j f. validate j f a ms) languages options ∙ ap₂ (validate l e) documents modules
 
-abbrev pub over : Language → Bool → ℕ → Bool → Text → List Text → Opening
-over language is_strict remembers tells_changes document modules = record {
+abbrev pub over : Language → Bool → ℕ → Bool → Bool → Text → List Text → Opening
+over language is_strict remembers tells_changes of_configuration document modules = record {
   language = language;
   is_strict = is_strict;
   remembers = remembers;
   tells_changes = tells_changes;
+  of_configuration = of_configuration;
   document = document;
   modules = modules;
 }
 
-pub opening_same : (k l : Language) (d e : Bool) (m n : ℕ) (c f : Bool) (a b : Text) (ms ns : List Text) → k ≡ l → d ≡ e → m ≡ n → c ≡ f → a ≡ b → ms ≡ ns
-    → over k d m c a ms ≡ over l e n f b ns
-opening_same k l d e m n c f a b ms ns languages strict numbers changes documents modules =
-    ap₂ (λ j i. over j i m c a ms) languages strict ∙ (ap₂ (λ i j. over l e i j a ms) numbers changes ∙ ap₂ (over l e n f) documents modules)
+pub opening_same : (k l : Language) (d e : Bool) (m n : ℕ) (c f g h : Bool) (a b : Text) (ms ns : List Text) → k ≡ l → d ≡ e → m ≡ n → c ≡ f → g ≡ h → a ≡ b
+    → ms ≡ ns → over k d m c g a ms ≡ over l e n f h b ns
+opening_same k l d e m n c f g h a b ms ns languages strict numbers changes looks documents modules =
+    ap₂ (λ j i. over j i m c g a ms) languages strict ∙ (ap₂ (λ i j. over l e i j g a ms) numbers changes
+    ∙ (ap (λ i. over l e n f i a ms) looks ∙ ap₂ (over l e n f h) documents modules))
 
 pub drawing_same : (a b : Bool) (k l : Language) (n m : Text) (xs ys : List Text) → a ≡ b → k ≡ l → n ≡ m → xs ≡ ys → drawing_by a k n xs ≡ drawing_by b l m ys
 drawing_same a b k l n m xs ys all languages names modules = ap₂ (λ c j. drawing_by c j n xs) all languages ∙ ap₂ (drawing_by b l) names modules
-
--- the text of an option, if it is given
-pub given_first : (found : Found) (name : Text) (o : Option (Bor Text)) → option_map (λ s. s.now) o ≡ first_value found name
-    → option_map (λ s. s.now) o ≡ first_of name (rows_of found)
-given_first found name o is = is ∙ first_value-rows found name
-
-pub given_or : (found : Found) (name : Text) (o : Option (Bor Text)) (d b : Bor Text) → option_map (λ s. s.now) o ≡ first_value found name
-    → b ≡ unwrap_or o d → b.now ≡ unwrap_or (first_of name (rows_of found)) d.now
-given_or found name o d b is taken = ap (λ (x : Bor Text). x.now) taken ∙ (now_or o d ∙ ap (λ (x : Option Text). unwrap_or x d.now) (given_first found name o is))
 
 pub asked_some : (o : Option (Text × List Row)) (name : Text) (rows : List Row) → Some name ≡ option_map (λ p. p.0) o
     → Some rows ≡ option_map (λ p. p.1) o → asked_of name rows ≡ asked_by o
@@ -198,6 +175,7 @@ taken_fit words command (Ok line) none named takes = (
   ap₂ or_else none (ap misuse_fault named ∙ takes.0),
   takes.1 ∙ sym (ap asked_by named),
   takes.2 ∙ sym (ap explained_by named),
+  takes.3 ∙ sym (ap folders_by named),
 )
 taken_fit words command (Err (none.Help text)) none named takes = absurd takes
 taken_fit words command (Err (none.Refused text)) none_wrong named takes =

@@ -1,3 +1,2 @@
-pub mod LanguageLemmas
 pub mod CommandLemmas
 pub mod HelpLemmas

@@ -1,5 +1,5 @@
 -- The program as clap sees it: an application with its commands and their arguments.
-use Rattle.std.specs.Prelude.{◌≡◌, codes, false, true, Some}
+use Rattle.std.specs.Prelude.{◌≡◌, ℕ, codes, false, true, Some}
 use Rattle.clap.specs.Lexer.{usize_max}
 use Rattle.clap.specs.Words.{App, Rule, Shape, Text, app_of, new_app, new_rule, rule_of, with_rule, with_subcommand}
 use Rattle.clap.specs.Simple.{on_top}
@@ -32,12 +32,20 @@ option name = record (new_rule name) { long = Some name; action = Some Set; valu
 abbrev pub repeated : Text → Rule
 repeated name = record (option name) { action = Some Append }
 
--- a command over files, of which each takes `--explain`, `--profile`, `--features` and `--unjudged`
-abbrev pub over_files : Text → App
-over_files name = with_rule (with_rule (with_rule (with_rule (new_app name) (flag (codes "explain"))) (option (codes "profile")))
-    (repeated (codes "features"))) (option (codes "unjudged"))
+-- one of a letter that may be given again, as `-p DIR`
+abbrev pub repeated_letter : Text → ℕ → Rule
+repeated_letter name letter = record (new_rule name) { short = Some letter; action = Some Append; value_names = 1 }
 
--- `compile [--explain] [--profile PROFILE] [--features MODULE:FEATURES].. [--unjudged CONDITIONS] MODULE..`
+-- `-p`
+abbrev pub letter_p : ℕ
+letter_p = 112
+
+-- a command over files, of which each takes `--explain`, `--profile`, `--features`, `--unjudged` and `-p`
+abbrev pub over_files : Text → App
+over_files name = with_rule (with_rule (with_rule (with_rule (with_rule (new_app name) (flag (codes "explain"))) (option (codes "profile")))
+    (repeated (codes "features"))) (option (codes "unjudged"))) (repeated_letter (codes "folders") letter_p)
+
+-- `compile [--explain] [--profile PROFILE] [--features MODULE:FEATURES].. [--unjudged CONDITIONS] [-p DIR].. MODULE..`
 abbrev pub compile_app : App
 compile_app = with_rule (over_files (codes "compile")) (wanted_all (codes "MODULE"))
 
@@ -59,10 +67,10 @@ abbrev pub edit_app : App
 edit_app = with_rule (with_rule (with_rule (with_rule (with_rule (over_document (codes "edit")) (flag (codes "dump")))
     (option (codes "output"))) (wanted (codes "DATA"))) (wanted (codes "SCRIPT"))) (wanted_all (codes "MODULE"))
 
--- `session ..` with these of a command over files, `[--strict] [--undo N] [--changes] DATA MODULE..`
+-- `session ..` with these of a command over files, `[--strict] [--config] [--undo N] [--changes] DATA MODULE..`
 abbrev pub session_app : App
-session_app = with_rule (with_rule (with_rule (with_rule (with_rule (over_files (codes "session")) (flag (codes "strict")))
-    (option (codes "undo"))) (flag (codes "changes"))) (wanted (codes "DATA"))) (wanted_all (codes "MODULE"))
+session_app = with_rule (with_rule (with_rule (with_rule (with_rule (with_rule (over_files (codes "session")) (flag (codes "strict")))
+    (flag (codes "config"))) (option (codes "undo"))) (flag (codes "changes"))) (wanted (codes "DATA"))) (wanted_all (codes "MODULE"))
 
 -- `explain [CODE..]`
 abbrev pub explain_app : App

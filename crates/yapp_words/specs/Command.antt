@@ -13,7 +13,7 @@ use Rattle.clap.specs.declared.error.kind.ErrorKind.{ErrorKind}
 use Rattle.clap.specs.declared.error.kind.ErrorKind.TheVariants.{ArgumentConflict, DisplayHelp, DisplayVersion, InvalidSubcommand, InvalidValue, OutOfMemory, ValueValidation}
 use Rattle.ylink_grammar.specs.LanguageView.{language_view}
 use Rattle.yapp_words.specs.Application.{yanglive}
-use Rattle.yapp_words.specs.Languages.{chooses_in_core, choosings_of, is_profile, language_of, passes_in_core, profile_of, unfit_choosing, unfit_unjudged, unjudged_word}
+use Rattle.yapp_profile.specs.Languages.{chooses_in_core, choosings_of, is_profile, language_of, passes_in_core, profile_of, unfit_choosing, unfit_unjudged, unjudged_word}
 use Rattle.yapp_words.specs.declared.command.Options.{Options}
 use Rattle.yapp_words.specs.declared.command.Request.{Request}
 use Rattle.yapp_words.specs.declared.command.Request.TheVariants as requests
@@ -50,6 +50,10 @@ value_of name rows = unwrap_or (first_of name rows) []
 
 abbrev pub modules_of : List Row → List Text
 modules_of rows = unwrap_or (all_of (codes "MODULE") rows) []
+
+-- the folders where modules are looked for
+abbrev pub folders_of : List Row → List Text
+folders_of rows = unwrap_or (all_of (codes "folders") rows) []
 
 abbrev pub is_given : Text → List Row → Bool
 is_given name rows = bytes_eq (value_of name rows) (codes "true")
@@ -224,6 +228,7 @@ opening_of rows = record {
   is_strict = is_given (codes "strict") rows;
   remembers = remembers_of rows;
   tells_changes = is_given (codes "changes") rows;
+  of_configuration = is_given (codes "config") rows;
   document = value_of (codes "DATA") rows;
   modules = modules_of rows;
 }
@@ -256,6 +261,13 @@ explained_by (Some command) = is_given (codes "explain") command.1
 abbrev pub asks_reasons : List Text → Bool
 asks_reasons words = explained_by (subcommand_of yanglive (meant words))
 
+abbrev pub folders_by : Option (Text × List Row) → List Text
+folders_by None = []
+folders_by (Some command) = folders_of command.1
+
+abbrev pub folders_in : List Text → List Text
+folders_in words = folders_by (subcommand_of yanglive (meant words))
+
 -- ---- the code's values as these
 
 abbrev pub options_view : Options → spec.Options
@@ -283,6 +295,7 @@ opening_view o = record {
   is_strict = o.is_strict;
   remembers = o.remembers;
   tells_changes = o.tells_changes;
+  of_configuration = o.of_configuration;
   document = o.document.now;
   modules = map (λ name. name.now) o.modules.items;
 }
@@ -321,6 +334,7 @@ abbrev pub Answers : Kinds → List Text → Result CommandLine NoRequest → Ty
 Answers kinds words (Ok line) = (kinds ≡ [])
     × (asked_view line.asked ≡ asked_by (subcommand_of yanglive words))
     × (line.with_reasons ≡ explained_by (subcommand_of yanglive words))
+    × (map (λ folder. folder.now) line.folders.items ≡ folders_by (subcommand_of yanglive words))
 Answers kinds words (Err answer) = Declines kinds answer
 
 -- words as they stand
@@ -336,7 +350,7 @@ IsRefusal none.Memory = Unit {0}
 -- of what clap takes, what is misused is refused
 abbrev pub TakesFit : Option (Text × List Row) → Result CommandLine NoRequest → Type 0
 TakesFit command (Ok line) = (misuse_fault command ≡ []) × (asked_view line.asked ≡ asked_by command)
-    × (line.with_reasons ≡ explained_by command)
+    × (line.with_reasons ≡ explained_by command) × (map (λ folder. folder.now) line.folders.items ≡ folders_by command)
 TakesFit command (Err (none.Help text)) = ⊥
 TakesFit command (Err (none.Refused text)) = misuse_fault command ≡ [] → ⊥
 TakesFit command (Err none.Memory) = Unit {0}

@@ -1,4 +1,3 @@
 pub mod Application
-pub mod Languages
 pub mod Command
 pub mod Running

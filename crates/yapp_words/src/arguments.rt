@@ -2,7 +2,7 @@
 
 ghost use Rattle.std.specs.Prelude.{◌≡◌, codes, IfOk};
 ghost use Rattle.clap.specs.Words.{app_of};
-ghost use Rattle.yapp_words.specs.Application.{IsArgument, IsCommand, any_number, compile_app, edit_app, explain_app, flag, option, over_document, over_files, repeated, session_app, tree_app, validate_app, wanted, wanted_all, yanglive};
+ghost use Rattle.yapp_words.specs.Application.{IsArgument, IsCommand, any_number, compile_app, edit_app, explain_app, flag, letter_p, option, over_document, over_files, repeated, repeated_letter, session_app, tree_app, validate_app, wanted, wanted_all, yanglive};
 
 use crate::help::{
     COMPILE_HELP, DOCUMENT_HELP, EDIT_HELP, EXPLAIN_HELP, SESSION_HELP, TREE_HELP, VALIDATE_HELP,
@@ -50,6 +50,19 @@ fn unjudged_argument<'a>(alloc: Global) -> Arg<'a>
         )
 }
 
+/// `-p DIR`
+fn folders_argument<'a>(alloc: Global) -> Arg<'a>
+    ensures { IsArgument (repeated_letter (codes "folders") letter_p) result }
+{
+    Arg::new(alloc, "folders")
+        .short('p')
+        .action(ArgAction::Append)
+        .value_name("DIR")
+        .help(
+            "A folder where modules are looked for that are imported and not named, as NAME.yang or, of a date, NAME@DATE.yang; may be given again",
+        )
+}
+
 /// `--explain`
 fn explain_argument<'a>(alloc: Global) -> Arg<'a>
     ensures { IsArgument (flag (codes "explain")) result }
@@ -75,7 +88,8 @@ fn command_over_files<'a>(
         .arg(explain_argument(alloc))?
         .arg(profile_argument(alloc))?
         .arg(features_argument(alloc))?
-        .arg(unjudged_argument(alloc))
+        .arg(unjudged_argument(alloc))?
+        .arg(folders_argument(alloc))
 }
 
 /// The modules, which are the last words of each command over files.
@@ -141,7 +155,7 @@ fn document_argument<'a>(alloc: Global, help: &'a str) -> Arg<'a>
     Arg::new(alloc, "DATA").help(help).required(true)
 }
 
-/// `compile [--explain] [--profile PROFILE] [--features MODULE:FEATURES].. MODULE..`
+/// `compile [--explain] [--profile PROFILE] [--features MODULE:FEATURES].. [--unjudged CONDITIONS] [-p DIR].. MODULE..`
 fn compile_command<'a>(alloc: Global) -> Result<Command<'a>, AllocError>
     ensures { IfOk result (IsCommand compile_app) }
 {
@@ -279,7 +293,7 @@ fn changes_argument<'a>(alloc: Global) -> Arg<'a>
         .help("Tells of each change which faults come and go")
 }
 
-/// `session ..` with these, `[--strict] [--undo N] [--changes] DATA MODULE..`
+/// `session ..` with these, `[--strict] [--config] [--undo N] [--changes] DATA MODULE..`
 fn session_command<'a>(alloc: Global) -> Result<Command<'a>, AllocError>
     ensures { IfOk result (IsCommand session_app) }
 {
@@ -290,6 +304,7 @@ fn session_command<'a>(alloc: Global) -> Result<Command<'a>, AllocError>
         SESSION_HELP,
     )?
     .arg(strict_argument(alloc))?
+    .arg(config_argument(alloc))?
     .arg(undo_argument(alloc))?
     .arg(changes_argument(alloc))?
     .arg(document_argument(alloc, "The file of the document, in JSON"))?

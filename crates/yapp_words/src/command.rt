@@ -6,29 +6,31 @@ ghost use Rattle.clap.specs.Words.{fault_of, first_of, found_of, kind_of, rows_o
 ghost use Rattle.yapp_words.specs.Application.{yanglive};
 ghost use Rattle.yapp_words.specs.Command as spec;
 ghost use Rattle.ylink_grammar.specs.LanguageView.{language_view};
-ghost use Rattle.yapp_words.specs.Command.{Declines, Explains, IsRefusal, Refuses, Takes, TakesFit, Understands, asks_help, asked_by, asked_of, asked_view, compilation_of, condition_fault, drawing_of, edition_of, explained_by, explanation_of, feature_fault, file_fault, format_of, language_fault, is_given, modules_of, opening_of, opening_view, options_of, options_view, remembers_of, reported_of, validation_of, value_of, view};
+ghost use Rattle.yapp_words.specs.Command.{Declines, Explains, IsRefusal, Refuses, Takes, TakesFit, Understands, asks_help, asked_by, asked_of, asked_view, compilation_of, condition_fault, drawing_of, edition_of, explained_by, explanation_of, feature_fault, file_fault, folders_by, folders_of, format_of, language_fault, is_given, modules_of, opening_of, opening_view, options_of, options_view, remembers_of, reported_of, validation_of, value_of, view};
 ghost use Rattle.yapp_words.specs.declared.command.NoRequest.TheVariants.{Memory};
 
 use crate::arguments::application;
-use crate::language::{
-    chooses_in_core, is_profile, language_in, passes_in_core, profile_in, unfit_choosing_in,
-    unfit_unjudged_in,
-};
 use clap::ArgMatches;
 use clap::error::ErrorKind;
 use std::alloc::{AllocError, Global};
 use thiserror::Error;
+use yapp_profile::{
+    chooses_in_core, is_profile, language_in, passes_in_core, profile_in, unfit_choosing_in,
+    unfit_unjudged_in,
+};
 use ylink_arguments::count;
 use ylink_grammar::Language;
 
 /// How many edits of a session can be taken back where it isn't said.
 const MOST_REMEMBERED: usize = 1000;
 
-/// What a command line asks for, and whether the reasons of what is told are wanted too.
+/// What a command line asks for, whether the reasons of what is told are wanted too, and the folders where modules are looked for
+/// that are imported and not named.
 #[derive(Debug, Drop)]
 pub struct CommandLine<'a> {
     pub asked: Asked<'a>,
     pub with_reasons: bool,
+    pub folders: Vec<&'a str>,
 }
 
 /// What a command asks for.
@@ -50,6 +52,8 @@ pub struct Opening<'a> {
     pub remembers: usize,
     /// Of each change it is told which faults come and go.
     pub tells_changes: bool,
+    /// The faults of its configuration alone are told.
+    pub of_configuration: bool,
     pub document: &'a str,
     pub modules: Vec<&'a str>,
 }
@@ -136,6 +140,14 @@ fn modules_in<'a>(alloc: Global, found: &ArgMatches<'a>) -> Result<Vec<&'a str>,
         ≡ modules_of (rows_of (found_of found.now))) }
 {
     Vec::from_slice(alloc, found.get_strs("MODULE").unwrap_or(&[]))
+}
+
+/// The folders that were given.
+fn folders_in<'a>(alloc: Global, found: &ArgMatches<'a>) -> Result<Vec<&'a str>, AllocError>
+    ensures { IfOk result (λ names. map (λ n. n.now) names.items
+        ≡ folders_of (rows_of (found_of found.now))) }
+{
+    Vec::from_slice(alloc, found.get_strs("folders").unwrap_or(&[]))
 }
 
 /// Whether the flag of a name was given.
@@ -287,6 +299,7 @@ fn opening_in<'a>(alloc: Global, found: &ArgMatches<'a>) -> Result<Opening<'a>, 
     let is_strict = has_flag(found, "strict");
     let remembers = remembered_in(found);
     let tells_changes = has_flag(found, "changes");
+    let of_configuration = has_flag(found, "config");
     let document = found.get_str("DATA").unwrap_or("");
     let language = language_in(alloc, found)?;
     let modules = modules_in(alloc, found)?;
@@ -295,6 +308,7 @@ fn opening_in<'a>(alloc: Global, found: &ArgMatches<'a>) -> Result<Opening<'a>, 
         is_strict,
         remembers,
         tells_changes,
+        of_configuration,
         document,
         modules,
     })
@@ -334,11 +348,14 @@ fn line_in<'a>(alloc: Global, matches: &ArgMatches<'a>) -> Result<CommandLine<'a
         ≡ asked_by (subcommand_rows_of matches.now)) }
     ensures reasons { IfOk result (λ l. l.with_reasons
         ≡ explained_by (subcommand_rows_of matches.now)) }
+    ensures folders { IfOk result (λ l. map (λ folder. folder.now) l.folders.items
+        ≡ folders_by (subcommand_rows_of matches.now)) }
 {
     match matches.subcommand() {
         Some((name, found)) => Ok(CommandLine {
             asked: asked_in(alloc, name, found)?,
             with_reasons: has_flag(found, "explain"),
+            folders: folders_in(alloc, found)?,
         }),
         None => Ok(CommandLine {
             asked: Asked::Report(Request::Compile {
@@ -346,6 +363,7 @@ fn line_in<'a>(alloc: Global, matches: &ArgMatches<'a>) -> Result<CommandLine<'a
                 modules: Vec::new(alloc),
             }),
             with_reasons: false,
+            folders: Vec::new(alloc),
         }),
     }
 }

@@ -86,6 +86,7 @@ A request is an edit, as `edit` has it, or one of these:
   back                   Ends them: they fall
 A refused request changes nothing; its answer begins with \"refused\".
 With --changes the answer to a change has the faults that come of it, as \"told\", and those that go, as \"gone\".
+With --config all faults that are told are those of the configuration of the document, as `validate --config` tells them.
 
 Exit status:
   0  At the end there is no fault, and no request was refused

@@ -4,6 +4,5 @@
 mod arguments;
 mod command;
 mod help;
-mod language;
 
 pub use command::{Asked, CommandLine, NoRequest, Opening, Options, Request, read_words};

@@ -16,6 +16,8 @@ pub record Opening : Type 0 where
   pub remembers : ℕ
   -- of each change it is told which faults come and go
   pub tells_changes : Bool
+  -- the faults of its configuration alone are told
+  pub of_configuration : Bool
   pub document : Text
   pub modules : List Text
 

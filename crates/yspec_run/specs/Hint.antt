@@ -13,6 +13,10 @@ use Rattle.yspec_wide.specs.Language.{Language, core, rfc, rfc_with}
 use Rattle.yspec_wide.specs.Compiling.{compiled_in}
 use Rattle.ysay_text.specs.Line.{shown, shown_line}
 use Rattle.ysay_text.specs.Sentence.{of_line}
+use Rattle.ysay_pattern.specs.Said as patterns
+use Rattle.ysay_names.specs.Keys as keys
+use Rattle.ysay_names.specs.Names as names
+use Rattle.ysay_names.specs.Prefixes as prefixes
 use Rattle.yspec.specs.edit.EditText.{Edit}
 use Rattle.ysay_edit.specs.Part.{said_of_edit}
 use Rattle.ysay_refusal.specs.Sentence.{said_of_refusal}
@@ -44,9 +48,16 @@ object_hint is_object = if is_object then codes "  this begins as JSON, not as a
 abbrev pub slip_hint : ℕ → List ℕ → Text
 slip_hint line bytes = line_hint line bytes ++ object_hint (begins_object bytes)
 
--- what is said of the statements of a line, of C1 alone
-abbrev pub statement_hint : ℕ → ℕ → Forest Statement → Text
-statement_hint code line top = if code == 1 then as_line (codes "  ") (of_line line top) else []
+-- what is said of the statements of a line of a module of a set, by the code that is told of it
+abbrev pub statement_said : ℕ → ℕ → Forest Statement → Forest Statement → Text
+statement_said code line modules top = if code == 1 then of_line line top
+    else (if code == 6 then prefixes.of_line line top
+    else (if code == 8 then names.of_line line modules top
+    else (if code == 12 then keys.of_line line top
+    else (if code == 20 then patterns.of_line line top else []))))
+
+abbrev pub statement_hint : ℕ → ℕ → Forest Statement → Forest Statement → Text
+statement_hint code line modules top = as_line (codes "  ") (statement_said code line modules top)
 
 -- the statement of a module, by its number, among those of several
 abbrev pub module_at : ℕ → Forest Statement → Forest Statement
@@ -57,7 +68,7 @@ module_at (suc number) (node s below after) = module_at number after
 -- of a rule that a module breaks, by the contents of the files and the statements of all
 abbrev pub break_hint : List (List ℕ) → Forest Statement → Break → Text
 break_hint contents modules b = line_hint b.line (unwrap_or (slice_get contents b.module_number) [])
-    ++ statement_hint b.code b.line (module_at b.module_number modules)
+    ++ statement_hint b.code b.line modules (module_at b.module_number modules)
 
 -- ---- what another language makes of modules
 

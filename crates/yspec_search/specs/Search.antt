@@ -1,7 +1,7 @@
 -- Modules that are imported and not named: in which files they are looked for, and what is found (RFC 7950, 5.1.1, 5.2 and 5.6.5).
 -- The code reads a file a question, so the definition goes by the answers, in order.
-use Rattle.std.specs.Prelude.{ℕ, zero, suc, ◌++◌, ◌==◌, ◌&&◌, ◌||◌, Bool, true, false, not, List, [], ◌∷◌, map, filter, find, codes, Option, Some, None, option_map, unwrap_or, Result, Ok, Err, is_err, if◌then◌else◌}
-use Rattle.std.specs.List.{before_first, flat_map, list_any, slice_split}
+use Rattle.std.specs.Prelude.{ℕ, zero, suc, ◌++◌, ◌==◌, ◌&&◌, ◌||◌, Bool, true, false, not, List, [], ◌∷◌, map, filter, find, position, take, codes, Option, Some, None, option_map, unwrap_or, Result, Ok, Err, is_err, if◌then◌else◌}
+use Rattle.std.specs.List.{flat_map, list_any, slice_split}
 use Rattle.std.specs.Option.{option_map_or}
 use Rattle.yspec.specs.Forest.{Forest, end, node, row}
 use Rattle.yspec.specs.text.Text.{Text, is_text, is_identifier, colon, slash}
@@ -23,6 +23,9 @@ argument_of s = unwrap_or s.argument []
 abbrev pub argument_below : Text → Forest Statement → Option Text
 argument_below word below = option_map argument_of (find (is_word word) (row below))
 
+abbrev pub has_word : Text → Forest Statement → Bool
+has_word word below = list_any (is_word word) (row below)
+
 -- ---- what a module imports
 
 -- what an import asks for: the module of a name, of a revision where it says one
@@ -40,7 +43,7 @@ abbrev pub is_colon : ℕ → Bool
 is_colon x = x == colon
 
 abbrev pub prefix_of_step : Text → List Text
-prefix_of_step step = if list_any is_colon step then before_first is_colon step ∷ [] else []
+prefix_of_step step = option_map_or (λ n. take n step ∷ []) (position is_colon step) []
 
 abbrev pub prefixes_of : List Text → List Text
 prefixes_of steps = flat_map prefix_of_step steps
@@ -63,22 +66,26 @@ abbrev pub is_date_or_none : Option Text → Bool
 is_date_or_none date = option_map_or is_date date true
 
 -- where these are no name and no date, the import is refused whatever is found
-abbrev pub asked_by : Text → Option Text → Bool → List Wanted
+abbrev pub asked_by : Text → Option Text → Bool → Option Wanted
 asked_by name date is_augmented =
-    if is_identifier name && is_date_or_none date then record { name = name; date = date; is_augmented = is_augmented } ∷ [] else []
+    if is_identifier name && is_date_or_none date then Some (record { name = name; date = date; is_augmented = is_augmented }) else None
 
 abbrev pub is_prefix_among : List Text → Option Text → Bool
-is_prefix_among prefixes prefix = option_map_or (λ p. list_any (is_text p) prefixes) prefix false
+is_prefix_among prefixes prefix = option_map_or (λ p. list_any (λ other. is_text other p) prefixes) prefix false
 
-abbrev pub wanted_by : List Text → Statement → Forest Statement → List Wanted
+abbrev pub wanted_by : List Text → Statement → Forest Statement → Option Wanted
 wanted_by prefixes s below = if is_word (codes "import") s
     then asked_by (argument_of s) (argument_below (codes "revision-date") below) (is_prefix_among prefixes (argument_below (codes "prefix") below))
-    else []
+    else None
+
+abbrev pub listed : {A : Type 0} → Option A → List A
+listed None = []
+listed (Some x) = x ∷ []
 
 -- by the statements right below a `module`, of whose augments the targets name these prefixes
 abbrev pub wanted_in : List Text → Forest Statement → List Wanted
 wanted_in prefixes end = []
-wanted_in prefixes (node s below after) = wanted_by prefixes s below ++ wanted_in prefixes after
+wanted_in prefixes (node s below after) = listed (wanted_by prefixes s below) ++ wanted_in prefixes after
 
 -- ---- whether a file has what is wanted
 
@@ -92,15 +99,18 @@ defines_data s = list_any (is_text s.keyword) data_words
 
 -- an identity that is derived from another is a value where its module is implemented (RFC 7950, 9.10.2)
 abbrev pub derives : Statement → Forest Statement → Bool
-derives s below = is_word (codes "identity") s && list_any (is_word (codes "base")) (row below)
+derives s below = is_word (codes "identity") s && has_word (codes "base") below
 
 -- whether a module is the same to those that import it, be it implemented or not: it has definitions alone
 abbrev pub has_definitions_alone : Forest Statement → Bool
 has_definitions_alone end = true
 has_definitions_alone (node s below after) = not (defines_data s || derives s below) && has_definitions_alone after
 
+abbrev pub revisions_in : Forest Statement → List Text
+revisions_in below = map argument_of (filter (is_word (codes "revision")) (row below))
+
 abbrev pub newest_revision : Forest Statement → Option Text
-newest_revision below = newest_from None (map argument_of (filter (is_word (codes "revision")) (row below)))
+newest_revision below = newest_from None (revisions_in below)
 
 abbrev pub is_of : Option Text → Forest Statement → Bool
 is_of None below = true
@@ -203,12 +213,8 @@ pub record Search : Type 0 where
   pub found : List Found
   pub asked : List Text
 
-abbrev pub found_first : Option Found → List Found → List Found
-found_first None others = others
-found_first (Some f) others = f ∷ others
-
 abbrev pub behind : Sight → Search → Search
-behind s others = record { found = found_first s.found others.found; asked = s.asked ++ others.asked }
+behind s others = record { found = listed s.found ++ others.found; asked = s.asked ++ others.asked }
 
 -- what is wanted once a text was found; one that is refused ends the search
 abbrev pub unless_refused : Result (Forest Statement) Slip → List Wanted → List Wanted

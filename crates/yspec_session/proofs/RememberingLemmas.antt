@@ -204,7 +204,7 @@ pub record TakenBack (schema : Schema) (k : Kept) (gs : List (List Edit)) (g : L
   pub remembered : s.remembered ≡ earlier ∷ others
   pub tree : earlier.tree ≡ behind_groups schema k.base gs
   pub turns : earlier.turns ≡ turns_back schema (behind_groups schema k.base gs) g
-  pub held : Remembers schema (record k { groups = gs; kept = k.kept - 1; later = until (length gs) k.later }) (undone schema s (earlier ∷ others)).1
+  pub held : Remembers schema (record k { groups = gs; kept = k.kept - 1; later = until (length gs) k.later }) (undone None schema s (earlier ∷ others)).1
 
 pub takes_back : (schema : Schema) (k : Kept) (gs : List (List Edit)) (g : List Edit) (s : Session) → Remembers schema k s
     → k.groups ≡ gs ++ g ∷ [] → (n : ℕ) → k.kept ≡ suc n → TakenBack schema k gs g s
@@ -388,7 +388,7 @@ falls_back schema k s b since r is there = ap turns_to (began_so schema k s b si
     ∙ sym (turns_as_one schema (behind_groups schema k.base (take since.groups k.groups)) (drop since.groups k.groups))
 
 pub falls : (schema : Schema) (k : Kept) (s : Session) (b : Begun) (since : Since) → Remembers schema k s → s.begun ≡ Some b → k.begun ≡ Some since
-    → Remembers schema (back_to since k) (fallen schema s (Some b)).1
+    → Remembers schema (back_to since k) (fallen None schema s (Some b)).1
 falls schema k s b since r is there = record {
   tree = back_tree schema k s b since r is there;
   earlier = ap (λ (b : Begun). b.remembered) (began_so schema k s b since r is there);

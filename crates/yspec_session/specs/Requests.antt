@@ -59,12 +59,12 @@ request_of t = if is_utf8 t then request_in t else None
 
 -- ---- a session's lines
 
-abbrev pub answer_and_rest : Schema → ℕ → (Session → List Answer) → Session → Option Request → List Answer
-answer_and_rest schema limit rest s None = not_understood ∷ rest s
-answer_and_rest schema limit rest s (Some r) = let a = answered schema limit s r in a.0 ∷ rest a.1
+abbrev pub answer_and_rest : Option Schema → Schema → ℕ → (Session → List Answer) → Session → Option Request → List Answer
+answer_and_rest configured schema limit rest s None = not_understood ∷ rest s
+answer_and_rest configured schema limit rest s (Some r) = let a = answered configured schema limit s r in a.0 ∷ rest a.1
 
 -- one answer to each line; with `end` nothing more is read
-abbrev pub replies : Schema → ℕ → Session → List Text → List Answer
-replies schema limit s [] = []
-replies schema limit s (t ∷ lines) = if is_text t (codes "end") then []
-    else answer_and_rest schema limit (λ s. replies schema limit s lines) s (request_of t)
+abbrev pub replies : Option Schema → Schema → ℕ → Session → List Text → List Answer
+replies configured schema limit s [] = []
+replies configured schema limit s (t ∷ lines) = if is_text t (codes "end") then []
+    else answer_and_rest configured schema limit (λ s. replies configured schema limit s lines) s (request_of t)

@@ -1,17 +1,31 @@
--- A session over a live document: what each request is answered, and what it leaves. A request that is refused leaves all as it was.
-use Rattle.std.specs.Prelude.{ℕ, zero, suc, ◌+◌, ◌==◌, ◌&&◌, ◌||◌, not, Bool, true, false, List, [], ◌∷◌, length, take, drop, filter, Option, Some, None, is_some, option_map, Result, Ok, Err, if◌then◌else◌}
+-- A session over a live document: what each request is answered, and what it leaves. A request that is refused leaves all as it was. The
+-- faults that are told are those of the whole document, or of its configuration alone.
+use Rattle.std.specs.Prelude.{ℕ, zero, suc, ◌+◌, ◌++◌, ◌==◌, ◌&&◌, ◌||◌, not, Bool, true, false, List, [], ◌∷◌, length, take, drop, filter, Option, Some, None, is_some, option_map, Result, Ok, Err, if◌then◌else◌}
 use Rattle.std.specs.Option.{option_map_or}
 use Rattle.std.specs.List.{flat_map}
 use Rattle.yspec.specs.text.Text.{Text}
 use Rattle.yspec.specs.Results.{◌>>=◌}
 use Rattle.yspec.specs.schema.Schema.{Schema}
+use Rattle.yspec.specs.schema.Configuration.{configuration_schema}
 use Rattle.yspec.specs.document.Document.{Tree, Step, step_to}
 use Rattle.yspec.specs.document.Fault.{Fault}
 use Rattle.yspec.specs.document.Faults.{faults_of}
+use Rattle.yspec.specs.document.StateData.{configuration_tree, state_faults}
 use Rattle.yspec.specs.edit.Edit.{instance_index}
 use Rattle.yspec.specs.edit.EditText.{Path, Edit, create, replace, remove, move_to}
 use Rattle.yspec.specs.edit.Editing.{EditRefusal, Target, BoundStep, Branch, applied, bound, instance_meant, row_at, target_of, target_to_move, last_meant, instance_branch, says_nothing, Decision, decisions}
 use Rattle.yspec_session.specs.Carrying.{Turn, Difference, closed_up, made_room, turned, difference, same_step}
+
+-- ---- which faults are told
+
+-- the schema of its configuration, where that alone is looked at
+abbrev pub configured_by : Bool → Schema → Option Schema
+configured_by of_configuration schema = if of_configuration then Some (configuration_schema schema) else None
+
+-- all of a document, or its state data and then what is wrong with its configuration
+abbrev pub told_of : Option Schema → Schema → Tree → List Fault
+told_of None schema tree = faults_of schema tree
+told_of (Some configured) schema tree = state_faults schema tree ++ faults_of configured (configuration_tree schema tree)
 
 -- ---- which positions an edit turns
 
@@ -163,9 +177,9 @@ value_told (Ok (Some b)) = stored b
 
 -- ---- what changes it
 
-abbrev pub change_told : Schema → List Turn → Tree → Tree → Answer
-change_told schema turns tree later = changed (length (faults_of schema tree)) (length (faults_of schema later))
-    (difference turns (faults_of schema tree) (faults_of schema later))
+abbrev pub change_told : Option Schema → Schema → List Turn → Tree → Tree → Answer
+change_told configured schema turns tree later = changed (length (told_of configured schema tree)) (length (told_of configured schema later))
+    (difference turns (told_of configured schema tree) (told_of configured schema later))
 
 abbrev pub with_turns : List Turn → Begun → Begun
 with_turns turns b = record b { turns = turns ∷ b.turns }
@@ -178,18 +192,18 @@ with_remembered limit turns later s = record {
   begun = option_map (with_turns turns) s.begun;
 }
 
-abbrev pub change_answered : Schema → ℕ → Session → Turns → Result Tree EditRefusal → Answer × Session
-change_answered schema limit s turns (Err e) = (refused (edit_refused e), s)
-change_answered schema limit s turns (Ok later) =
-    (change_told schema turns.there s.tree later, with_remembered limit turns.back later s)
+abbrev pub change_answered : Option Schema → Schema → ℕ → Session → Turns → Result Tree EditRefusal → Answer × Session
+change_answered configured schema limit s turns (Err e) = (refused (edit_refused e), s)
+change_answered configured schema limit s turns (Ok later) =
+    (change_told configured schema turns.there s.tree later, with_remembered limit turns.back later s)
 
 abbrev pub without_turns : Begun → Begun
 without_turns b = record b { turns = drop 1 b.turns }
 
-abbrev pub undone : Schema → Session → List Earlier → Answer × Session
-undone schema s [] = (refused nothing_remembered, s)
-undone schema s (e ∷ others) = (
-  change_told schema e.turns s.tree e.tree,
+abbrev pub undone : Option Schema → Schema → Session → List Earlier → Answer × Session
+undone configured schema s [] = (refused nothing_remembered, s)
+undone configured schema s (e ∷ others) = (
+  change_told configured schema e.turns s.tree e.tree,
   record { tree = e.tree; remembered = others; begun = option_map without_turns s.begun },
 )
 
@@ -212,37 +226,37 @@ committed limit s (Some b) = (
   },
 )
 
-abbrev pub fallen : Schema → Session → Option Begun → Answer × Session
-fallen schema s None = (refused not_begun, s)
-fallen schema s (Some b) = (
-  change_told schema (turns_to b) s.tree b.tree,
+abbrev pub fallen : Option Schema → Schema → Session → Option Begun → Answer × Session
+fallen configured schema s None = (refused not_begun, s)
+fallen configured schema s (Some b) = (
+  change_told configured schema (turns_to b) s.tree b.tree,
   record { tree = b.tree; remembered = b.remembered; begun = None },
 )
 
 -- ---- a request
 
 -- its answer, and the session behind it; so many edits can be taken back
-abbrev pub answered : Schema → ℕ → Session → Request → Answer × Session
-answered schema limit s (change e) = change_answered schema limit s (turns_of schema s.tree e) (applied schema s.tree e)
-answered schema limit s (faults behind count) = (page_told behind count (faults_of schema s.tree), s)
-answered schema limit s (below path) = (below_told (faults_of schema s.tree) (place_of schema s.tree path), s)
-answered schema limit s (value path) = (value_told (target_of schema s.tree false path >>= value_at schema), s)
-answered schema limit s undo = undone schema s s.remembered
-answered schema limit s document = (whole s.tree, s)
-answered schema limit s (save file) = (saved file s.tree, s)
-answered schema limit s begin = begun_with s s.begun
-answered schema limit s commit = committed limit s s.begun
-answered schema limit s back = fallen schema s s.begun
+abbrev pub answered : Option Schema → Schema → ℕ → Session → Request → Answer × Session
+answered configured schema limit s (change e) = change_answered configured schema limit s (turns_of schema s.tree e) (applied schema s.tree e)
+answered configured schema limit s (faults behind count) = (page_told behind count (told_of configured schema s.tree), s)
+answered configured schema limit s (below path) = (below_told (told_of configured schema s.tree) (place_of schema s.tree path), s)
+answered configured schema limit s (value path) = (value_told (target_of schema s.tree false path >>= value_at schema), s)
+answered configured schema limit s undo = undone configured schema s s.remembered
+answered configured schema limit s document = (whole s.tree, s)
+answered configured schema limit s (save file) = (saved file s.tree, s)
+answered configured schema limit s begin = begun_with s s.begun
+answered configured schema limit s commit = committed limit s s.begun
+answered configured schema limit s back = fallen configured schema s s.begun
 
 -- the session behind a list of requests
-abbrev pub behind_all : Schema → ℕ → Session → List Request → Session
-behind_all schema limit s [] = s
-behind_all schema limit s (r ∷ requests) = behind_all schema limit (answered schema limit s r).1 requests
+abbrev pub behind_all : Option Schema → Schema → ℕ → Session → List Request → Session
+behind_all configured schema limit s [] = s
+behind_all configured schema limit s (r ∷ requests) = behind_all configured schema limit (answered configured schema limit s r).1 requests
 
 -- the answers, one to each request
-abbrev pub answers : Schema → ℕ → Session → List Request → List Answer
-answers schema limit s [] = []
-answers schema limit s (r ∷ requests) = let a = answered schema limit s r in a.0 ∷ answers schema limit a.1 requests
+abbrev pub answers : Option Schema → Schema → ℕ → Session → List Request → List Answer
+answers configured schema limit s [] = []
+answers configured schema limit s (r ∷ requests) = let a = answered configured schema limit s r in a.0 ∷ answers configured schema limit a.1 requests
 
 -- taking back so many times
 abbrev pub undos : ℕ → List Request

@@ -3,7 +3,7 @@
 ghost use Rattle.std.specs.Prelude.{◌≡◌, [], ◌∷◌, codes, Some, None};
 ghost use Rattle.yspec_session.specs.Session.{listed, done, refused, nothing_remembered, has_begun, not_begun, not_understood};
 ghost use Rattle.yspec_session.specs.Carrying.{difference};
-ghost use Rattle.yspec_session.specs.Samples.{talk, lacks, becomes, code_refused, first_gone};
+ghost use Rattle.yspec_session.specs.Samples.{talk, talk_of_all, talk_of_configuration, lacks, lacks_id, lacks_up, has_up, becomes, code_refused, first_gone};
 
 /// What became wrong and right with an edit, at positions as they are behind it.
 pub fn edits()
@@ -68,4 +68,20 @@ pub fn questions()
         ≡ Some (code_refused 5 ∷ code_refused 7 ∷ code_refused 3 ∷ []) }
     ensures unknown_lines { talk (codes "" ∷ codes "faults 0" ∷ codes "undo it" ∷ codes "save" ∷ codes "value /p:l[1] 5" ∷ codes "end" ∷ codes "faults" ∷ [])
         ≡ Some (not_understood ∷ not_understood ∷ not_understood ∷ not_understood ∷ not_understood ∷ []) }
+{}
+
+/// Of the configuration alone no state is wanted, and what is stored of it is told first.
+pub fn configuration_alone()
+    ensures whole { talk_of_all (codes "faults" ∷ codes "create /s:host[2]/up true" ∷ [])
+        ≡ Some (listed (lacks_up 1 ∷ lacks_id 1 ∷ lacks_up 2 ∷ []) 3 ∷ becomes 3 2 [] (lacks_up 2 ∷ []) ∷ []) }
+    ensures unasked { talk_of_configuration (codes "faults" ∷ [])
+        ≡ Some (listed (lacks_id 1 ∷ []) 1 ∷ []) }
+    ensures state_first { talk_of_configuration (codes "create /s:host[2]/up true" ∷ codes "faults" ∷ codes "below /s:host[2]" ∷ [])
+        ≡ Some (becomes 1 2 (has_up 2 ∷ []) [] ∷ listed (has_up 2 ∷ lacks_id 1 ∷ []) 2 ∷ listed (has_up 2 ∷ []) 2 ∷ []) }
+    ensures gone { talk_of_configuration (codes "create /s:host[2]/up true" ∷ codes "remove /s:host[1]" ∷ codes "remove /s:host[1]/up" ∷ [])
+        ≡ Some (becomes 1 2 (has_up 2 ∷ []) [] ∷ becomes 2 1 [] (lacks_id 1 ∷ []) ∷ becomes 1 0 [] (has_up 1 ∷ []) ∷ []) }
+    ensures comes_back { talk_of_configuration (codes "create /s:host[2]/up true" ∷ codes "remove /s:host[1]" ∷ codes "undo" ∷ codes "undo" ∷ [])
+        ≡ Some (becomes 1 2 (has_up 2 ∷ []) [] ∷ becomes 2 1 [] (lacks_id 1 ∷ []) ∷ becomes 1 2 (lacks_id 1 ∷ []) [] ∷ becomes 2 1 [] (has_up 2 ∷ []) ∷ []) }
+    ensures fallen { talk_of_configuration (codes "begin" ∷ codes "create /s:host[1]/up true" ∷ codes "create /s:host[1]/id 2" ∷ codes "back" ∷ [])
+        ≡ Some (done ∷ becomes 1 2 (has_up 1 ∷ []) [] ∷ becomes 2 1 [] (lacks_id 1 ∷ []) ∷ becomes 1 1 (lacks_id 1 ∷ []) (has_up 1 ∷ []) ∷ []) }
 {}

@@ -4,14 +4,15 @@ use Rattle.yapp_words.specs.declared.command.NoRequest.TheVariants as none
 use Rattle.yapp_words.specs.Running.{End, memory_told, refused, shown}
 use Rattle.yapp_words.proofs.CommandLemmas.{asked_help, text_is}
 use Rattle.yapp.proofs.RunningLemmas.{four, on_errors, on_output}
-use Rattle.yapp.proofs.SessionLemmas.{does_same, does_without}
+use Rattle.yapp.proofs.SearchedLemmas.{does_in_same, does_in_same_without, never_stopped}
+use Rattle.yapp.proofs.SessionLemmas.{does_without}
 use Rattle.yapp.proofs.program.run.Goals as goal
 
 pub returns-in-Ok-clause-taken : goal.returns-in-Ok-clause-taken
-returns-in-Ok-clause-taken g c = λ taken. does_same _ _ _ _ _ _ _ _ _ _ _ _ _ c.in-Ok.ensures.1 c.in-Ok.ensures.2 c.do_asked.ensures.does
+returns-in-Ok-clause-taken g c = λ taken. does_in_same _ _ _ _ _ _ _ _ _ _ _ _ _ _ _ (ap (map (λ folder. folder.now)) c.deref.ensures.value ∙ c.in-Ok.ensures.3) c.in-Ok.ensures.1 c.in-Ok.ensures.2 c.do_line.ensures.does
 
 pub returns-in-Ok-clause-reasons : goal.returns-in-Ok-clause-reasons
-returns-in-Ok-clause-reasons g c = λ taken. inl (c.do_asked.ensures.reasons ∙ c.in-Ok.ensures.2)
+returns-in-Ok-clause-reasons g c = λ taken. inl (c.do_line.ensures.reasons ∙ c.in-Ok.ensures.2)
 
 pub returns-in-Err-Help : goal.returns-in-Err-Help
 returns-in-Err-Help g c =
@@ -50,7 +51,7 @@ pub returns-in-Err-Memory : goal.returns-in-Err-Memory
 returns-in-Err-Memory g c =
     let told = on_errors _ _ _ memory_told _ _ refl refl c.tell_memory.ensures c.with_status-in-Err-Memory.ensures.end in
     record {
-      taken = λ taken. does_without _ _ _ _ _ _ _ _ _ told;
+      taken = λ taken. does_in_same_without _ _ _ _ _ _ _ _ _ _ (does_without _ _ _ _ _ _ _ _ _ told) (never_stopped _, refl, told);
       words = λ not_taken. (memory_told, inl refl, told);
       reasons = λ taken. inr (ap (λ (e : End). e.status) c.with_status-in-Err-Memory.ensures.end ∙ four _ _ _ _ c.tell_memory.ensures);
       untouched = λ not_taken. refl;

@@ -1,5 +1,6 @@
-use Rattle.std.proofs.Common.{◌≡◌, ℕ, Bool}
+use Rattle.std.proofs.Common.{◌≡◌, ℕ, Bool, Option}
 use Rattle.std.specs.Prelude.{string_bytes}
+use Rattle.yspec.specs.schema.Schema.{Schema}
 use Rattle.yspec_session.specs.Session as spec
 use Rattle.yspec_session.specs.Remembering.{Kept}
 use Rattle.yinst_path.specs.EditView.{path_view}
@@ -13,5 +14,5 @@ pub returns : goal.returns
 returns c =
     let live = view c.args.live.now in
     let path = path_view c.args.path.now in
-    if_ok (λ text. string_bytes text ≡ value_text live path) (λ text. (tells_changes : Bool) (limit : ℕ) (k : Kept) → Replies tells_changes limit live k (spec.value path) (string_bytes text) live k)
-    (λ text said tells_changes limit k. value_replied tells_changes limit live k path (string_bytes text) said) c.node_value.result c.node_value.ensures
+    if_ok (λ text. string_bytes text ≡ value_text live path) (λ text. (tells_changes : Bool) (configured : Option Schema) (limit : ℕ) (k : Kept) → Replies tells_changes configured limit live k (spec.value path) (string_bytes text) live k)
+    (λ text said tells_changes configured limit k. value_replied tells_changes configured limit live k path (string_bytes text) said) c.node_value.result c.node_value.ensures

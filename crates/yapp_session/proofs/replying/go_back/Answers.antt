@@ -8,7 +8,7 @@ use Rattle.ylive.specs.View.{view}
 use Rattle.yapp_difference.specs.Turning.{turn_views}
 use Rattle.yapp_session.specs.View.{past_view}
 use Rattle.yapp_session.specs.Kept.{AreFit}
-use Rattle.yapp_session.specs.Answered.{IsPlaced}
+use Rattle.yapp_session.specs.Answered.{IsPlaced, configured_view}
 use Rattle.yapp_session.specs.Came.{Falls, earlier_view, seen_text}
 use Rattle.yapp_session.proofs.CameLemmas.{fell}
 use Rattle.yapp_session.proofs.RewindLemmas.{placed_again}
@@ -21,6 +21,7 @@ turns_behind-requires c = subst (λ s. AreFit s (past_view c.args.past.now)) (sy
 pub returns-clause-text : goal.returns-clause-text
 returns-clause-text c =
     let tells = c.args.tells_changes in
+    let looks = configured_view c.args.configured.now in
     let before = view c.args.live.now in
     let placed = view c.rewind.new.live in
     let after = view c.turns_behind.new.live in
@@ -28,16 +29,16 @@ returns-clause-text c =
     let n = c.args.groups in
     let o = option_map earlier_view c.in_ok-earlier.earlier in
     let turns = turn_views c.in_ok-turns.turns.items in
-    let m = c.count_of-before.result in
-    let l = c.count_of.result in
+    let m = c.in_ok-before.before in
+    let l = c.in_ok-after.after in
     if_ok (λ text. IfSome c.in_ok-earlier.earlier (λ e. IsSorted (tree_view e.tree))
-    → string_bytes text ≡ seen_text o (turn_views c.deref.result.now) after m l)
-    (λ text. Falls tells before k n (string_bytes text) after)
-    (λ text said. fell tells before placed after k n o turns m l (string_bytes text) c.in_ok-earlier.ensures.seen
+    → string_bytes text ≡ seen_text looks o (turn_views c.deref.result.now) after m l)
+    (λ text. Falls tells looks before k n (string_bytes text) after)
+    (λ text said. fell tells looks before placed after k n o turns m l (string_bytes text) c.in_ok-earlier.ensures.seen
     (λ wanted. c.in_ok-turns.ensures.turns wanted ∙ ap (λ s. turns_back s placed.tree (flat_map (λ g. g) (drop n k.groups))) c.rewind.ensures.schema)
     c.in_ok-rewind.ensures.ok (placed_again before placed after k n c.rewind.ensures.schema c.in_ok-rewind.ensures.ok c.in_ok-turns.ensures.live)
-    c.count_of-before.ensures c.count_of.ensures
-    (said c.in_ok-earlier.ensures.sorted ∙ ap (λ ts. seen_text o (turn_views ts) after m l) c.deref.ensures.value))
+    c.in_ok-before.ensures.counted c.in_ok-after.ensures.counted
+    (said c.in_ok-earlier.ensures.sorted ∙ ap (λ ts. seen_text looks o (turn_views ts) after m l) c.deref.ensures.value))
     c.seen_text.result c.seen_text.ensures
 
 pub returns-clause-live : goal.returns-clause-live

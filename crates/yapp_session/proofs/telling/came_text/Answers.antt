@@ -4,7 +4,6 @@ use Rattle.yspec.specs.schema.Schema.{Schema}
 use Rattle.yspec.specs.document.Document.{Tree}
 use Rattle.yspec.specs.document.Fault.{Fault}
 use Rattle.yspec.specs.document.Sorting.{IsSorted}
-use Rattle.yspec.specs.edit.Live.{faults_in}
 use Rattle.yspec.proofs.DocumentProofs.SortingLemmas.{in_order}
 use Rattle.yspec_session.specs.Carrying.{difference}
 use Rattle.yschema_model.specs.View as schema_view
@@ -13,12 +12,14 @@ use Rattle.ycheck.specs.View.{views}
 use Rattle.ysay_session.specs.AnswerText.{changes_text}
 use Rattle.ylive.specs.View.{view}
 use Rattle.yapp_difference.specs.Turning.{turn_views}
+use Rattle.yapp_session.specs.Answered.{configured_view, told_in}
 use Rattle.yapp_session.proofs.TextLemmas.{if_ok}
 use Rattle.yapp_session.proofs.telling.came_text.Goals as goal
 
 pub returns : goal.returns
 returns c =
     let live = view c.args.live.now in
+    let looks = configured_view c.args.configured.now in
     let m = c.args.before in
     let n = c.args.after in
     let old = tree_view c.args.earlier.tree in
@@ -28,11 +29,11 @@ returns c =
     let sorted : IsSorted tree = in_order live.schema tree c.in_ok-tree.ensures.fitting in
     if_ok (λ text. IsSorted old → IsSorted tree → string_bytes text ≡ changes_text (schema_view.view c.schema.result.now) old tree m n
     (record { told = views c.as_slice-told.result.now; gone = views c.as_slice-gone.result.now }))
-    (λ text. IsSorted old → string_bytes text ≡ changes_text live.schema old live.tree m n (difference turns fs (faults_in live)))
+    (λ text. IsSorted old → string_bytes text ≡ changes_text live.schema old live.tree m n (difference turns fs (told_in looks live)))
     (λ text said first. said first sorted
     ∙ (ap₂ (λ (gs hs : List Fault). changes_text (schema_view.view c.schema.result.now) old tree m n (record { told = gs; gone = hs }))
     (ap views c.as_slice-told.ensures.value) (ap views c.as_slice-gone.ensures.value)
     ∙ (ap₂ (λ (s : Schema) (t : Tree). changes_text s old t m n (record { told = views c.in_ok-came.came.told.items; gone = views c.in_ok-came.came.gone.items }))
     c.schema.ensures c.in_ok-tree.ensures.copy
-    ∙ ap (changes_text live.schema old live.tree m n) (c.in_ok-came.ensures ∙ ap (difference turns fs) c.in-Ok.ensures.1))))
+    ∙ ap (changes_text live.schema old live.tree m n) (c.in_ok-came.ensures ∙ ap (difference turns fs) c.in_ok-later.ensures))))
     c.changes_text.result c.changes_text.ensures

@@ -1,6 +1,6 @@
 use Rattle.std.proofs.Common.{codes}
 use Rattle.std.proofs.lemmas.Result.{IfOk-weaker}
-use Rattle.yapp_words.specs.Application.{flag, option, repeated}
+use Rattle.yapp_words.specs.Application.{flag, letter_p, option, repeated, repeated_letter}
 use Rattle.yapp_words.proofs.CommandLemmas.{told_command, with_argument}
 use Rattle.yapp_words.proofs.arguments.command_over_files.Goals as goal
 
@@ -10,4 +10,5 @@ returns c =
     let explain = with_argument _ (flag (codes "explain")) _ _ _ bare c.explain_argument.ensures c.in_ok-arg.ensures in
     let profile = with_argument _ (option (codes "profile")) _ _ _ explain c.profile_argument.ensures c.in_ok-arg-2.ensures in
     let features = with_argument _ (repeated (codes "features")) _ _ _ profile c.features_argument.ensures c.in_ok-arg-3.ensures in
-    IfOk-weaker c.arg-4.result _ _ (λ r added. with_argument _ (option (codes "unjudged")) _ r _ features c.unjudged_argument.ensures added) c.arg-4.ensures
+    let unjudged = with_argument _ (option (codes "unjudged")) _ _ _ features c.unjudged_argument.ensures c.in_ok-arg-4.ensures in
+    IfOk-weaker c.arg-5.result _ _ (λ r added. with_argument _ (repeated_letter (codes "folders") letter_p) _ r _ unjudged c.folders_argument.ensures added) c.arg-5.ensures

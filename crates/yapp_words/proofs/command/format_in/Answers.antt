@@ -1,6 +1,6 @@
 use Rattle.std.proofs.Common.{codes}
 use Rattle.clap.specs.Words.{found_of}
-use Rattle.yapp_words.proofs.CommandLemmas.{given_or}
+use Rattle.yapp_profile.proofs.GivenLemmas.{given_or}
 use Rattle.yapp_words.proofs.command.format_in.Goals as goal
 
 pub returns : goal.returns

@@ -3,7 +3,7 @@ use Rattle.std.specs.Prelude.{unwrap_or}
 use Rattle.std.proofs.lemmas.Result.{IfOk-weaker}
 use Rattle.clap.specs.Words.{found_of, Text}
 use Rattle.clap.proofs.WalkLemmas.{raw_values-rows}
-use Rattle.yapp_words.proofs.CommandLemmas.{names_or}
+use Rattle.yapp_profile.proofs.GivenLemmas.{names_or}
 use Rattle.yapp_words.proofs.command.modules_in.Goals as goal
 
 pub returns : goal.returns

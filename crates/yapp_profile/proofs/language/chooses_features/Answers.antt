@@ -1,0 +1,9 @@
+use Rattle.std.proofs.Common.{codes, ap, refl, ◌∙◌}
+use Rattle.clap.specs.Words.{found_of}
+use Rattle.yapp_profile.specs.Languages.{is_some_word}
+use Rattle.yapp_profile.proofs.GivenLemmas.{given_all}
+use Rattle.yapp_profile.proofs.language.chooses_features.Goals as goal
+
+pub returns : goal.returns
+returns c = c.has_words.ensures
+    ∙ ap is_some_word (given_all (found_of c.args.found.now) (codes "features") c.get_strs.result _ c.unwrap_or.result c.get_strs.ensures c.unwrap_or.ensures refl)

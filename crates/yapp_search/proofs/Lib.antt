@@ -1,0 +1,3 @@
+mod ReadingLemmas
+mod LookingLemmas
+mod SearchingLemmas

@@ -1,0 +1,5 @@
+pub mod Rows
+pub mod Prefixes
+pub mod Names
+pub mod KindView
+pub mod Keys

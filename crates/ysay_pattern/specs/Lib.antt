@@ -1,0 +1,4 @@
+pub mod Stop
+pub mod Said
+pub mod ReaderView
+pub mod Samples
