@@ -14,6 +14,8 @@ mod compiling;
 #[cfg(test)]
 mod documents;
 #[cfg(test)]
+mod extending;
+#[cfg(test)]
 mod features;
 #[cfg(test)]
 mod guards;

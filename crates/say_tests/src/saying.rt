@@ -1,10 +1,11 @@
 //! What is said of each refused document.
 
 use crate::modules::host_schema;
-use crate::rows::all_hold;
+use crate::rows::{all_hold, all_parts_hold};
 use std::alloc::Global;
 use yinst_tree::{DocFault, read};
 use ysay_refusal::said_of_refusal;
+use ysay_refusals::said_of_others;
 
 // `DOCUMENT => SENTENCE`, with no sentence where nothing is said.
 fn is_said(alloc: Global, row: &str) -> Option<bool> {
@@ -63,4 +64,86 @@ const ROWS: &str =
 #[test]
 fn refusals_explained(rt: HostRuntime) {
     all_hold(&rt, rt.alloc(), ROWS, is_said);
+}
+
+// What is said of all but the first refusal of a document.
+fn said_of_rest(alloc: Global, document: &str) -> Option<String> {
+    let schema = host_schema(alloc)?;
+    let bytes = document.as_bytes();
+    match read(alloc, &schema, bytes) {
+        Err(DocFault::Refused { code, place }) => {
+            said_of_others(alloc, &schema, bytes, code, &place).ok()
+        }
+        _ => None,
+    }
+}
+
+// The document, and behind its line what is said.
+fn are_said(alloc: Global, row: &str) -> Option<bool> {
+    let (document, lines) = row.split_once("\n")?;
+    let said = said_of_rest(alloc, document)?;
+    Some(said.as_str() == lines)
+}
+
+const OTHERS: &str = r#"{"net:host":7}
+==
+{"net:host":{"b":1,"a":1,"name":"x"}}
+  J3 /net:host: nothing called "b" may stand here.
+==
+{"net:hots":{},"net:host":{"name":{},"tag":"a"}}
+  J5 /net:host/tag: a text stands where an array is due.
+  J3 /: nothing called "net:hots" may stand here; near it: net:host.
+==
+{"net:host":{"port":[{"id":1.5},{"id":2,"label":"x"},false]}}
+  J4 /net:host/port[2]: here "label" is written added:label.
+  J5 /net:host/port[3]: false stands where an object is due.
+==
+{"net:host":{"name":1.5,"rate":2.5}}
+  J6 /net:host/rate
+==
+{"net:host":{"net:name":[],"name":[]}}
+  J4 /net:host: here "net:name" is written name.
+==
+{"net:host":{"tag":[{},["a"],{"a":1}]}}
+  J5 /net:host/tag[2]: an array stands where an item's value is due.
+  J5 /net:host/tag[3]: an object stands where an item's value is due.
+==
+{"net:link":{"x":{"y":1}}}
+==
+{
+==
+[]
+"#;
+
+#[test]
+fn other_refusals_explained(rt: HostRuntime) {
+    all_parts_hold(&rt, rt.alloc(), OTHERS, are_said);
+}
+
+// The document, and behind its line the end of what is said.
+fn end_so(alloc: Global, row: &str) -> Option<bool> {
+    let (document, lines) = row.split_once("\n")?;
+    let said = said_of_rest(alloc, document)?;
+    Some(said.as_str().ends_with(lines))
+}
+
+const ENDS: &str = r#"{"net:link":[7,7,7]}
+  J5 /net:link[2]: a number stands where an object is due.
+  J5 /net:link[3]: a number stands where an object is due.
+==
+{"net:link":[7,7,7,7,7,7,7,7,7,7,7,7,7,7,7,7,7,7,7,7,7,7,7,7,7,7,7,7,7,7,7,7,7,7,7,7,7,7,7,7,7,7,7,7,7,7,7,7,7,7,7,7,7,7,7,7,7,7,7,7,7,7,7,7,7,7,7,7,7,7,7,7,7,7,7,7,7,7,7,7,7,7,7,7,7,7,7,7,7,7,7,7,7,7,7,7,7,7,7,7,7]}
+/net:link[101]: a number stands where an object is due.
+==
+{"net:link":[7,7,7,7,7,7,7,7,7,7,7,7,7,7,7,7,7,7,7,7,7,7,7,7,7,7,7,7,7,7,7,7,7,7,7,7,7,7,7,7,7,7,7,7,7,7,7,7,7,7,7,7,7,7,7,7,7,7,7,7,7,7,7,7,7,7,7,7,7,7,7,7,7,7,7,7,7,7,7,7,7,7,7,7,7,7,7,7,7,7,7,7,7,7,7,7,7,7,7,7,7,7]}
+/net:link[101]: a number stands where an object is due.
+  and 1 more.
+==
+{"net:link":[7,7,7,7,7,7,7,7,7,7,7,7,7,7,7,7,7,7,7,7,7,7,7,7,7,7,7,7,7,7,7,7,7,7,7,7,7,7,7,7,7,7,7,7,7,7,7,7,7,7,7,7,7,7,7,7,7,7,7,7,7,7,7,7,7,7,7,7,7,7,7,7,7,7,7,7,7,7,7,7,7,7,7,7,7,7,7,7,7,7,7,7,7,7,7,7,7,7,7,7,7,7,7,7,7,7,7,7,7,7,7,7,7,7]}
+/net:link[101]: a number stands where an object is due.
+  and 13 more.
+"#;
+
+#[test]
+fn a_hundred_others_have_lines(rt: HostRuntime) {
+    all_parts_hold(&rt, rt.alloc(), ENDS, end_so);
 }

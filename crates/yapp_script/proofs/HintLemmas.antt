@@ -7,9 +7,13 @@ use Rattle.ytext.specs.View.{modules_view}
 use Rattle.ytext.specs.declared.statement.Module.{Module}
 use Rattle.ysay_text.specs.Sentence.{of_line}
 use Rattle.ysay_pattern.specs.Said as patterns
+use Rattle.ysay_forms.specs.Said as forms
 use Rattle.ysay_names.specs.Keys as keys
 use Rattle.ysay_names.specs.Names as names
 use Rattle.ysay_names.specs.Prefixes as prefixes
+use Rattle.ysay_types.specs.Defaults as defaults
+use Rattle.ysay_types.specs.Restrictions as restrictions
+use Rattle.ysay_targets.specs.Targets as targets
 use Rattle.yspec_run.specs.Hint.{module_at, statement_said}
 
 pub module_found : (ms : List Module) (n : ℕ) (m : Module) → slice_get ms n ≡ Some m → module_at n (modules_view ms) ≡ modules_view (m ∷ [])
@@ -23,16 +27,13 @@ none_found (x ∷ ms) zero e = absurd cc
 none_found (x ∷ ms) (suc n) e = none_found ms n e
 
 pub nothing_said : (code line : ℕ) (modules : Forest Statement) → statement_said code line modules end ≡ []
-unfolding of_line prefixes.of_line names.of_line keys.of_line patterns.of_line
-nothing_said code line modules = by (code == 1) (code == 6) (code == 8) (code == 12) (code == 20)
+unfolding of_line forms.of_line prefixes.of_line names.of_line keys.of_line patterns.of_line restrictions.of_line defaults.of_line targets.of_line
+nothing_said code line modules = next (code == 1) (next (code == 2) (next (code == 3) (next (code == 6) (next (code == 8) (next (code == 10) (next (code == 11) (next (code == 12)
+    (next (code == 14) (next (code == 20) refl)))))))))
   where
     none : List ℕ
     none = []
 
-    by : (b c d e f : Bool) → (if b then none else (if c then none else (if d then none else (if e then none else (if f then none else none))))) ≡ none
-    by true c d e f = refl
-    by false true d e f = refl
-    by false false true e f = refl
-    by false false false true f = refl
-    by false false false false true = refl
-    by false false false false false = refl
+    next : (b : Bool) {others : List ℕ} → others ≡ none → (if b then none else others) ≡ none
+    next true e = refl
+    next false e = e

@@ -18,11 +18,15 @@ use yinst::{Edit, EditCode};
 use yinst_tree::{DocCode, Step};
 use ylink_grammar::{BrokenRule, CompileCode};
 use ysay_edit::{said_of_edit, said_of_line};
+use ysay_forms::{count_sentence, form_sentence};
 use ysay_names::{key_sentence, name_sentence, prefix_sentence};
 use ysay_pattern::pattern_sentence;
 use ysay_refusal::said_of_refusal;
+use ysay_refusals::said_of_others;
 use ysay_repeated::said_of_repeated;
+use ysay_targets::target_sentence;
 use ysay_text::{line_sentence, shown, shown_line};
+use ysay_types::{default_sentence, restriction_sentence};
 use yschema_model::Schema;
 use ytext::Module;
 
@@ -89,9 +93,14 @@ fn said_of_statements(
 {
     match code.number() {
         1 => line_sentence(alloc, line, of),
+        2 => count_sentence(alloc, line, of),
+        3 => form_sentence(alloc, line, of),
         6 => prefix_sentence(alloc, line, of),
         8 => name_sentence(alloc, line, modules, of),
+        10 => restriction_sentence(alloc, line, modules, of),
+        11 => default_sentence(alloc, line, modules, of),
         12 => key_sentence(alloc, line, of),
+        14 => target_sentence(alloc, line, modules, of),
         20 => pattern_sentence(alloc, line, of),
         _ => Ok(String::new(alloc)),
     }
@@ -136,7 +145,7 @@ pub fn break_hint(
     Ok(hint)
 }
 
-/// What is said of a document that is refused at a place, by its bytes.
+/// What is said of a document that is refused at a place, by its bytes, and of all else in it for which it is.
 pub fn refusal_hint(
     alloc: Global,
     schema: &Schema,
@@ -149,7 +158,10 @@ pub fn refusal_hint(
         (record { code = document.code_number code; place = place_view place.now })) }
 {
     let said = said_of_refusal(alloc, schema, bytes, code, place)?;
-    as_line(alloc, "  ", said.as_str())
+    let mut hint = as_line(alloc, "  ", said.as_str())?;
+    let others = said_of_others(alloc, schema, bytes, code, place)?;
+    hint.push_str(others.as_str())?;
+    Ok(hint)
 }
 
 /// What is said of a document that gives a member twice, by the place of its node.

@@ -19,16 +19,18 @@ use std::alloc::{AllocError, Global};
 use yschema_model::{Child, Children, Schema, SchemaId, SchemaNode};
 
 /// What the name of a member means.
-#[derive(Clone, Copy)]
-pub(crate) enum Named {
+#[derive(Clone, Copy, Debug)]
+pub enum Named {
+    /// The child that it is.
     Child(SchemaId),
     /// A child has that name in the form that isn't due.
     OtherForm,
+    /// No child has it.
     Unknown,
 }
 
 /// What a name means below a node, or at the top: the module's name stands in front where it isn't the parent's.
-pub(crate) fn meaning_of(
+pub fn meaning_of(
     alloc: Global,
     schema: &Schema,
     parent: Option<SchemaId>,

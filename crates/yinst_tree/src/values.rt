@@ -18,7 +18,7 @@ use yschema_model::JsonForm;
 use ytype::Raw;
 
 /// Why a leaf may not hold a value, where it may not: J6 for a number that is no whole one of 64 bits, else J5.
-pub(crate) fn refusal_in(form: JsonForm, value: &Value) -> Option<DocCode>
+pub fn refusal_in(form: JsonForm, value: &Value) -> Option<DocCode>
     ensures { option_map code_number result ≡ refusal_by (form_view form) (view value.now) }
 {
     match form {

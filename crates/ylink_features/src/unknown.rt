@@ -1,4 +1,5 @@
-//! Prefixes in conditions that their modules don't declare (RFC 7950, 6.4 and 7.20.2).
+//! Prefixes in conditions, and in the paths of augments below a `uses`, that their modules don't declare (RFC 7950, 6.4, 7.17 and
+//! 7.20.2).
 
 ghost use Rattle.std.specs.Prelude.{◌≡◌, ℕ, IfOk};
 ghost use Rattle.std.specs.List.{list_any};
@@ -13,15 +14,16 @@ ghost use Rattle.ylink_grammar.specs.LanguageView.{language_view};
 ghost use Rattle.ylink_grammar.specs.LinkView.{view};
 ghost use Rattle.ylink_grammar.specs.SourceView.{source_view};
 ghost use Rattle.ylink_names.specs.PrefixView.{IsOf};
-ghost use Rattle.ylink_features.specs.ConditionView.{asks_unknown};
+ghost use Rattle.ylink_features.specs.ConditionView.{asks_unknown, leads_unknown};
 ghost use Rattle.ylink_features.specs.VersionView.{AreVersionsOf};
 
 use crate::condition::names_asked;
 use crate::versions::Versions;
 use std::alloc::{AllocError, Global};
-use ylink_arguments::Name;
+use ylink_arguments::{Name, relative_path};
 use ylink_grammar::{
-    BrokenRule, CompileCode, Language, Source, Sources, broken, is_condition, least_when,
+    BrokenRule, CompileCode, Language, Source, Sources, broken, is_augment, is_condition,
+    least_when,
 };
 use ylink_names::Prefixes;
 
@@ -38,7 +40,27 @@ fn has_unknown(prefixes: &Prefixes<'_>, home: usize, names: &[Name<'_>]) -> bool
     false
 }
 
-/// Whether a statement is a condition that asks for a name whose prefix its module doesn't declare.
+/// Whether an augment below a `uses` leads to a name whose prefix its module doesn't declare.
+fn leads_unknown(
+    alloc: Global,
+    language: &Language,
+    prefixes: &Prefixes<'_>,
+    statement: &Source<'_>,
+) -> Result<bool, AllocError>
+    ensures { IfOk result (λ b. (modules : Forest sources.Source) (number : ℕ)
+        → IsOf prefixes.now modules
+        → b ≡ leads_unknown (language_view language.now) modules (source_view number statement.now)) }
+{
+    if !is_augment(language, statement) {
+        return Ok(false);
+    }
+    match relative_path(alloc, statement.argument())? {
+        Some(names) => Ok(has_unknown(prefixes, statement.home, &names)),
+        None => Ok(false),
+    }
+}
+
+/// Whether a condition asks for a name, or an augment below a `uses` leads to one, whose prefix its module doesn't declare.
 fn asks_unknown(
     alloc: Global,
     language: &Language,
@@ -52,15 +74,15 @@ fn asks_unknown(
         → b ≡ asks_unknown (language_view language.now) modules (source_view number statement.now)) }
 {
     if !is_condition(language, statement) {
-        return Ok(false);
+        return leads_unknown(alloc, language, prefixes, statement);
     }
     let home = statement.home;
     let names = names_asked(alloc, versions.version_of(home), statement)?;
     Ok(has_unknown(prefixes, home, &names))
 }
 
-/// The lesser of one so far and of the conditions that ask for names whose prefixes their modules don't declare, by module and
-/// line, given what prefixes stand for and the versions of the modules.
+/// The lesser of one so far and of the conditions and augments below a `uses` with names whose prefixes their modules don't
+/// declare, by module and line, given what prefixes stand for and the versions of the modules.
 pub fn broken_condition_prefix_rule(
     alloc: Global,
     language: &Language,

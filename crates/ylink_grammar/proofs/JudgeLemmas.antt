@@ -13,7 +13,7 @@ use Rattle.yspec.proofs.SchemaProofs.LeastLemmas.{least_of_both}
 use Rattle.yspec_wide.specs.Language.{Language, YangVersion}
 use Rattle.yspec_wide.specs.Words.{Word, known, same_word, word_named}
 use Rattle.yspec_wide.specs.Table.{Allowed, rule_in}
-use Rattle.yspec_wide.specs.StatementBreaks.{has_word, is_allowed, own_breaks, known_breaks, named_breaks, breaks_at, substatements_of, row_breaks_in, top_breaks, breaks_in_from, version_in}
+use Rattle.yspec_wide.specs.StatementBreaks.{has_word, is_allowed, form_at, own_breaks, known_breaks, named_breaks, breaks_at, substatements_of, row_breaks_in, top_breaks, breaks_in_from, version_in}
 use Rattle.ytext.specs.View.{view, row_view, modules_view}
 use Rattle.ytext.specs.declared.statement.Stmt.{Stmt}
 use Rattle.ytext.specs.declared.statement.Module.{Module}
@@ -41,7 +41,7 @@ module _ (l : Language) (v : YangVersion) (m : ℕ) where
   pub breaks_known : (allowed : List Allowed) (s : Statement) (below : Forest Statement) (w : Word) → is_prefixed s.keyword ≡ false
       → Some w ≡ allowed_word allowed (word_named l s.keyword) → same_word w (known extension_word) ≡ false
       → breaks_at l v m allowed s below (row_breaks_in l v m (substatements_of l v s.keyword) below)
-      ≡ own_breaks l v m w s below ++ row_breaks_in l v m (rule_in l v w).substatements below
+      ≡ own_breaks l v m (form_at l allowed w (rule_in l v w).form) w s below ++ row_breaks_in l v m (rule_in l v w).substatements below
   breaks_known allowed s below w e some other =
       let found = known_word allowed (word_named l s.keyword) w some in rw (e, found.0, found.1, other) refl
 
@@ -76,19 +76,19 @@ module _ (l : Language) (v : YangVersion) (m : ℕ) where
   -- first the statement's own, then those below it
   pub judged_known : (allowed : List Allowed) (s : Statement) (below row : Forest Statement) (w : Word) (rows : List Allowed) (so_far told result : Option Break)
       → is_prefixed s.keyword ≡ false → Some w ≡ allowed_word allowed (word_named l s.keyword) → same_word w (known extension_word) ≡ false
-      → told ≡ least_from so_far (own_breaks l v m w s below) → row ≡ below → rows ≡ (rule_in l v w).substatements
+      → told ≡ least_from so_far (own_breaks l v m (form_at l allowed w (rule_in l v w).form) w s below) → row ≡ below → rows ≡ (rule_in l v w).substatements
       → result ≡ least_from told (row_breaks_in l v m rows row)
       → result ≡ least_from so_far (breaks_at l v m allowed s below (row_breaks_in l v m (substatements_of l v s.keyword) below))
   judged_known allowed s below row w rows so_far told result plain some other alone same ruled under =
       under ∙ ap (λ rs. least_from told (row_breaks_in l v m rs row)) ruled ∙ ap (λ t. least_from t (row_breaks_in l v m (rule_in l v w).substatements row)) alone
-      ∙ ap (λ f. least_from (least_from so_far (own_breaks l v m w s below)) (row_breaks_in l v m (rule_in l v w).substatements f)) same
-      ∙ sym (least_of_both so_far (own_breaks l v m w s below) (row_breaks_in l v m (rule_in l v w).substatements below))
+      ∙ ap (λ f. least_from (least_from so_far (own_breaks l v m (form_at l allowed w (rule_in l v w).form) w s below)) (row_breaks_in l v m (rule_in l v w).substatements f)) same
+      ∙ sym (least_of_both so_far (own_breaks l v m (form_at l allowed w (rule_in l v w).form) w s below) (row_breaks_in l v m (rule_in l v w).substatements below))
       ∙ ap (least_from so_far) (sym (breaks_known allowed s below w plain some other))
 
   -- nothing below it
   pub judged_leaf : (allowed : List Allowed) (s : Statement) (below : Forest Statement) (ss : List Stmt) (w : Word) (so_far told : Option Break)
       → is_prefixed s.keyword ≡ false → Some w ≡ allowed_word allowed (word_named l s.keyword) → same_word w (known extension_word) ≡ false
-      → told ≡ least_from so_far (own_breaks l v m w s below) → row_view ss ≡ below → length ss ≡ 0
+      → told ≡ least_from so_far (own_breaks l v m (form_at l allowed w (rule_in l v w).form) w s below) → row_view ss ≡ below → length ss ≡ 0
       → told ≡ least_from so_far (breaks_at l v m allowed s below (row_breaks_in l v m (substatements_of l v s.keyword) below))
   unfolding row_breaks_in
   judged_leaf allowed s below [] w so_far told plain some other alone same none =
@@ -110,15 +110,15 @@ module _ (l : Language) (v : YangVersion) (m : ℕ) where
 
 -- a module of a set, and the others
 pub judged_top : (l : Language) (v : YangVersion) (m : ℕ) (s : Statement) (below row : Forest Statement) (rows : List Allowed) (so_far told result : Option Break)
-    → has_word l (known module_word) s ≡ true → v ≡ version_in l below → told ≡ least_from so_far (own_breaks l v m (known module_word) s below) → row ≡ below
+    → has_word l (known module_word) s ≡ true → v ≡ version_in l below → told ≡ least_from so_far (own_breaks l v m (rule_in l v (known module_word)).form (known module_word) s below) → row ≡ below
     → rows ≡ (rule_in l v (known module_word)).substatements
     → result ≡ least_from told (row_breaks_in l v m rows row)
     → result ≡ least_from so_far (top_breaks l m s below)
 judged_top l v m s below row rows so_far told result top read alone same ruled under =
     under ∙ ap (λ rs. least_from told (row_breaks_in l v m rs row)) ruled ∙ ap (λ t. least_from t (row_breaks_in l v m (rule_in l v (known module_word)).substatements row)) alone
-    ∙ ap (λ f. least_from (least_from so_far (own_breaks l v m (known module_word) s below)) (row_breaks_in l v m (rule_in l v (known module_word)).substatements f)) same
-    ∙ sym (least_of_both so_far (own_breaks l v m (known module_word) s below) (row_breaks_in l v m (rule_in l v (known module_word)).substatements below))
-    ∙ ap (λ u. least_from so_far (own_breaks l u m (known module_word) s below ++ row_breaks_in l u m (rule_in l u (known module_word)).substatements below)) read
+    ∙ ap (λ f. least_from (least_from so_far (own_breaks l v m (rule_in l v (known module_word)).form (known module_word) s below)) (row_breaks_in l v m (rule_in l v (known module_word)).substatements f)) same
+    ∙ sym (least_of_both so_far (own_breaks l v m (rule_in l v (known module_word)).form (known module_word) s below) (row_breaks_in l v m (rule_in l v (known module_word)).substatements below))
+    ∙ ap (λ u. least_from so_far (own_breaks l u m (rule_in l u (known module_word)).form (known module_word) s below ++ row_breaks_in l u m (rule_in l u (known module_word)).substatements below)) read
     ∙ rw top refl
 
 pub modules_view_at : (ms : List Module) (i : ℕ) (m : Module) → i < length ms → m ≡ get_or ms i m

@@ -1,4 +1,5 @@
 pub mod BreakLemmas
+pub mod CountedLemmas
 pub mod FormLemmas
 pub mod GrammarLemmas
 pub mod JudgeLemmas

@@ -199,13 +199,13 @@ one_repeats true true m n first second more first_is second_is = sym (lt-ltb 1 (
 one_repeats false true m n first second more first_is second_is = first_is ∙ ap (λ k. nat_lt 1 k) (omega (arith, more))
 one_repeats b false m n first second more first_is second_is = second_is ∙ ap (λ k. nat_lt 1 (cond b 1 0 + k)) (omega (arith, more))
 
-repeats_counted : (test : Statement → Bool) (b : Bool) (ss : List Statement) → repeats test b ss ≡ nat_lt 1 (cond b 1 0 + count_by test ss)
+pub repeats_counted : (test : Statement → Bool) (b : Bool) (ss : List Statement) → repeats test b ss ≡ nat_lt 1 (cond b 1 0 + count_by test ss)
 repeats_counted test true [] = refl
 repeats_counted test false [] = refl
 repeats_counted test b (s ∷ ss) =
     one_repeats b (test s) _ (count_by test ss) _ _ (sum_by-cons (λ x. cond (test x) 1 0) s ss) (repeats_counted test true ss) (repeats_counted test b ss)
 
-not_zero : (n : ℕ) → (suc n == 0) ≡ false
+pub not_zero : (n : ℕ) → (suc n == 0) ≡ false
 not_zero n = by (suc n == 0) refl
   where
     by : (b : Bool) → (suc n == 0) ≡ b → b ≡ false
@@ -216,7 +216,7 @@ not_missing : (n : ℕ) (x : Bool) → (nat_lt 1 n && not (x && n == 0)) ≡ nat
 not_missing zero x = refl
 not_missing (suc n) x = ap (λ b. nat_lt 1 (suc n) && not (x && b)) (not_zero n) ∙ (ap (λ b. nat_lt 1 (suc n) && not b) (and-false x) ∙ and-true (nat_lt 1 (suc n)))
 
-once_alike : (l : Language) (f : Forest Statement) (w : Word) → is_miscounted l f (once w) ≡ is_repeated l f w
+pub once_alike : (l : Language) (f : Forest Statement) (w : Word) → is_miscounted l f (once w) ≡ is_repeated l f w
 once_alike l f w =
     let n = occurrences l w f in
     let none_yet : 0 + n ≡ n = omega arith in

@@ -3,6 +3,7 @@ pub mod Counts
 pub mod FormView
 pub mod LanguageView
 pub mod LinkView
+pub mod Miscounted
 pub mod NamedType
 pub mod SourceView
 pub mod TableView

@@ -1,4 +1,4 @@
-//! The statements that a language has besides the core's (RFC 7950, 7.10, 7.11, 7.14 to 7.16, 7.20.1, 7.20.2, 7.21.5 and 9.4.5).
+//! The statements that a language has besides the core's (RFC 7950, 7.10, 7.11, 7.14 to 7.17, 7.20.1, 7.20.2, 7.21.5 and 9.4.5).
 
 ghost use Rattle.std.specs.Prelude.{◌≡◌, ℕ};
 ghost use Rattle.yspec_wide.specs.Sources as spec;
@@ -8,6 +8,7 @@ ghost use Rattle.ylink_grammar.specs.SourceView.{source_view};
 
 use crate::language::Language;
 use crate::source::Source;
+use ybase_words::Keyword;
 
 /// Whether a statement is a `feature` of a language (RFC 7950, 7.20.1).
 pub fn is_feature(language: &Language, statement: &Source<'_>) -> bool
@@ -139,5 +140,16 @@ pub fn is_pattern(language: &Language, statement: &Source<'_>) -> bool
     match language {
         Language::Core => false,
         Language::Rfc(_) => statement.statement.keyword() == "pattern",
+    }
+}
+
+/// Whether a statement is an `augment` in a language that has it below a `uses` too (RFC 7950, 7.17).
+pub fn is_augment(language: &Language, statement: &Source<'_>) -> bool
+    ensures { (number : ℕ) → result
+        ≡ spec.is_augment_in (language_view language.now) (source_view number statement.now) }
+{
+    match language {
+        Language::Core => false,
+        Language::Rfc(_) => Keyword::Augment.is(statement.keyword),
     }
 }

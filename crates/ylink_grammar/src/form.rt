@@ -17,7 +17,7 @@ use ytext::{is_identifier, is_name};
 
 /// The form of an argument.
 #[derive(Clone, Copy)]
-pub(crate) enum Form {
+pub enum Form {
     Identifier,
     Name,
     Date,
@@ -37,9 +37,9 @@ pub(crate) enum Form {
     Any,
 }
 
-/// The form of an argument in a language.
+/// The form of an argument in a language; that of a core's statement is as before.
 #[derive(Clone, Copy)]
-pub(crate) enum WideForm {
+pub enum WideForm {
     AsBefore(Form),
     Prefix,
     IfFeature,

@@ -16,12 +16,12 @@ ghost use Rattle.ylink_conditions.specs.View.{version_view};
 ghost use Rattle.ylink_grammar.specs.FormView.{wide_form_view};
 ghost use Rattle.ylink_grammar.specs.LanguageView.{language_view};
 ghost use Rattle.ylink_grammar.specs.WordView.{word_view};
-ghost use Rattle.ylink_grammar.specs.TableView.{ahead_view, allowed_view, allowed_views, rows_view};
+ghost use Rattle.ylink_grammar.specs.TableView.{ahead_view, allowed_view, allowed_views, rows_view, wide_rule_view};
 ghost use Rattle.ylink_grammar.specs.Counts.{AreOf, allowed_word, are_apart, count_at, has_word, is_miscounted_by, is_repeated, is_type_outside, is_wrongly_versioned, lacks, needs, needs_of_word};
 ghost use Rattle.ylink_grammar.specs.BreakView.{break_view, seen};
 
 use crate::fault::{BrokenRule, CompileCode, least, least_when};
-use crate::form::{WideForm, fits_in, takes_none};
+use crate::form::{Form, WideForm, fits_in, takes_none};
 use crate::language::Language;
 use crate::rules::{WideRule, needs_in, rule_in};
 use crate::table::{Allowed, Count};
@@ -70,7 +70,7 @@ fn has_keyword(statement: &Stmt, keyword: Keyword) -> bool
 }
 
 /// Whether a statement has a keyword of a language.
-fn has_keyword_in(language: &Language, statement: &Stmt, word: Word) -> bool
+pub(crate) fn has_keyword_in(language: &Language, statement: &Stmt, word: Word) -> bool
     ensures { result
         ≡ spec.has_word (language_view language.now) (word_view word) (view statement.now).0 }
 {
@@ -177,7 +177,7 @@ fn lacks_any(keywords: &[Keyword], statements: &[Stmt]) -> bool
 }
 
 /// Whether two of some statements have a keyword of a language.
-fn is_repeated(language: &Language, word: Word, statements: &[Stmt]) -> bool
+pub(crate) fn is_repeated(language: &Language, word: Word, statements: &[Stmt]) -> bool
     ensures { result
         ≡ is_repeated (language_view language.now) (row_view statements.now) (word_view word) }
 {
@@ -330,7 +330,8 @@ fn is_type_outside(language: &Language, word: Word, statement: &Stmt) -> bool
     }
 }
 
-fn has_fitting_argument(
+/// Whether the argument of a statement is of a form, or none stands there where none is due.
+pub fn has_fitting_argument(
     alloc: Global,
     version: YangVersion,
     form: WideForm,
@@ -368,7 +369,7 @@ fn version_stated(stated: Option<&str>) -> YangVersion
 }
 
 /// The version of a module, by what stands below its statement.
-pub(crate) fn version_below(statements: &[Stmt]) -> YangVersion
+pub fn version_below(statements: &[Stmt]) -> YangVersion
     ensures { version_view result ≡ languages.version_below (row_view statements.now) }
 {
     for statement in statements {
@@ -396,23 +397,58 @@ fn tell(told: &mut Option<BrokenRule>, found: BrokenRule)
     *told = least(*told, found);
 }
 
-/// The rules that a statement breaks, apart from those that its substatements break.
+/// The form of an argument in a row, given that of its keyword: below a `uses`, where a `refine` may stand too, the path of an
+/// `augment` is relative (RFC 7950, 7.17).
+fn form_at(language: &Language, rule: &WideRule, word: Word, form: WideForm) -> WideForm
+    ensures { wide_form_view result ≡ spec.form_at (language_view language.now) (rows_view rule.now)
+        (word_view word) (wide_form_view form) }
+{
+    match language {
+        Language::Core => form,
+        Language::Rfc(_) => {
+            if word.is(Word::Known(Keyword::Augment))
+                && is_allowed(Word::Known(Keyword::Refine), rule)
+            {
+                WideForm::AsBefore(Form::RelativePath)
+            } else {
+                form
+            }
+        }
+    }
+}
+
+/// The form of the argument of a keyword below another one, by language and version.
+pub fn form_below(language: &Language, version: YangVersion, above: Word, word: Word) -> WideForm
+    ensures { let language = language_view language.now in let version = version_view version in
+        wide_form_view result ≡ spec.form_at language (table.rule_in language version (word_view above)).substatements
+        (word_view word) (table.rule_in language version (word_view word)).form }
+{
+    let rule = rule_in(language, version, above);
+    let form = rule_in(language, version, word).form;
+    form_at(language, &rule, word, form)
+}
+
+/// The rules that a statement breaks, apart from those that its substatements break, given the form of its argument where it stands.
 fn judge_alone(
     alloc: Global,
     reading: Reading<'_>,
+    rule: &WideRule,
+    form: WideForm,
     word: Word,
     statement: &Stmt,
     told: &mut Option<BrokenRule>,
 ) -> Result<(), AllocError>
+    requires rule { wide_rule_view rule.now
+        ≡ table.rule_in (language_view reading.language.now) (version_view reading.version) (word_view word) }
+    requires needs { needs (allowed_views rule.now.substatements.now) ≡ needs_of_word (word_view word) }
     ensures { IfOk result (λ _. seen told.new ≡ least_from (seen told.old)
         (spec.own_breaks (language_view reading.entry.language.now) (version_view reading.entry.version)
-        reading.entry.«module» (word_view word) (view statement.now).0 (view statement.now).1)) }
+        reading.entry.«module» (wide_form_view form) (word_view word) (view statement.now).0 (view statement.now).1)) }
 {
-    let rule = rule_in(reading.language, reading.version, word);
-    let unfitting = !has_fitting_argument(alloc, reading.version, rule.form, statement)?;
+    let unfitting = !has_fitting_argument(alloc, reading.version, form, statement)?;
     let outside = is_type_outside(reading.language, word, statement);
     let misversioned = is_wrongly_versioned(reading.language, word, statement);
-    let miscounted = is_miscounted(reading.language, &rule, word, statement);
+    let miscounted = is_miscounted(reading.language, rule, word, statement);
     let module = reading.module;
     if !(unfitting || outside || misversioned || miscounted) {
         return Ok(());
@@ -472,13 +508,14 @@ fn judge(
             if word.is(Word::Known(Keyword::Extension)) {
                 return Ok(());
             }
-            judge_alone(alloc, reading, word, statement, told)?;
+            let own = rule_in(reading.language, reading.version, word);
+            let form = form_at(reading.language, rule, word, own.form);
+            judge_alone(alloc, reading, &own, form, word, statement, told)?;
             let below = statement.substatements();
             if below.is_empty() {
                 return Ok(());
             }
-            let rule_below = rule_in(reading.language, reading.version, word);
-            judge_row(alloc, reading, &rule_below, below, told)
+            judge_row(alloc, reading, &own, below, told)
         }
     }
 }
@@ -523,14 +560,9 @@ fn judge_top(
         version: version_in(language, statement),
         module,
     };
-    judge_alone(
-        alloc,
-        reading,
-        Word::Known(Keyword::Module),
-        statement,
-        told,
-    )?;
-    let rule = rule_in(language, reading.version, Word::Known(Keyword::Module));
+    let word = Word::Known(Keyword::Module);
+    let rule = rule_in(language, reading.version, word);
+    judge_alone(alloc, reading, &rule, rule.form, word, statement, told)?;
     judge_row(alloc, reading, &rule, statement.substatements(), told)
 }
 

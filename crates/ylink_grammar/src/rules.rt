@@ -78,6 +78,8 @@ const BEHIND_MODULE_OF_YANG_1: &[Word] = &[
 
 const CONDITIONS: &[Word] = &[Word::IfFeature];
 
+const BEHIND_USES: &[Word] = &[Word::IfFeature, Word::Known(Keyword::Augment)];
+
 const CONSTRAINTS: &[Word] = &[Word::IfFeature, Word::Must];
 
 const MUSTS: &[Word] = &[Word::Must];
@@ -281,7 +283,7 @@ fn row_of_yang_1_1(keyword: Keyword) -> Option<WideRule>
         Keyword::List => (AsBefore(Form::Identifier), WHENS, IN_LIST, BEHIND_CONTAINER),
         Keyword::Choice => (AsBefore(Form::Identifier), WHENS, IN_CHOICE, BEHIND_CASE),
         Keyword::Case => (AsBefore(Form::Identifier), WHENS, IN_CASE, BEHIND_CASE),
-        Keyword::Uses => (AsBefore(Form::Name), WHENS, IN_USES, CONDITIONS),
+        Keyword::Uses => (AsBefore(Form::Name), WHENS, IN_USES, BEHIND_USES),
         Keyword::Refine => (AsBefore(Form::RelativePath), &[], IN_REFINE, CONSTRAINTS),
         Keyword::Augment => (
             AsBefore(Form::AbsolutePath),

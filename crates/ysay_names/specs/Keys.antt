@@ -1,14 +1,14 @@
 -- What is said of the list of a line, the key or a unique of which names nothing (C12; RFC 7950, 7.8.2 and 7.8.3).
-use Rattle.std.specs.Prelude.{ℕ, ◌==◌, ◌++◌, ◌&&◌, ◌||◌, Bool, false, List, [], ◌∷◌, codes, map, Option, Some, None, option_and_then, unwrap_or, if◌then◌else◌}
-use Rattle.std.specs.List.{flat_map, list_any}
+use Rattle.std.specs.Prelude.{ℕ, ◌==◌, ◌++◌, ◌&&◌, ◌||◌, Bool, List, [], ◌∷◌, codes, map, Option, Some, None, option_and_then, unwrap_or, if◌then◌else◌}
+use Rattle.std.specs.List.{flat_map}
 use Rattle.std.specs.Option.{option_map_or}
 use Rattle.yspec.specs.Forest.{Forest, end, node, row, first_of}
-use Rattle.yspec.specs.text.Text.{Text, is_text}
+use Rattle.yspec.specs.text.Text.{Text}
 use Rattle.yspec.specs.text.Statement.{Statement}
 use Rattle.yspec.specs.linking.Arguments.{Name, unique_of}
 use Rattle.ysay_text.specs.Line.{shown}
 use Rattle.ysay_text.specs.Near.{nearest}
-use Rattle.ysay_names.specs.Rows.{argument_of, is_word}
+use Rattle.ysay_names.specs.Rows.{argument_of, has_word, is_named, is_word}
 use Rattle.ysay_names.specs.Prefixes.{is_among}
 
 -- ---- where paths lead, by what stands in the text
@@ -27,7 +27,7 @@ abbrev pub children : Forest Statement → List Text
 children below = flat_map child_at (row below)
 
 abbrev pub is_child : Text → Statement → Bool
-is_child name s = defines_node s && option_map_or (λ t. is_text t name) s.argument false
+is_child name s = defines_node s && is_named name s
 
 -- what stands below the first node of a name
 abbrev pub below_child : Text → Forest Statement → Forest Statement
@@ -36,7 +36,7 @@ below_child name (node s below after) = if is_child name s then below else below
 
 -- what a `uses` brings isn't known
 abbrev pub has_uses : Forest Statement → Bool
-has_uses below = list_any (is_word (codes "uses")) (row below)
+has_uses below = has_word (codes "uses") below
 
 -- ---- what is said
 

@@ -1,12 +1,12 @@
 -- What is said of the statements of a line in which a type, a grouping or an identity isn't found (C8; RFC 7950, 5.5, 6.2.1 and 7.18.2).
-use Rattle.std.specs.Prelude.{ℕ, ◌+◌, ◌++◌, ◌&&◌, Bool, false, List, [], ◌∷◌, codes, position, take, drop, Option, Some, None, option_map, option_and_then, unwrap_or, if◌then◌else◌}
+use Rattle.std.specs.Prelude.{ℕ, ◌+◌, ◌++◌, ◌&&◌, Bool, List, [], ◌∷◌, codes, position, take, drop, Option, Some, None, option_map, option_and_then, unwrap_or, if◌then◌else◌}
 use Rattle.std.specs.Option.{option_map_or}
 use Rattle.yspec.specs.Forest.{Forest, end, node}
-use Rattle.yspec.specs.text.Text.{Text, is_text}
+use Rattle.yspec.specs.text.Text.{Text}
 use Rattle.yspec.specs.text.Statement.{Statement}
 use Rattle.ysay_text.specs.Line.{shown}
 use Rattle.ysay_text.specs.Near.{nearest}
-use Rattle.ysay_names.specs.Rows.{all_arguments_called, arguments_called, below_first, in_line, is_word}
+use Rattle.ysay_names.specs.Rows.{all_arguments_called, arguments_called, below_first, in_line, is_named, is_word}
 use Rattle.ysay_names.specs.Prefixes.{is_among, is_colon}
 
 -- what a statement refers to
@@ -56,13 +56,19 @@ abbrev pub imported_as : Text → Forest Statement → Option Text
 imported_as prefix end = None
 imported_as prefix (node s below after) = if imports_as prefix s below then s.argument else imported_as prefix after
 
-abbrev pub is_named : Text → Statement → Bool
-is_named name s = option_map_or (λ t. is_text t name) s.argument false
-
 -- what stands below the module of a name
 abbrev pub module_named : Text → Forest Statement → Forest Statement
 module_named name end = end
 module_named name (node s below after) = if is_named name s then below else module_named name after
+
+-- what stands below the module that a prefix means, or the module itself
+abbrev pub module_under : Forest Statement → Forest Statement → Text → Option (Forest Statement)
+module_under modules below prefix = if gives_prefix prefix below then Some below
+    else option_map (λ name. module_named name modules) (imported_as prefix below)
+
+abbrev pub module_meant : Forest Statement → Forest Statement → Option Text → Option (Forest Statement)
+module_meant modules below None = Some below
+module_meant modules below (Some prefix) = module_under modules below prefix
 
 -- those of an imported module, which stand right below it
 abbrev pub names_imported : Forest Statement → Kind → Option Text → List Text

@@ -9,7 +9,7 @@ ghost use Rattle.ysay_text.specs.Near as near;
 ghost use Rattle.ysay_names.specs.Keys as spec;
 
 use crate::prefixes::is_among;
-use crate::rows::{add_argument, is_word};
+use crate::rows::{add_argument, has_word, is_named, is_word};
 use std::alloc::{AllocError, Global};
 use ylink_arguments::{Name, unique_paths};
 use ysay_text::{nearest, shown};
@@ -33,7 +33,8 @@ fn node_words() -> &'static [&'static str]
     NODE_WORDS
 }
 
-fn defines_node(statement: &Stmt) -> bool
+/// Whether a statement defines a node.
+pub fn defines_node(statement: &Stmt) -> bool
     ensures { result ≡ spec.defines_node (label statement.now) }
 {
     is_among(node_words(), statement.keyword())
@@ -52,7 +53,7 @@ fn add_child<'a>(statement: &'a Stmt, names: &mut Vec<&'a str>) -> Result<(), Al
 }
 
 /// The names of the nodes that a row defines.
-fn children<'a>(alloc: Global, row: &'a [Stmt]) -> Result<Vec<&'a str>, AllocError>
+pub fn children<'a>(alloc: Global, row: &'a [Stmt]) -> Result<Vec<&'a str>, AllocError>
     ensures { IfOk result (λ names. map (λ t. t.now) names.items ≡ spec.children (row_view row.entry.now)) }
 {
     let mut names = Vec::new(alloc);
@@ -62,16 +63,11 @@ fn children<'a>(alloc: Global, row: &'a [Stmt]) -> Result<Vec<&'a str>, AllocErr
     Ok(names)
 }
 
-fn is_child(name: &str, statement: &Stmt) -> bool
+/// Whether it defines one of a name.
+pub fn is_child(name: &str, statement: &Stmt) -> bool
     ensures { result ≡ spec.is_child name.now (view statement.now).0 }
 {
-    if !defines_node(statement) {
-        return false;
-    }
-    match statement.argument() {
-        Some(argument) => argument == name,
-        None => false,
-    }
+    defines_node(statement) && is_named(name, statement)
 }
 
 /// What stands below the first node of a name.
@@ -84,17 +80,6 @@ fn below_child<'a>(name: &str, row: &'a [Stmt]) -> &'a [Stmt]
         }
     }
     &[]
-}
-
-fn has_uses(statements: &[Stmt]) -> bool
-    ensures { result ≡ spec.has_uses (row_view statements.now) }
-{
-    for statement in statements {
-        if is_word("uses", statement) {
-            return true;
-        }
-    }
-    false
 }
 
 fn absent(alloc: Global, word: &str, step: &str, near: Option<&str>) -> Result<String, AllocError>
@@ -137,7 +122,7 @@ fn of_path(
     let mut left = row;
     for place in 0..path.len() {
         let step = path[place].identifier;
-        if has_uses(left) {
+        if has_word("uses", left) {
             return Ok(None);
         }
         let names = children(alloc, left)?;

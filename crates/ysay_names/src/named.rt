@@ -9,7 +9,7 @@ ghost use Rattle.ysay_names.specs.Names as spec;
 ghost use Rattle.ysay_names.specs.Rows as rows;
 
 use crate::prefixes::is_among;
-use crate::rows::{add_all_called, add_in_line, add_row_called, is_word};
+use crate::rows::{add_all_called, add_in_line, add_row_called, is_named, is_word};
 use std::alloc::{AllocError, Global};
 use ysay_text::{nearest, shown};
 use ytext::{Module, Stmt, offset_of, parts_around};
@@ -47,11 +47,18 @@ const BUILT_IN_NAMES: &[&str] = &[
 
 const NO_NAMES: &[&str] = &[];
 
+/// The names of the built-in types.
+pub fn built_in_names() -> &'static [&'static str]
+    ensures { map (λ n. n.now) result.now ≡ spec.built_in_names }
+{
+    BUILT_IN_NAMES
+}
+
 fn built_in(kind: Kind) -> &'static [&'static str]
     ensures { map (λ n. n.now) result.now ≡ spec.built_in (kind_view kind) }
 {
     match kind {
-        Kind::Datatype => BUILT_IN_NAMES,
+        Kind::Datatype => built_in_names(),
         Kind::Grouping | Kind::Identity => NO_NAMES,
     }
 }
@@ -93,7 +100,7 @@ fn called(kind: Kind) -> &'static str
 }
 
 /// The arguments of the statements of a row that have a keyword.
-fn arguments_called<'a>(
+pub fn arguments_called<'a>(
     alloc: Global,
     word: &str,
     row: &'a [Stmt],
@@ -140,25 +147,50 @@ fn imported_as<'a>(
     Ok(None)
 }
 
-fn is_named(name: &str, module: &Module) -> bool
-    ensures { result ≡ spec.is_named name.now (label module.now.top) }
-{
-    match module.top.argument() {
-        Some(argument) => argument == name,
-        None => false,
-    }
-}
-
 /// What stands below the module of a name.
 fn module_named<'a>(name: &str, modules: &'a [Module]) -> &'a [Stmt]
     ensures { row_view result.now ≡ spec.module_named name.now (modules_view modules.entry.now) }
 {
     for module in modules {
-        if is_named(name, module) {
+        if is_named(name, &module.top) {
             return module.top.substatements();
         }
     }
     &[]
+}
+
+fn module_under<'a>(
+    alloc: Global,
+    modules: &'a [Module],
+    row: &'a [Stmt],
+    prefix: &str,
+) -> Result<Option<&'a [Stmt]>, AllocError>
+    ensures { IfOk result (λ found. option_map (λ r. row_view r.now) found
+        ≡ spec.module_under (modules_view modules.entry.now) (row_view row.entry.now) prefix.now) }
+{
+    if gives_prefix(alloc, prefix, row)? {
+        return Ok(Some(row));
+    }
+    match imported_as(alloc, prefix, row)? {
+        Some(name) => Ok(Some(module_named(name, modules))),
+        None => Ok(None),
+    }
+}
+
+/// What stands below the module that a prefix means; the module itself without one.
+pub fn module_meant<'a>(
+    alloc: Global,
+    modules: &'a [Module],
+    row: &'a [Stmt],
+    prefix: Option<&str>,
+) -> Result<Option<&'a [Stmt]>, AllocError>
+    ensures { IfOk result (λ found. option_map (λ r. row_view r.now) found ≡ spec.module_meant
+        (modules_view modules.entry.now) (row_view row.entry.now) (option_map (λ p. p.now) prefix.entry)) }
+{
+    match prefix {
+        Some(prefix) => module_under(alloc, modules, row, prefix),
+        None => Ok(Some(row)),
+    }
 }
 
 /// The definitions of a kind in a module that is imported, if one is.
@@ -232,7 +264,7 @@ fn names_for<'a>(
 }
 
 /// The prefix of a name, where it has one.
-fn prefix_given(name: &str) -> Option<&str>
+pub fn prefix_given(name: &str) -> Option<&str>
     ensures { option_map (λ p. p.now) result ≡ spec.prefix_given name.entry.now }
 {
     let colon = offset_of(name.as_bytes(), b':')?;
@@ -240,7 +272,7 @@ fn prefix_given(name: &str) -> Option<&str>
 }
 
 /// A name without its prefix.
-fn name_given(name: &str) -> &str
+pub fn name_given(name: &str) -> &str
     ensures { result.now ≡ spec.name_given name.entry.now }
 {
     match offset_of(name.as_bytes(), b':') {
@@ -249,7 +281,8 @@ fn name_given(name: &str) -> &str
     }
 }
 
-fn with_prefix(alloc: Global, prefix: Option<&str>, name: &str) -> Result<String, AllocError>
+/// A name behind its prefix, where it has one.
+pub fn with_prefix(alloc: Global, prefix: Option<&str>, name: &str) -> Result<String, AllocError>
     ensures { IfOk result (λ text. string_bytes text
         ≡ spec.with_prefix (option_map (λ p. p.now) prefix.entry) name.now) }
 {

@@ -50,7 +50,8 @@ fn prefixes_of<'a>(alloc: Global, row: &'a [Stmt]) -> Result<Vec<&'a str>, Alloc
     Ok(prefixes)
 }
 
-pub(crate) fn is_among(names: &[&str], text: &str) -> bool
+/// Whether a text is among others.
+pub fn is_among(names: &[&str], text: &str) -> bool
     ensures { result ≡ spec.is_among (map (λ n. n.now) names.now) text.now }
 {
     for name in names {

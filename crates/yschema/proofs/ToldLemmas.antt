@@ -13,13 +13,13 @@ use Rattle.yspec.specs.linking.Imports.{import_breaks}
 use Rattle.yspec.specs.linking.Scopes.{lost_breaks}
 use Rattle.yspec.specs.linking.Circles.{import_circles, definition_circles}
 use Rattle.yspec.specs.linking.DerivedTypes.{type_breaks}
-use Rattle.yspec.specs.linking.NodeCounts.{node_count}
 use Rattle.yspec.specs.linking.Planned.{Plan, at_top, planned}
 use Rattle.yspec.proofs.LinkingProofs.BreakLemmas.{none_second, none_told}
 use Rattle.yspec_wide.specs.Compiling.{linked_in, compiled_in, linking_phases_in, meanings_phase_in, names_phase_in, phases_in, phases_of_plan_in, place_phase_in, plan_in, schema_in, schema_of_plan_in, whole_plan}
 use Rattle.yspec_wide.specs.Features.{condition_breaks}
 use Rattle.yspec_wide.specs.Expansion.{augmented_in}
 use Rattle.yspec_wide.specs.Language.{Language, core}
+use Rattle.yspec_wide.specs.NodeCounts.{node_count_in}
 use Rattle.yspec_wide.specs.Standing.{standing}
 use Rattle.yspec_wide.proofs.CoreExpansionLemmas.{standing_alike}
 use Rattle.yspec_wide.specs.Sources.{sources_in}
@@ -127,13 +127,13 @@ module _ (language : Language) where
 
     -- too many nodes are told, and else what finds no target
     module _ (s : Forest Source) where
-      pub many_told : (b : Break) → Some b ≡ least_from None (limit_breaks (nat_lt node_limit (node_count s)) f) → Some b ≡ first_broken (expansion_part language f s)
-      many_told b e = told_here (limit_breaks (nat_lt node_limit (node_count s)) f) (first_broken (target_breaks language s ∷ [])) b e
+      pub many_told : (b : Break) → Some b ≡ least_from None (limit_breaks (nat_lt node_limit (node_count_in language s)) f) → Some b ≡ first_broken (expansion_part language f s)
+      many_told b e = told_here (limit_breaks (nat_lt node_limit (node_count_in language s)) f) (first_broken (target_breaks language s ∷ [])) b e
 
-      pub targets_told : (t : Option Break) → None ≡ least_from None (limit_breaks (nat_lt node_limit (node_count s)) f) → t ≡ least_from None (target_breaks language s)
+      pub targets_told : (t : Option Break) → None ≡ least_from None (limit_breaks (nat_lt node_limit (node_count_in language s)) f) → t ≡ least_from None (target_breaks language s)
           → t ≡ first_broken (expansion_part language f s)
       targets_told t few e = e ∙ (sym (told_last (target_breaks language s))
-          ∙ sym (told_later (limit_breaks (nat_lt node_limit (node_count s)) f) (first_broken (target_breaks language s ∷ [])) few))
+          ∙ sym (told_later (limit_breaks (nat_lt node_limit (node_count_in language s)) f) (first_broken (target_breaks language s ∷ [])) few))
 
     -- and then names and places
     pub names_told : (whole : Plan) (t : Option Break) → None ≡ first_broken (expansion_part language f whole.modules) → t ≡ least_from None (place_phase_in language whole)

@@ -6,13 +6,13 @@ use Rattle.yspec.specs.Forest.{Forest}
 use Rattle.yspec.specs.text.Statement.{Statement}
 use Rattle.yspec.specs.schema.Breaks.{Break, least_from, limit_breaks, node_limit}
 use Rattle.yspec.specs.linking.Source.{Source}
-use Rattle.yspec.specs.linking.NodeCounts.{node_count}
 use Rattle.yspec.specs.linking.Planned.{Plan, nodes_of}
 use Rattle.yspec_wide.specs.Compiling.{is_too_deep_in}
 use Rattle.yspec_wide.specs.Additions.{addition_breaks_in}
 use Rattle.yspec_wide.specs.Compiling.{node_breaks_in, place_phase_in}
 use Rattle.yspec_wide.specs.Expansion.{augment_breaks_in, unfit_breaks_in}
 use Rattle.yspec_wide.specs.Language.{Language}
+use Rattle.yspec_wide.specs.NodeCounts.{node_count_in}
 use Rattle.ylink_grammar.specs.BreakView.{break_view, seen}
 use Rattle.ylink_grammar.specs.declared.fault.BrokenRule.{BrokenRule}
 
@@ -23,7 +23,7 @@ target_breaks language sources = unfit_breaks_in language sources ++ augment_bre
 -- what is told before there are nodes, and of refines and augments
 abbrev pub expansion_part : Language → Forest Statement → Forest Source → List (List Break)
 expansion_part language modules sources =
-    limit_breaks (nat_lt node_limit (node_count sources)) modules ∷ target_breaks language sources ∷ []
+    limit_breaks (nat_lt node_limit (node_count_in language sources)) modules ∷ target_breaks language sources ∷ []
 
 -- and of the names of all nodes, and operations out of place
 abbrev pub plan_part : Language → Forest Statement → Plan → List (List Break)

@@ -10,13 +10,13 @@ ghost use Rattle.yspec.specs.schema.Breaks.{first_broken, least_from, level_limi
 ghost use Rattle.yspec.specs.linking.Augments.{augments_of};
 ghost use Rattle.yspec.specs.linking.Compiling as spec;
 ghost use Rattle.yspec.specs.linking.Compiling.{compiled};
-ghost use Rattle.yspec.specs.linking.NodeCounts.{node_count};
 ghost use Rattle.yspec.specs.linking.Planned as planned;
 ghost use Rattle.yspec.specs.linking.Planned.{nodes_of};
 ghost use Rattle.yspec_fit.specs.Fit.{IsFit};
 ghost use Rattle.yspec_wide.specs.Compiling.{compiled_in, is_too_deep_in, linked_in, linking_phases_in, plan_in, schema_of_plan_in, whole_plan};
 ghost use Rattle.yspec_wide.specs.Expansion.{augmented_in};
 ghost use Rattle.yspec_wide.specs.Language.{core};
+ghost use Rattle.yspec_wide.specs.NodeCounts.{node_count_in};
 ghost use Rattle.yspec_wide.specs.Sources as wide_words;
 ghost use Rattle.yspec_wide.specs.Sources.{sources_in};
 ghost use Rattle.yspec_wide.specs.Standing.{standing};
@@ -33,7 +33,7 @@ ghost use Rattle.ylink.specs.Told.{seen, told_by};
 ghost use Rattle.yschema_given.specs.Keeping.{are_kept_right};
 ghost use Rattle.yschema_expand.specs.AugmentView.{augments_seen};
 ghost use Rattle.yschema_expand.specs.Knowing.{AreCounts};
-ghost use Rattle.yschema_expand.specs.NamedView.{modules_of};
+ghost use Rattle.yschema_expand.specs.NamedView.{language_of, modules_of};
 ghost use Rattle.yschema_expand.specs.TableView.{parts_in};
 ghost use Rattle.yschema_plan.specs.PlannedView.{part_at};
 ghost use Rattle.yschema_plan.specs.PlanView as plans;
@@ -104,10 +104,13 @@ fn compile_linked<'t>(
     ensures { Gives view told_by result
         (compiled_in (language_view language.now) (modules_view modules.now)) }
 {
+    let sources = linked.sources();
+    let versions = Versions::of(alloc, language, sources)?;
     let named = Named::new(
         language,
-        linked.sources(),
+        sources,
         linked.prefixes(),
+        &versions,
         linked.meanings(),
     );
     let groupings = Groupings::of(alloc, &named, linked.order())?;
@@ -290,10 +293,10 @@ fn broken_count_rule<'a, 't>(
     groupings: &Groupings,
     augments: &[Node<'a, Source<'t>>],
 ) -> Option<BrokenRule>
-    requires counts { AreCounts groupings.now.counts.items (modules_of named.now) }
+    requires counts { AreCounts groupings.now.counts.items (language_of named.now) (modules_of named.now) }
     requires augments { augments_seen augments.now ≡ augments_of (modules_of named.now) }
     ensures { seen result ≡ least_from None (limit_breaks
-        (nat_lt node_limit (node_count (modules_of named.now))) (modules_view modules.now)) }
+        (nat_lt node_limit (node_count_in (language_of named.now) (modules_of named.now))) (modules_view modules.now)) }
 {
     let count = groupings.node_count(named, augments);
     at_last(modules, count as usize > NODE_LIMIT)

@@ -1,10 +1,9 @@
 -- Whether a node may take what an augment states.
-use Rattle.std.proofs.Common.{◌≡◌, ◌&&◌, ◌∙◌, not, ℕ, Bool, true, false, List, Option, Some, None, refl, sym, ap, ap₂}
+use Rattle.std.proofs.Common.{◌≡◌, ◌∙◌, ℕ, false, List, Option, Some, None, refl, sym, ap, ap₂}
 use Rattle.std.specs.Prelude.{slice_get, option_map}
 use Rattle.std.specs.Option.{option_map_or}
 use Rattle.std.proofs.lemmas.Option.{slice_get-map}
 use Rattle.yspec.specs.Forest.{end}
-use Rattle.yspec.specs.linking.Keyword.{Keyword}
 use Rattle.yspec.specs.linking.Source.{Source}
 use Rattle.ybase_preorder.specs.View.{row_by}
 use Rattle.ybase_preorder.specs.declared.siblings.Node.{Node}
@@ -16,11 +15,6 @@ use Rattle.yschema_expand.specs.NodeView.{part_view}
 use Rattle.yschema_expand.specs.declared.nodes.ExpandedNode.{ExpandedNode}
 use Rattle.yschema_augment.specs.Picking.{given_at, holds_at, home_at, nothing, source_at}
 use Rattle.yschema_augment.specs.Resolving.{Asking, may_hold}
-
-pub as_in_no_choice : (old b : Bool) → b ≡ (b && not (old && false))
-as_in_no_choice old false = refl
-as_in_no_choice true true = refl
-as_in_no_choice false true = refl
 
 abbrev label_at : List (Slot ExpandedNode) → ℕ → Option ExpandedNode
 label_at slots target = option_map (λ (r : Slot ExpandedNode). r.label) (slice_get slots target)

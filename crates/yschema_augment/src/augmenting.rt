@@ -1,16 +1,13 @@
 //! All nodes of a set of modules: each `uses` is replaced, and each augment applied that finds its target (RFC 7950, 7.13 and
 //! 7.17).
 
-ghost use Rattle.std.specs.Prelude.{◌≡◌, ◌++◌, ◌∷◌, [], IfOk, None, length, map};
-ghost use Rattle.std.specs.List.{flat_map};
+ghost use Rattle.std.specs.Prelude.{◌≡◌, ◌++◌, IfOk, None, length};
 ghost use Rattle.yspec.specs.Forest.{join, size};
 ghost use Rattle.yspec.specs.linking.Augments.{augments_of, in_turn};
 ghost use Rattle.yspec.specs.schema.Breaks as breaks;
 ghost use Rattle.yspec_wide.specs.Expansion as spec;
 ghost use Rattle.ybase_preorder.specs.Layout.{places};
 ghost use Rattle.ylink_grammar.specs.BreakView.{seen};
-ghost use Rattle.ybase_index.specs.Index.{texts_of};
-ghost use Rattle.yschema_augment.specs.Arranging.{own_rows};
 ghost use Rattle.yschema_expand.specs.AugmentView.{augments_seen};
 ghost use Rattle.yschema_expand.specs.Bodies.{bodies_of, starts_from};
 ghost use Rattle.yschema_augment.specs.Augmenting.{breaks_of};
@@ -19,7 +16,7 @@ ghost use Rattle.yschema_expand.specs.Knowing.{Knows};
 ghost use Rattle.yschema_expand.specs.NamedView.{language_of, modules_of};
 ghost use Rattle.yschema_augment.specs.Picking.{left_of};
 ghost use Rattle.yschema_expand.specs.TableView.{parts_in, slots_of};
-ghost use Rattle.yschema_augment.specs.Turning.{numbers_of, placed, Prepared};
+ghost use Rattle.yschema_augment.specs.Turning.{numbers_of, placed};
 
 use crate::arranging::{arranged, number_at};
 use crate::paths::{Asked, asked_names};
@@ -28,7 +25,6 @@ use crate::starting::index_of;
 use crate::targets::{Resolved, Targets};
 use std::alloc::{AllocError, Global};
 use ybase_preorder::Node;
-use ylink_features::Versions;
 use ylink_grammar::{BrokenRule, CompileCode, Source, broken, least};
 use yschema_expand::{Context, Groupings, Made, Named, NodeTable, add_bodies, expanded};
 
@@ -53,14 +49,13 @@ fn resolved<'a, 't>(
     let first = number_at(starts, 0, nodes.len());
     let index = index_of(alloc, texts, nodes, first)?;
     let mut search = Search::new(alloc, index)?;
-    let versions = Versions::of(alloc, named.language(), named.sources())?;
     let targets = Targets {
         nodes,
         augments,
         paths: paths.as_slice(),
         starts,
         named,
-        versions: &versions,
+        versions: named.versions(),
     };
     targets.resolve(alloc, &mut search)
 }

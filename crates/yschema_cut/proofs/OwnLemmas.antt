@@ -12,10 +12,10 @@ use Rattle.yspec.specs.linking.Prefixes.{NodeName}
 use Rattle.yspec.specs.linking.Parts.{Part, defines_node, own_of, part_of, case_for, as_cases, within}
 use Rattle.yspec.specs.linking.Expansion.{Grouping, laid, is_uses, grouping_at, groupings_of, row_in, row_used, is_refine, refine_steps, is_step, changed_at, others, owned_by, replaced}
 use Rattle.yspec.specs.linking.Augments.{Augment, augments_in, augments_of, target_steps, marked, first_that, done_first, in_turn}
-use Rattle.yspec_wide.specs.Language.{Language}
+use Rattle.yspec_wide.specs.Language.{Language, core, rfc}
 use Rattle.yspec_wide.specs.Sources.{is_guard, guard_row, without_guards}
 use Rattle.yspec_wide.specs.Standing.{is_all_cut, is_default_off, is_implied_case, left_with, standing_by, with_default_on, without_default}
-use Rattle.yspec_wide.specs.Expansion.{conditioned, is_fit_in, overridden_in, after_refine_in, refined_in, stands_for_in, expanded_in, expanded_in_from, expanded_parts_in, added_nodes_in, is_ready_in, added_below_in, applied_in, augmented_in}
+use Rattle.yspec_wide.specs.Expansion.{conditioned, is_fit_in, overridden_in, after_refine_in, refined_in, inner_augments, put_below, brought_by, is_fit_augment, after_augment, extended_by, stands_for_in, expanded_in, expanded_in_from, expanded_parts_in, added_nodes_in, is_ready_in, added_below_in, applied_in, augmented_in}
 
 module _ (P : Source → Type 0) where
   -- of all statements of a row and below it
@@ -203,26 +203,6 @@ module _ (P : Source → Type 0) where
         by None = tt
         by (Some number) = own_row (statements_of modules) (below_placed [] modules all) number
 
-    own_stands : (owner depth : ℕ) (u : Part) → Each u.own → EachOwn (stands_for_in language modules (groupings_of modules) owner depth u)
-    unfolding stands_for_in
-    own_stands owner zero u own = tt
-    own_stands owner (suc depth) u own =
-        let inner = replaced (stands_for_in language modules (groupings_of modules) owner depth) owner (row_used modules (groupings_of modules) u) in
-        own_conditioned language u.own (refined_in language modules owner u.own inner) own
-        (own_refined language modules owner u.own inner own
-        (own_replaced (stands_for_in language modules (groupings_of modules) owner depth) (own_stands owner depth) owner (row_used modules (groupings_of modules) u) (own_used u)))
-
-    own_expanded : (owner : ℕ) (f : Forest Part) → EachOwn f → EachOwn (expanded_in language modules (groupings_of modules) owner f)
-    own_expanded owner f own =
-        own_replaced (stands_for_in language modules (groupings_of modules) owner (suc (size modules))) (own_stands owner (suc (size modules))) owner f own
-
-    own_from : (f : Forest Source) → Each f → EachOwn (expanded_in_from language modules (groupings_of modules) f)
-    own_from end each = tt
-    own_from (node s below after) each = own_joined (expanded_in language modules (groupings_of modules) s.home (laid below)) (expanded_in_from language modules (groupings_of modules) after)
-        (own_expanded s.home (laid below) (own_laid below each.1)) (own_from after each.2)
-
-    -- ---- augments
-
     EachGiven : List Augment → Type 0
     EachGiven [] = Unit {0}
     EachGiven (a ∷ augments) = Each a.given × EachGiven augments
@@ -240,6 +220,51 @@ module _ (P : Source → Type 0) where
         by : (b : Bool) → EachGiven (augments_in after) → EachGiven (cond b (record { source = s; given = given } ∷ augments_in after) (augments_in after))
         by true rest = (each.1, rest)
         by false rest = rest
+
+    given_inner : (l : Language) (f : Forest Source) → Each f → EachGiven (inner_augments l f)
+    unfolding EachGiven
+    given_inner core f each = tt
+    given_inner (rfc wide) f each = given_in f each
+
+    own_extended : (meant : Part → Forest Part) → ((u : Part) → Each u.own → EachOwn (meant u)) → (owner : ℕ) (xs : List Augment) (f : Forest Part) → EachGiven xs → EachOwn f
+        → EachOwn (extended_by language meant modules owner xs f)
+    unfolding extended_by EachGiven
+    own_extended meant keeps owner [] f given own = own
+    own_extended meant keeps owner (a ∷ xs) f given own =
+        own_extended meant keeps owner xs (after_augment language meant modules owner a f) given.1 (by (is_fit_augment language modules owner f a))
+      where
+        new : EachOwn (brought_by language meant owner a)
+        new = own_conditioned language a.given (replaced meant owner (laid a.given)) given.0
+            (own_replaced meant keeps owner (laid a.given) (own_laid a.given given.0))
+
+        by : (b : Bool) → EachOwn (cond b (changed_at (refine_steps modules owner a.source) (put_below (brought_by language meant owner a)) f) f)
+        by true = own_at (put_below (brought_by language meant owner a))
+            (λ p below after mine under rest. (mine, own_joined below (within p.source (brought_by language meant owner a)) under (own_within p.source (brought_by language meant owner a) new), rest))
+            (refine_steps modules owner a.source) f own
+        by false = own
+
+    own_stands : (owner depth : ℕ) (u : Part) → Each u.own → EachOwn (stands_for_in language modules (groupings_of modules) owner depth u)
+    unfolding stands_for_in
+    own_stands owner zero u own = tt
+    own_stands owner (suc depth) u own =
+        let meant = stands_for_in language modules (groupings_of modules) owner depth in
+        let inner = replaced meant owner (row_used modules (groupings_of modules) u) in
+        let refined = refined_in language modules owner u.own inner in
+        own_conditioned language u.own (extended_by language meant modules owner (inner_augments language u.own) refined) own
+        (own_extended meant (own_stands owner depth) owner (inner_augments language u.own) refined (given_inner language u.own own)
+        (own_refined language modules owner u.own inner own
+        (own_replaced meant (own_stands owner depth) owner (row_used modules (groupings_of modules) u) (own_used u))))
+
+    own_expanded : (owner : ℕ) (f : Forest Part) → EachOwn f → EachOwn (expanded_in language modules (groupings_of modules) owner f)
+    own_expanded owner f own =
+        own_replaced (stands_for_in language modules (groupings_of modules) owner (suc (size modules))) (own_stands owner (suc (size modules))) owner f own
+
+    own_from : (f : Forest Source) → Each f → EachOwn (expanded_in_from language modules (groupings_of modules) f)
+    own_from end each = tt
+    own_from (node s below after) each = own_joined (expanded_in language modules (groupings_of modules) s.home (laid below)) (expanded_in_from language modules (groupings_of modules) after)
+        (own_expanded s.home (laid below) (own_laid below each.1)) (own_from after each.2)
+
+    -- ---- augments
 
     given_of : (f : Forest Source) → Each f → EachGiven (augments_of f)
     unfolding EachGiven

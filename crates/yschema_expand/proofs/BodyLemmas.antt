@@ -1,7 +1,6 @@
 -- What augments add as it lies before it is known below which nodes.
-use Rattle.std.proofs.Common.{◌≡◌, ◌++◌, ◌&&◌, ◌∙◌, ℕ, Bool, true, false, cond, List, [], ◌∷◌, drop, None, refl, sym, subst, ap, ap₂}
+use Rattle.std.proofs.Common.{◌≡◌, ◌&&◌, ◌∙◌, ℕ, Bool, true, false, cond, List, ◌∷◌, drop, None, refl, sym, subst, ap, ap₂}
 use Rattle.std.specs.List.{list_all}
-use Rattle.std.proofs.lemmas.Bool.{and_parts}
 use Rattle.yspec.specs.Forest.{Forest, end, node, join}
 use Rattle.yspec.specs.schema.Breaks.{Break}
 use Rattle.yspec.specs.linking.Keyword as word
@@ -16,11 +15,12 @@ use Rattle.ybase_preorder.specs.declared.siblings.Node.{Node}
 use Rattle.ylink_grammar.specs.SourceView.{source_view}
 use Rattle.ylink_grammar.specs.declared.source.Source as held
 use Rattle.yschema_given.specs.Keeping.{are_kept_right}
-use Rattle.yschema_given.proofs.KeepingLemmas.{all_both, all_taken, kept_parts}
+use Rattle.yschema_given.proofs.KeepingLemmas.{all_both, kept_parts}
 use Rattle.yschema_expand.specs.AugmentView.{augments_seen}
 use Rattle.yschema_expand.specs.Bodies.{asked_nodes, body_nodes}
 use Rattle.yschema_expand.specs.Walk.{breaks_for, is_laid, Adds}
 use Rattle.yschema_expand.specs.declared.expanding.Made.{Made}
+use Rattle.yschema_expand.proofs.EndLemmas.{passes_there}
 use Rattle.yschema_expand.proofs.WalkLemmas.{adds_join, breaks_join, chosen-first, laid_one}
 
 -- ---- what one statement adds
@@ -89,17 +89,8 @@ module _ (language : Language) where
       all_both keeps (augments_in below) (augments_of after)
       ∙ ap₂ (λ x y. x && y) (kept_in below parts.1) (kept_of after parts.2)
 
-  abbrev keeps_node : Node held.Source → Bool
-  keeps_node n = are_kept_right language (row_by source_view n.children)
-
-  kept_seen : (augments : List (Node held.Source)) → list_all keeps (augments_seen augments) ≡ list_all keeps_node augments
-  kept_seen [] = refl
-  kept_seen (n ∷ augments) = ap (λ b. keeps_node n && b) (kept_seen augments)
-
   -- of each
   pub kept_there : (modules : Forest Source) (augments : List (Node held.Source)) (i : ℕ) (n : Node held.Source) (rest : List (Node held.Source))
       → are_kept_right language modules ≡ true → augments_seen augments ≡ augments_of modules → drop i augments ≡ n ∷ rest
       → are_kept_right language (row_by source_view n.children) ≡ true
-  kept_there modules augments i n rest kept all at =
-      let whole : list_all keeps_node augments ≡ true = sym (kept_seen augments) ∙ (ap (list_all keeps) all ∙ kept_of modules kept) in
-      (and_parts (keeps_node n) (list_all keeps_node rest) (ap (list_all keeps_node) (sym at) ∙ (all_taken keeps_node i augments whole).1)).0
+  kept_there modules augments i n rest kept all at = passes_there keeps modules augments i n rest (kept_of modules kept) all at

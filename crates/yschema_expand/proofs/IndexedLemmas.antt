@@ -9,11 +9,12 @@ use Rattle.std.proofs.lemmas.Option.{none-some}
 use Rattle.yspec.specs.Forest.{Forest, end, node, size, first_of}
 use Rattle.yspec.specs.linking.Source.{Source}
 use Rattle.yspec.specs.linking.Parts.{Part}
+use Rattle.yspec.specs.linking.Augments.{Augment}
 use Rattle.yspec.specs.linking.Prefixes.{NodeName}
 use Rattle.yspec.specs.linking.Expansion.{is_step}
 use Rattle.yspec.specs.linking.Planned.{same_number}
 use Rattle.yspec_wide.specs.Language.{Language}
-use Rattle.yspec_wide.specs.Expansion.{may_bear_in}
+use Rattle.yspec_wide.specs.Expansion.{may_bear_in, may_take_in}
 use Rattle.ybase_preorder.specs.Layout.{Place, laid, places, seen}
 use Rattle.ybase_preorder.specs.declared.slot.Slot.{Slot}
 use Rattle.ybase_preorder.proofs.LayoutLemmas.{length-laid, length-places, length-seen}
@@ -21,7 +22,7 @@ use Rattle.yschema_expand.specs.NodeView.{numbered_part, part_view}
 use Rattle.yschema_expand.specs.declared.nodes.ExpandedNode.{ExpandedNode}
 use Rattle.yschema_expand.specs.declared.indexing.TargetIndex.{TargetIndex}
 use Rattle.yschema_expand.specs.TableView.{changed_place, refined_part}
-use Rattle.yschema_expand.specs.Targets.{Found, found_in, found_at, fit_number}
+use Rattle.yschema_expand.specs.Targets.{Found, found_in, found_at, fit_number, taking_number}
 use Rattle.yschema_expand.specs.Indexing.{first_child, is_before, led, look_by, look_in, parent_of, part_in, sum_in, Indexes}
 use Rattle.yschema_expand.proofs.IndexLemmas.{agrees, agrees_none, led_found, row_child}
 
@@ -96,7 +97,7 @@ part_seen k (r ∷ slots) (suc i) p e = part_seen (k + 1) slots i p e
 
 module _ (slots : List (Slot ExpandedNode)) (first : ℕ) (earlier : List (Place Part)) (parent : Option ℕ) (f : Forest Part) (count : length earlier ≡ first)
     (lie : seen numbered_part 0 (laid slots) ≡ earlier ++ places parent first f) where
-  part_there : (steps : List NodeName) (x : Found) → found_at steps first f ≡ Some x → part_in slots x.number ≡ Some x.part
+  pub part_there : (steps : List NodeName) (x : Found) → found_at steps first f ≡ Some x → part_in slots x.number ≡ Some x.part
   part_there steps x e = known_at (part_in slots) steps first f x (known_of (part_in slots) parent first f (λ i p at.
       part_seen 0 slots (first + i) p (ap (λ ps. slice_get ps (first + i)) lie
       ∙ (get_behind earlier (places parent first f) i (first + i) (ap (λ n. n + i) count) ∙ at)))) e
@@ -112,6 +113,21 @@ module _ (slots : List (Slot ExpandedNode)) (first : ℕ) (earlier : List (Place
           → option_and_then (λ n. cond (option_map_or (λ p. may_bear_in language p given) (part_in slots n) false) (Some n) None) (option_map (λ x. x.number) o) ≡ fit_number language given o
       by None each = refl
       by (Some x) each = ap (λ p. cond {A = Option ℕ} (option_map_or (λ q. may_bear_in language q given) p false) (Some x.number) None) (each x refl)
+
+  -- or where that may take what an augment states
+  pub taking_there : (language : Language) (modules : Forest Source) (a : Augment) (steps : List NodeName) (number : Option ℕ)
+      → number ≡ option_map (λ x. x.number) (found_at steps first f)
+      → option_and_then (λ n. cond (option_map_or (λ p. may_take_in language modules a p) (part_in slots n) false) (Some n) None) number
+      ≡ taking_number language modules a (found_at steps first f)
+  taking_there language modules a steps number is =
+      ap (option_and_then (λ n. cond (option_map_or (λ p. may_take_in language modules a p) (part_in slots n) false) (Some n) None)) is
+      ∙ by (found_at steps first f) (part_there steps)
+    where
+      by : (o : Option Found) → ((x : Found) → o ≡ Some x → part_in slots x.number ≡ Some x.part)
+          → option_and_then (λ n. cond (option_map_or (λ p. may_take_in language modules a p) (part_in slots n) false) (Some n) None) (option_map (λ x. x.number) o)
+          ≡ taking_number language modules a o
+      by None each = refl
+      by (Some x) each = ap (λ p. cond {A = Option ℕ} (option_map_or (λ q. may_take_in language modules a q) p false) (Some x.number) None) (each x refl)
 
 -- ---- an index
 

@@ -1,4 +1,4 @@
-pub mod LanguageLemmas
+pub mod NothingLemmas
 pub mod ConditionLemmas
 pub mod GroupingLemmas
 pub mod UsedLemmas
@@ -9,11 +9,20 @@ pub mod IndexedLemmas
 pub mod RefineLemmas
 pub mod TableLemmas
 pub mod DepthLemmas
+pub mod EmptiedLemmas
 pub mod CountLemmas
 pub mod WalkLemmas
 pub mod OrderLemmas
+pub mod EndLemmas
 pub mod ToldLemmas
 pub mod LeastLemmas
 pub mod TaskLemmas
 pub mod TurnLemmas
 pub mod BodyLemmas
+pub mod TakingLemmas
+pub mod HangLemmas
+pub mod PathLemmas
+pub mod LyingLemmas
+pub mod ShiftLemmas
+pub mod ExtendLemmas
+pub mod InnerLemmas

@@ -1,181 +1,177 @@
--- What is known of groupings, learned in an order in which each stands behind those that it uses.
-use Rattle.std.proofs.Common.{◌≡◌, ℕ, zero, suc, ◌+◌, ◌<◌, Bool, true, false, cond, List, length, get_or, min, Option, Some, None, refl, sym, ap, ◌∙◌, arith, subst}
-use Rattle.std.specs.Prelude.{◌==◌}
+-- No grouping leads to itself: groupings stand in an order, each behind those that it uses, and what is used below a `uses` stands within it.
+use Rattle.std.proofs.Common.{◌≡◌, ℕ, zero, suc, ◌+◌, ◌≤◌, ◌<◌, Bool, true, false, List, [], ◌∷◌, length, Option, Some, None, refl, sym, ap, ap₂, ◌∙◌, arith, subst}
+use Rattle.std.specs.Prelude.{nat_lt, option_map, option_and_then}
+use Rattle.std.specs.List.{Contains}
 use Rattle.std.specs.Option.{option_map_or}
-use Rattle.std.proofs.lemmas.Bool.Decides.{Decides-eqb}
-use Rattle.yspec.specs.Forest.{Forest, end, size}
+use Rattle.std.proofs.lemmas.Bool.{ltb-true, ltb-false}
+use Rattle.std.proofs.lemmas.List.Elements.{Contains-append_cases}
+use mathlib.Core.Logic.{⊎_elim}
+use Rattle.yspec.specs.Forest.{Forest, end, node, size}
+use Rattle.yspec.specs.linking.Circles.{referring, innermost, definition_edge, definition_edges}
 use Rattle.yspec.specs.linking.DerivedTypes.{number_named}
-use Rattle.yspec.specs.linking.Expansion.{Grouping, groupings_of, row_in, row_used, replaced}
-use Rattle.yspec.specs.linking.NodeCounts.{counted, count_used, counts_within}
-use Rattle.yspec.specs.linking.Parts.{Part}
-use Rattle.yspec.specs.linking.Rewriting.{all_uses, ends_within, Ends}
-use Rattle.yspec.specs.linking.Source.{Source}
-use Rattle.yspec.proofs.LinkingProofs.ExpansionLemmas.{counted_is_size}
-use Rattle.yspec_wide.specs.Expansion.{stands_for_in}
-use Rattle.yspec_wide.specs.Language.{Language, core}
+use Rattle.yspec.specs.linking.Expansion.{Grouping, groupings_of, row_in, row_used, laid}
+use Rattle.yspec.specs.linking.Keyword.{grouping_word, uses_word}
+use Rattle.yspec.specs.linking.Parts.{Part, part_of}
+use Rattle.yspec.specs.linking.Rewriting.{all_uses}
+use Rattle.yspec.specs.linking.Scopes.{Placed, placed, statements_of, meaning, kind_named}
+use Rattle.yspec.specs.linking.Source.{Source, is_source_of}
+use Rattle.yspec.proofs.LinkingProofs.KeywordLemmas.{same_is}
+use Rattle.yspec_wide.specs.Expansion.{inner_augments}
+use Rattle.yspec_wide.specs.Language.{Language}
+use Rattle.ybase_graph.specs.Reaching.{HasEdge}
 use Rattle.ybase_preorder.specs.Layout.{numbered_by}
+use Rattle.ybase_preorder.proofs.LabelLemmas.{size-by}
 use Rattle.ylink_grammar.specs.declared.source.Source as held
 use Rattle.ylink_grammar.specs.SourceView.{source_view}
-use Rattle.yschema_expand.specs.Counting.{many}
-use Rattle.ylink_names.specs.Ordered.{IsNamed, AreInOrder}
-use Rattle.ylink_names.proofs.OrderedLemmas.{edge_named, place_of}
-use Rattle.yschema_expand.specs.Walk.{nodes_for, AllEnd}
-use Rattle.yschema_expand.proofs.CountLemmas.{counted_capped}
-use Rattle.yschema_expand.proofs.DepthLemmas.{all_deeper_to, same_nodes}
-use Rattle.yschema_expand.proofs.LanguageLemmas.{count_is_size_in, count_used_is_size_in}
-use Rattle.yschema_expand.proofs.UsedLemmas.{OnSome, are_all, are_weaker, tested, all_used}
-use Rattle.yschema_expand.proofs.WalkLemmas.{all_pass}
+use Rattle.ylink_names.specs.Ordered.{AreInOrder}
+use Rattle.ylink_names.specs.ReferringView.{innermost_of}
+use Rattle.ylink_names.proofs.NumberedLemmas.{length_placed}
+use Rattle.ylink_names.proofs.OrderedLemmas.{place_of}
+use Rattle.ylink_names.proofs.PlacedLemmas.{edge_among, stands_at, below_them}
+use Rattle.yschema_expand.specs.Knowing.{AreStraight}
+use Rattle.yschema_expand.specs.Walk.{all_inner, ends_within_in}
+use Rattle.yschema_expand.proofs.DepthLemmas.{both, ends_deeper_to, few, few_most, few_less, first_place, place_is, place_first, weight, weight_less}
+use Rattle.yschema_expand.proofs.UsedLemmas.{tested, tested_inner, laid_are, inner_are, grouping_are, around_it, uses_no_grouping}
+use Rattle.yschema_expand.proofs.WalkLemmas.{own_augments}
 
--- ---- a set of modules, as it is held
+-- ---- what stands below a statement is less than that around it
+
+smaller : (ancestors : List (Source × Forest Source)) (f : Forest Source) (p : Placed) → Contains (placed ancestors f) p → size p.below < size f
+unfolding placed
+smaller ancestors end p at = absurd (let inside = at.1 in omega (arith, inside))
+smaller ancestors (node s below after) p (zero, inside, is) =
+    let same : size below ≡ size p.below = ap (λ (q : Placed). size q.below) is in omega (arith, same)
+smaller ancestors (node s below after) p (suc k, inside, is) =
+    let under = placed ((s, below) ∷ ancestors) below in
+    let behind = placed ancestors after in
+    ⊎_elim
+    (λ at. let less = smaller ((s, below) ∷ ancestors) below p at in omega (arith, less))
+    (λ at. let less = smaller ancestors after p at in omega (arith, less))
+    (Contains-append_cases under behind p (k, omega (arith, inside), is))
+
+-- ---- where a grouping stands in an order; what stands in none stands behind all
+
+abbrev rank : List ℕ → Option ℕ → ℕ
+rank nodes None = length nodes
+rank nodes (Some d) = first_place nodes d
 
 module _ (f : Forest held.Source) where
   abbrev set : Forest Source
   set = numbered_by source_view 0 f
 
-  abbrev groupings : List Grouping
-  groupings = groupings_of set
-
-  abbrev row : ℕ → Forest Part
-  row e = row_in groupings e
-
   abbrev n : ℕ
   n = size set
 
-  abbrev meant : Part → ℕ
-  meant = count_used set (counts_within set groupings n)
+  abbrev groupings : List Grouping
+  groupings = groupings_of set
 
-  -- how many nodes the grouping of a number has
-  abbrev pub total : ℕ → ℕ
-  total e = counted meant (row e)
-
-  -- of the first groupings in an order it is known how many nodes they have
-  abbrev pub AreCounted : List ℕ → (ℕ → ℕ) → ℕ → Type 0
-  AreCounted nodes table i = (j : ℕ) → j < i → j < length nodes → table (get_or nodes j 0) ≡ min (total (get_or nodes j 0)) many
-
-  abbrev by_table : (ℕ → ℕ) → Part → ℕ
-  by_table table u = option_map_or table (number_named set u.source.number) 0
-
-  pub total_size : (language : Language) (owner e : ℕ) → total e ≡ size (nodes_for language set owner n (row e))
-  total_size language owner e = counted_is_size owner meant (stands_for_in language set groupings owner n) (count_is_size_in language set groupings owner n) (row e)
-
-  -- of what a `uses` stands for
-  abbrev pub used : Part → ℕ
-  used = count_used set (counts_within set groupings (suc n))
-
-  used_is : (u : Part) → used u ≡ size (nodes_for core set 0 n (row_used set groupings u))
-  used_is u = count_used_is_size_in core set groupings 0 n u
-
-  -- what a table holds of what a `uses` names is what that has, up to the bound
-  pub used_capped : (table : ℕ → ℕ) (u : Part) → OnSome (number_named set u.source.number) (λ e. min (table e) many ≡ min (total e) many)
-      → min (by_table table u) many ≡ min (used u) many
-  unfolding replaced
-  used_capped table u are = by (number_named set u.source.number) are ∙ ap (λ k. min k many) (sym (used_is u))
+  -- a `uses` is a reference of the grouping in which it stands
+  uses_edge : (p : Placed) → Contains (statements_of set) p → is_source_of uses_word p.source ≡ true → (d e : ℕ) → innermost_of grouping_word p.ancestors ≡ Some d
+      → number_named set p.source.number ≡ Some e → HasEdge (definition_edges set) d e
+  uses_edge p at used d e inner named = meant (meaning set p) refl (sym (ap (λ o. option_map (λ (x : Source). x.number) (option_and_then (meaning set) o)) (stands_at f p at)) ∙ named)
     where
-      by : (o : Option ℕ) → OnSome o (λ e. min (table e) many ≡ min (total e) many)
-          → min (option_map_or table o 0) many ≡ min (size (nodes_for core set 0 n (option_map_or row o end))) many
-      by None is = refl
-      by (Some e) is = is ∙ ap (λ k. min k many) (total_size core 0 e)
+      refers : referring p ≡ Some d
+      refers = let word : uses_word ≡ p.source.keyword = same_is uses_word p.source.keyword used in
+          sym (ap (λ k. option_and_then (λ kind. innermost kind p) (kind_named k)) word) ∙ inner
 
-  -- a row counted by a table of all that are named
-  pub row_capped : (table : ℕ → ℕ) → ((e : ℕ) → IsNamed set e → table e ≡ min (total e) many) → (g : Forest Part)
-      → min (counted (by_table table) g) many ≡ min (counted used g) many
-  row_capped table known g = counted_capped (by_table table) used g (are_all (λ u. min (by_table table u) many ≡ min (used u) many)
-      (λ u. used_capped table u (on_named u.source.number (number_named set u.source.number) refl)) g)
-    where
-      on_named : (number : ℕ) (o : Option ℕ) → number_named set number ≡ o → OnSome o (λ e. min (table e) many ≡ min (total e) many)
-      on_named number None is = tt
-      on_named number (Some e) is = let held = known e (number, is) in omega (arith, held)
-
-  -- ---- and in an order
+      meant : (o : Option Source) → meaning set p ≡ o → option_map (λ (x : Source). x.number) o ≡ Some e → HasEdge (definition_edges set) d e
+      meant None is own = absurd cc
+      meant (Some x) is own =
+          let same : x.number ≡ e = cc in
+          subst (λ k. HasEdge (definition_edges set) d k) same
+          (edge_among (definition_edge set) (statements_of set) p d x.number at
+          (ap₂ (λ m r. option_and_then (λ (y : Source). option_map (λ (a : ℕ). record { source = a; target = y.number }) r) m) is refers))
 
   module _ (nodes : List ℕ) (order : AreInOrder nodes set) where
-    -- ---- no grouping leads to itself
-
-    pub good_at : (bound i : ℕ) → i < bound → i < length nodes → AllEnd set (suc i) (row (get_or nodes i 0))
-    unfolding ends_within all_uses
-    good_at zero i below within = absurd (omega (arith, below))
-    good_at (suc bound) i below within =
-        tested (ends_within set groupings (suc i)) (row (get_or nodes i 0))
-        (are_weaker (λ u. OnSome (number_named set u.source.number) (λ e. AllEnd set i (row e))) (λ u. ends_within set groupings (suc i) u ≡ true)
-        (λ u is. of_one (number_named set u.source.number) is) (row (get_or nodes i 0)) (all_used f (λ e. AllEnd set i (row e)) (get_or nodes i 0) (λ e edge.
-        let at = place_of nodes set order e (edge_named f (get_or nodes i 0) e edge) in
-        let inside = at.1 in
-        let before = order.behind (get_or nodes i 0) e edge i at.0 within inside refl at.2 in
-        all_deeper_to set groupings (suc at.0) i (row e) (omega (arith, before))
-        (subst (λ d. AllEnd set (suc at.0) (row d)) at.2 (good_at bound at.0 (omega (arith, before, below)) inside)))))
+    -- what a `uses` names stands before the grouping in which it stands
+    rank_less : (p : Placed) → Contains (statements_of set) p → is_source_of uses_word p.source ≡ true → (e : ℕ) → number_named set p.source.number ≡ Some e
+        → first_place nodes e < rank nodes (innermost_of grouping_word p.ancestors)
+    rank_less p at used e named = by (innermost_of grouping_word p.ancestors) refl
       where
-        of_one : (o : Option ℕ) → OnSome o (λ e. AllEnd set i (row e)) → all_uses (ends_within set groupings i) (option_map_or row o end) ≡ true
-        of_one None is = refl
-        of_one (Some e) is = is
+        inside : first_place nodes e < length nodes
+        inside = let found = place_of nodes set order e (p.source.number, named) in let there = found.1 in
+            let first = place_first nodes e found.0 there found.2 in omega (arith, first, there)
 
-    good_there : (i : ℕ) → i < length nodes → AllEnd set n (row (get_or nodes i 0))
-    good_there i within =
-        let few = order.count in
-        all_deeper_to set groupings (suc i) n (row (get_or nodes i 0)) (omega (arith, within, few)) (good_at (suc i) i (omega arith) within)
-
-    pub good : (e : ℕ) → IsNamed set e → AllEnd set n (row e)
-    good e named =
-        let at = place_of nodes set order e named in
-        let inside = at.1 in
-        subst (λ d. AllEnd set n (row d)) at.2 (good_there at.0 inside)
-
-    pub straight : Ends set groupings (suc n)
-    unfolding ends_within all_uses
-    straight u = by (number_named set u.source.number) refl
-      where
-        by : (o : Option ℕ) → number_named set u.source.number ≡ o → all_uses (ends_within set groupings n) (option_map_or row o end) ≡ true
-        by None is = refl
-        by (Some e) is = good e (u.source.number, is)
-
-    -- ---- how many nodes each has
-
-    -- one deeper is the same
-    total_deeper : (i : ℕ) → i < length nodes → counted used (row (get_or nodes i 0)) ≡ total (get_or nodes i 0)
-    total_deeper i within =
-        let own = row (get_or nodes i 0) in
-        counted_is_size 0 used (stands_for_in core set groupings 0 (suc n)) (count_is_size_in core set groupings 0 (suc n)) own
-        ∙ (ap size (same_nodes set groupings core 0 (suc n) n own (all_pass (ends_within set groupings (suc n)) straight own) (good_there i within)) ∙ sym (total_size core 0 (get_or nodes i 0)))
-
-    counted_own : (table : ℕ → ℕ) (i : ℕ) → AreCounted nodes table i → i < length nodes
-        → min (counted (by_table table) (row (get_or nodes i 0))) many ≡ min (total (get_or nodes i 0)) many
-    counted_own table i so_far within =
-        counted_capped (by_table table) used (row (get_or nodes i 0))
-        (are_weaker (λ u. OnSome (number_named set u.source.number) (λ e. min (table e) many ≡ min (total e) many)) (λ u. min (by_table table u) many ≡ min (used u) many)
-        (used_capped table) (row (get_or nodes i 0)) (all_used f (λ e. min (table e) many ≡ min (total e) many) (get_or nodes i 0) (λ e edge.
-        let at = place_of nodes set order e (edge_named f (get_or nodes i 0) e edge) in
-        let inside = at.1 in
-        let before = order.behind (get_or nodes i 0) e edge i at.0 within inside refl at.2 in
-        let known = subst (λ d. table d ≡ min (total d) many) at.2 (so_far at.0 before inside) in omega (arith, known))))
-        ∙ ap (λ k. min k many) (total_deeper i within)
-
-    pub counted_next : (table more : ℕ → ℕ) (i : ℕ) → AreCounted nodes table i → i < length nodes
-        → ((e : ℕ) → more e ≡ (cond (e == get_or nodes i 0) (min (counted (by_table table) (row (get_or nodes i 0))) many) (table e)))
-        → AreCounted nodes more (i + 1)
-    counted_next table more i so_far within set_to j below inside = set_to (get_or nodes j 0) ∙ by (get_or nodes j 0 == d) refl
-      where
-        d : ℕ
-        d = get_or nodes i 0
-
-        own : ℕ
-        own = min (counted (by_table table) (row d)) many
-
-        earlier : (get_or nodes j 0 == d) ≡ false → j < i
-        earlier other = less (i == j) refl
+        by : (o : Option ℕ) → innermost_of grouping_word p.ancestors ≡ o → first_place nodes e < rank nodes o
+        by None inner = inside
+        by (Some d) inner = is (nat_lt (first_place nodes d) (length nodes)) refl
           where
-            clash : i ≡ j → ⊥
-            clash same = absurd (let e : false ≡ true = sym other ∙ (Decides-eqb (get_or nodes j 0) d).1 (ap (λ k. get_or nodes k 0) (sym same)) in cc)
+            is : (b : Bool) → nat_lt (first_place nodes d) (length nodes) ≡ b → first_place nodes e < first_place nodes d
+            is true less =
+                let there = ltb-true (first_place nodes d) (length nodes) less in
+                order.behind d e (uses_edge p at used d e inner named) (first_place nodes d) (first_place nodes e) there inside (place_is nodes d there) (place_is nodes e inside)
+            is false less = let far = ltb-false (first_place nodes d) (length nodes) less in omega (arith, inside, far)
 
-            less : (b : Bool) → (i == j) ≡ b → j < i
-            less true is = absurd (clash ((Decides-eqb i j).0 is))
-            less false is = let differ : (i ≡ j) → ⊥ = clash in omega (arith, below, differ)
+    -- by which the `uses` statements of a set stand in an order
+    abbrev key : Placed → ℕ
+    key p = weight n (rank nodes (innermost_of grouping_word p.ancestors)) + size p.below
 
-        by : (b : Bool) → (get_or nodes j 0 == d) ≡ b → cond b own (table (get_or nodes j 0)) ≡ min (total (get_or nodes j 0)) many
-        by true is = counted_own table i so_far within ∙ ap (λ e. min (total e) many) (sym ((Decides-eqb (get_or nodes j 0) d).0 is))
-        by false is = so_far j (earlier is) inside
+    -- over how many others one may lead
+    abbrev need : Placed → ℕ
+    need p = few key (key p) (statements_of set)
 
-    -- and in the end of all that are named
-    pub counted_all : (table : ℕ → ℕ) → AreCounted nodes table (length nodes) → (e : ℕ) → IsNamed set e → table e ≡ min (total e) many
-    counted_all table so_far e named =
-        let at = place_of nodes set order e named in
-        let inside = at.1 in
-        subst (λ d. table d ≡ min (total d) many) at.2 (so_far at.0 inside inside)
+    need_most : (p : Placed) → need p ≤ n
+    need_most p =
+        let most = few_most key (key p) (statements_of set) in
+        let count = length_placed source_view [] 0 f in
+        let all = size-by source_view 0 f in
+        omega (arith, most, count, all)
+
+    -- what is used in the grouping that one names, and in its augments, comes before it
+    key_named : (p : Placed) → Contains (statements_of set) p → is_source_of uses_word p.source ≡ true → (e : ℕ) → number_named set p.source.number ≡ Some e
+        → (q : Placed) → Contains (statements_of set) q → innermost_of grouping_word q.ancestors ≡ Some e → key q < key p
+    key_named p at used e named q there inner =
+        let first : rank nodes (innermost_of grouping_word q.ancestors) ≡ first_place nodes e = ap (rank nodes) inner in
+        let own : key q ≡ weight n (first_place nodes e) + size q.below = ap (λ r. weight n r + size q.below) first in
+        let less = weight_less n (first_place nodes e) (rank nodes (innermost_of grouping_word p.ancestors)) (rank_less p at used e named) in
+        let small = smaller [] set q there in
+        omega (arith, own, less, small)
+
+    key_within : (p q : Placed) → innermost_of grouping_word q.ancestors ≡ innermost_of grouping_word p.ancestors → size q.below < size p.below → key q < key p
+    key_within p q inner small =
+        let own : key q ≡ weight n (rank nodes (innermost_of grouping_word p.ancestors)) + size q.below =
+        ap (λ o. weight n (rank nodes o) + size q.below) inner in
+        omega (arith, own, small)
+
+    module _ (language : Language) where
+      abbrev ends : ℕ → Part → Bool
+      ends depth = ends_within_in language set groupings depth
+
+      -- what a `uses` leads over, where all that comes before it leads over less
+      module _ (p : Placed) (at : Contains (statements_of set) p) (used : is_source_of uses_word p.source ≡ true) (depth : ℕ)
+          (known : (q : Placed) → Contains (statements_of set) q → is_source_of uses_word q.source ≡ true → key q < key p → ends depth (part_of q.source q.below) ≡ true) where
+        abbrev u : Part
+        u = part_of p.source p.below
+
+        row_ends : (o : Option ℕ) → number_named set p.source.number ≡ o → all_uses (ends depth) (option_map_or (row_in groupings) o end) ≡ true
+        unfolding all_uses
+        row_ends None named = refl
+        row_ends (Some e) named = tested (ends depth) (row_in groupings e)
+            (grouping_are f (λ v. ends depth v ≡ true) e (λ q there is inner. known q there is (key_named p at used e named q there inner)))
+
+        inner_ends : all_inner (ends depth) (inner_augments language p.below) ≡ true
+        inner_ends = tested_inner (ends depth) (inner_augments language p.below)
+            (inner_are (λ v. ends depth v ≡ true) language ((p.source, p.below) ∷ p.ancestors) p.below (λ q inside is around.
+            known q (below_them [] set p q at inside) is
+            (key_within p q (around ∙ around_it p.source p.below p.ancestors (uses_no_grouping p.source used)) (smaller ((p.source, p.below) ∷ p.ancestors) p.below q inside))))
+
+        ends_next : ends (suc depth) u ≡ true
+        unfolding ends_within_in
+        ends_next = both (all_uses (ends depth) (row_used set groupings u)) (all_inner (ends depth) (inner_augments language u.own))
+            (row_ends (number_named set p.source.number) refl) (ap (all_inner (ends depth)) (own_augments language p.below) ∙ inner_ends)
+
+      ends_there : (bound : ℕ) (p : Placed) → key p < bound → Contains (statements_of set) p → is_source_of uses_word p.source ≡ true
+          → ends (suc (need p)) (part_of p.source p.below) ≡ true
+      ends_there zero p low at used = absurd (omega (arith, low))
+      ends_there (suc bound) p low at used = ends_next p at used (need p) (λ q there is less.
+          let fewer = few_less key (key q) (key p) (statements_of set) q there (omega (arith, less)) (omega arith) less in
+          ends_deeper_to language set groupings (suc (need q)) (need p) (part_of q.source q.below) (omega (arith, fewer)) (ends_there bound q (omega (arith, less, low)) there is))
+
+      ends_all : (p : Placed) → Contains (statements_of set) p → is_source_of uses_word p.source ≡ true → ends (suc n) (part_of p.source p.below) ≡ true
+      ends_all p at used =
+          let most = need_most p in
+          ends_deeper_to language set groupings (suc (need p)) (suc n) (part_of p.source p.below) (omega (arith, most)) (ends_there (suc (key p)) p (omega arith) at used)
+
+      pub straight : AreStraight language set
+      straight p at = tested (ends (suc n)) (laid p.below)
+          (laid_are (λ v. ends (suc n) v ≡ true) ((p.source, p.below) ∷ p.ancestors) p.below (λ q inside is around. ends_all q (below_them [] set p q at inside) is))

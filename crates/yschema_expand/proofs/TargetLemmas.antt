@@ -1,6 +1,7 @@
 -- The target of a refine among the places of a row, and the row with it changed.
 use Rattle.std.proofs.Common.{◌≡◌, ℕ, zero, suc, ◌+◌, ◌<◌, Bool, true, false, cond, List, [], ◌∷◌, ◌++◌, length, Option, Some, None, refl, sym, ap, ◌∙◌, arith, subst}
 use Rattle.std.specs.Prelude.{option_map, option_and_then}
+use Rattle.std.specs.Option.{IfSome}
 use Rattle.yspec.specs.Forest.{Forest, end, node, size, row, change_nth, below_nth}
 use Rattle.yspec.specs.linking.Parts.{Part}
 use Rattle.yspec.specs.linking.Prefixes.{NodeName}
@@ -10,6 +11,35 @@ use Rattle.ybase_preorder.specs.Layout.{Place, places}
 use Rattle.ybase_preorder.proofs.LayoutLemmas.{length-places}
 use Rattle.yschema_expand.specs.TableView.{changed_place}
 use Rattle.yschema_expand.specs.Targets.{Found, found_in, found_at}
+
+-- ---- what is taken of a number
+
+module _ (test : ℕ → Bool) where
+  -- it is taken where it passes
+  abbrev pub taken : Option ℕ → Option ℕ
+  taken number = option_and_then (λ n. cond (test n) (Some n) None) number
+
+  pub taken_among : (P : ℕ → Type 0) (number result : Option ℕ) → result ≡ taken number → IfSome number P → IfSome result P
+  taken_among P number result is holds = subst (λ o. IfSome o P) (sym is) (by number holds)
+    where
+      of_one : (n : ℕ) (b : Bool) → P n → IfSome (cond b (Some n) None) P
+      of_one n true holds = holds
+      of_one n false holds = tt
+
+      by : (o : Option ℕ) → IfSome o P → IfSome (taken o) P
+      by None holds = tt
+      by (Some n) holds = of_one n (test n) holds
+
+  pub taken_takes : (number result : Option ℕ) → result ≡ taken number → IfSome result (λ n. test n ≡ true)
+  taken_takes number result is = subst (λ o. IfSome o (λ n. test n ≡ true)) (sym is) (by number)
+    where
+      of_one : (n : ℕ) (b : Bool) → test n ≡ b → IfSome (cond b (Some n) None) (λ n. test n ≡ true)
+      of_one n true is = is
+      of_one n false is = tt
+
+      by : (o : Option ℕ) → IfSome (taken o) (λ n. test n ≡ true)
+      by None = tt
+      by (Some n) = of_one n (test n) refl
 
 -- ---- what is found
 

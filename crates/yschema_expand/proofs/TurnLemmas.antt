@@ -58,6 +58,30 @@ module _ {T S : Type 0} (does : T → S → S → Type 0) (toll : T → ℕ) (Go
     less = let less = leaves.less in let more = work_push before t in omega (arith, few, less, more);
   }
 
+  -- three were, the last of which is done first
+  pub leaves_three : (this that : S → S → Type 0) (most more : ℕ) (t u v : T) (before after : List T) (old mid new : S)
+      → ((a b c d : S) → this mid a → does v a b → does u b c → does t c d → that old d) → Good t → Good u → Good v
+      → suc (toll t) + (suc (toll u) + (suc (toll v) + most)) ≤ more
+      → Leaves does toll Good this most (((before ++ t ∷ []) ++ u ∷ []) ++ v ∷ []) after mid new → Leaves does toll Good that more before after old new
+  leaves_three this that most more t u v before after old mid new all_of t_good u_good v_good few leaves =
+      let one = before ++ t ∷ [] in
+      let two = one ++ u ∷ [] in
+      record {
+        runs = λ final runs.
+            let all = leaves.runs final runs in
+            let third = runs_pop two v all.0 final all.2 in
+            let second = runs_pop one u third.0 final third.2 in
+            let first = runs_pop before t second.0 final second.2 in
+            (first.0, all_of all.0 third.0 second.0 first.0 all.1 third.1 second.1 first.1, first.2);
+        good = λ all. leaves.good (good_push two v (good_push one u (good_push before t all t_good) u_good) v_good);
+        less =
+            let less = leaves.less in
+            let more_t = work_push before t in
+            let more_u = work_push one u in
+            let more_v = work_push two v in
+            omega (arith, few, less, more_t, more_u, more_v);
+      }
+
   -- a task is left behind, and nothing else
   pub leaves_task : (t : T) (before : List T) (now : S) → Good t → Leaves does toll Good (does t) (suc (toll t)) before (before ++ t ∷ []) now now
   leaves_task t before now one = record {

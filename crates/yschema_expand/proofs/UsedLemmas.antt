@@ -1,26 +1,27 @@
--- What a grouping uses is what it refers to.
-use Rattle.std.proofs.Common.{◌≡◌, ℕ, suc, Bool, true, false, cond, ◌&&◌, List, [], ◌∷◌, ◌++◌, Option, Some, None, refl, sym, ap, ap₂, ◌∙◌, arith, subst}
-use Rattle.std.specs.Prelude.{⊤, option_map, option_and_then, find}
+-- What is used in a row of statements, in a grouping, and in the augments of a `uses`.
+use Rattle.std.proofs.Common.{◌≡◌, ℕ, suc, Bool, true, false, cond, ◌&&◌, List, [], ◌∷◌, ◌++◌, Option, Some, None, refl, sym, ap, ◌∙◌, arith, subst}
+use Rattle.std.specs.Prelude.{⊤, option_map, find}
 use Rattle.std.specs.List.{Contains}
 use Rattle.std.specs.Option.{option_map_or}
 use Rattle.std.proofs.lemmas.List.Elements.{Contains-append_left, Contains-append_right}
 use Rattle.yspec.specs.Forest.{Forest, end, node, join}
-use Rattle.yspec.specs.linking.Circles.{referring, innermost, definition_edge, definition_edges}
-use Rattle.yspec.specs.linking.DerivedTypes.{number_named}
+use Rattle.yspec.specs.linking.Augments.{Augment, augments_in}
 use Rattle.yspec.specs.linking.Expansion.{is_uses, laid, row_in, groupings_of}
-use Rattle.yspec.specs.linking.Keyword.{Keyword, same_keyword, uses_word, grouping_word, case_word, choice_word}
+use Rattle.yspec.specs.linking.Keyword.{Keyword, same_keyword, augment_word, uses_word, grouping_word, case_word, choice_word}
 use Rattle.yspec.specs.linking.Parts.{Part, defines_node, part_of, as_cases, case_for, within}
 use Rattle.yspec.specs.linking.Rewriting.{all_uses}
-use Rattle.yspec.specs.linking.Scopes.{Placed, placed, statements_of, statement_at, meaning, kind_named}
+use Rattle.yspec.specs.linking.Scopes.{Placed, placed, statements_of, statement_at}
 use Rattle.yspec.specs.linking.Source.{Source, is_source_of}
 use Rattle.yspec.proofs.LinkingProofs.KeywordLemmas.{same_is}
-use Rattle.ybase_graph.specs.Reaching.{HasEdge}
+use Rattle.yspec_wide.specs.Expansion.{inner_augments}
+use Rattle.yspec_wide.specs.Language.{Language, core, rfc}
 use Rattle.ybase_preorder.specs.Layout.{numbered_by}
 use Rattle.ylink_grammar.specs.declared.source.Source as held
 use Rattle.ylink_grammar.specs.SourceView.{source_view}
 use Rattle.ylink_names.specs.ReferringView.{innermost_of}
 use Rattle.ylink_names.specs.ScopeView.{placed_at}
-use Rattle.ylink_names.proofs.PlacedLemmas.{edge_among, stands_at, among_them, below_them}
+use Rattle.ylink_names.proofs.PlacedLemmas.{among_them, below_them}
+use Rattle.yschema_expand.specs.Walk.{all_inner}
 use Rattle.yschema_expand.proofs.GroupingLemmas.{row_if, row_at}
 
 -- what holds of what is inside, where there is something
@@ -72,9 +73,9 @@ tested test (node p below after) are = by (is_uses p) refl (λ e. tested test be
     by true is inner rest = ap (λ x. x && all_uses test after) (are.0 is) ∙ rest
     by false is inner rest = ap (λ x. x && all_uses test after) (inner is) ∙ rest
 
--- ---- what stands in a grouping, besides groupings in it
+-- ---- what stands in a row of statements, but for further groupings in it
 
-no_other : (j k : Keyword) → defines_node j ≡ false → defines_node k ≡ true → same_keyword j k ≡ false
+pub no_other : (j k : Keyword) → defines_node j ≡ false → defines_node k ≡ true → same_keyword j k ≡ false
 no_other j k none stands = by (same_keyword j k) refl
   where
     by : (b : Bool) → same_keyword j k ≡ b → b ≡ false
@@ -82,20 +83,49 @@ no_other j k none stands = by (same_keyword j k) refl
     by true e = let same : j ≡ k = same_is j k e in let clash : false ≡ true = sym none ∙ (ap defines_node same ∙ stands) in absurd cc
 
 later : (r : Placed) (ps : List Placed) (q : Placed) → Contains ps q → Contains (r ∷ ps) q
-later r ps q at = let within = at.1 in (suc at.0, omega (arith, within), at.2)
+later r ps q at = let inside = at.1 in (suc at.0, omega (arith, inside), at.2)
 
-module _ (good : ℕ → Type 0) (d : ℕ) where
-  abbrev fits : Part → Type 0
-  fits u = good u.source.number
+-- of each `uses` of a row in the same grouping as that
+abbrev pub AreUsed : (Part → Type 0) → List (Source × Forest Source) → Forest Source → Type 0
+AreUsed P ancestors row = (p : Placed) → Contains (placed ancestors row) p → is_source_of uses_word p.source ≡ true
+    → innermost_of grouping_word p.ancestors ≡ innermost_of grouping_word ancestors → P (part_of p.source p.below)
 
-  used_below : (ancestors : List (Source × Forest Source)) (row : Forest Source) → innermost_of grouping_word ancestors ≡ Some d
-      → ((p : Placed) → Contains (placed ancestors row) p → is_source_of uses_word p.source ≡ true → referring p ≡ Some d → good p.source.number)
-      → UsesAre fits (laid row)
+-- below a statement the innermost grouping is the statement itself, or else that around it
+abbrev nearest : Bool → Source → Forest Source → List (Source × Forest Source) → Option ℕ
+nearest b s below ancestors =
+    option_map (λ (a : Source × Forest Source). a.0.number) (cond b (Some (s, below)) (find (λ (a : Source × Forest Source). is_source_of grouping_word a.0) ancestors))
+
+pub around_it : (s : Source) (below : Forest Source) (ancestors : List (Source × Forest Source)) → is_source_of grouping_word s ≡ false
+    → innermost_of grouping_word ((s, below) ∷ ancestors) ≡ innermost_of grouping_word ancestors
+around_it s below ancestors other = ap (λ b. nearest b s below ancestors) other
+
+pub in_it : (s : Source) (below : Forest Source) (ancestors : List (Source × Forest Source)) → is_source_of grouping_word s ≡ true
+    → innermost_of grouping_word ((s, below) ∷ ancestors) ≡ Some s.number
+in_it s below ancestors is = ap (λ b. nearest b s below ancestors) is
+
+pub uses_no_grouping : (s : Source) → is_source_of uses_word s ≡ true → is_source_of grouping_word s ≡ false
+uses_no_grouping s used = let word : uses_word ≡ s.keyword = same_is uses_word s.keyword used in sym (ap (same_keyword grouping_word) word)
+
+pub augment_no_grouping : (s : Source) → is_source_of augment_word s ≡ true → is_source_of grouping_word s ≡ false
+augment_no_grouping s is = let word : augment_word ≡ s.keyword = same_is augment_word s.keyword is in sym (ap (same_keyword grouping_word) word)
+
+-- what an augment uses, each
+abbrev pub InnerAre : (Part → Type 0) → List Augment → Type 0
+InnerAre P [] = ⊤
+InnerAre P (a ∷ others) = UsesAre P (laid a.given) × InnerAre P others
+
+pub tested_inner : (test : Part → Bool) (xs : List Augment) → InnerAre (λ u. test u ≡ true) xs → all_inner test xs ≡ true
+tested_inner test [] are = refl
+tested_inner test (a ∷ xs) are = ap (λ b. b && all_inner test xs) (tested test (laid a.given) are.0) ∙ tested_inner test xs are.1
+
+module _ (P : Part → Type 0) where
+  pub laid_are : (ancestors : List (Source × Forest Source)) (row : Forest Source) → AreUsed P ancestors row → UsesAre P (laid row)
   unfolding placed laid
-  used_below ancestors end inner all = tt
-  used_below ancestors (node s below after) inner all = by (defines_node s.keyword) refl (is_source_of uses_word s) refl
-      (λ around_it. used_below ((s, below) ∷ ancestors) below around_it (λ q at. all q (later p (under ++ behind) q (Contains-append_left under behind q at))))
-      (used_below ancestors after inner (λ q at. all q (later p (under ++ behind) q (Contains-append_right under behind q at))))
+  laid_are ancestors end all = tt
+  laid_are ancestors (node s below after) all = by (defines_node s.keyword) refl (is_source_of uses_word s) refl
+      (λ other. laid_are ((s, below) ∷ ancestors) below
+      (λ q at used around. all q (later p (under ++ behind) q (Contains-append_left under behind q at)) used (around ∙ around_it s below ancestors other)))
+      (laid_are ancestors after (λ q at used around. all q (later p (under ++ behind) q (Contains-append_right under behind q at)) used around))
     where
       p : Placed
       p = placed_at s below ancestors
@@ -107,23 +137,47 @@ module _ (good : ℕ → Type 0) (d : ℕ) where
       behind = placed ancestors after
 
       by : (n : Bool) → defines_node s.keyword ≡ n → (u : Bool) → is_source_of uses_word s ≡ u
-          → (innermost_of grouping_word ((s, below) ∷ ancestors) ≡ Some d → UsesAre fits (laid below)) → UsesAre fits (laid after)
-          → UsesAre fits (cond n (node (part_of s below) (within s (laid below)) (laid after)) (cond u (node (part_of s below) end (laid after)) (laid after)))
-      by true stands u used inner_row rest =
-          let inside : UsesAre fits (laid below) = inner_row
-          (ap (λ b. option_map (λ (a : Source × Forest Source). a.0.number) (cond b (Some (s, below)) (find (λ (a : Source × Forest Source). is_source_of grouping_word a.0) ancestors)))
-          (no_other grouping_word s.keyword refl stands) ∙ inner) in (
-            (λ e. let clash : true ≡ false = sym e ∙ no_other uses_word s.keyword refl stands in absurd cc),
-            (λ e. within_are fits s (laid below) inside),
-            rest,
-          )
-      by false stands true used inner_row rest =
-          let word : uses_word ≡ s.keyword = same_is uses_word s.keyword used in (
-            (λ e. all p (0, omega arith, refl) used (sym (ap (λ k. option_and_then (λ kind. innermost kind p) (kind_named k)) word) ∙ inner)),
-            (λ e. let clash : true ≡ false = sym used ∙ e in absurd cc),
-            rest,
-          )
-      by false stands false used inner_row rest = rest
+          → (is_source_of grouping_word s ≡ false → UsesAre P (laid below)) → UsesAre P (laid after)
+          → UsesAre P (cond n (node (part_of s below) (within s (laid below)) (laid after)) (cond u (node (part_of s below) end (laid after)) (laid after)))
+      by true stands u used inner rest = (
+        (λ e. let clash : true ≡ false = sym e ∙ no_other uses_word s.keyword refl stands in absurd cc),
+        (λ e. within_are P s (laid below) (inner (no_other grouping_word s.keyword refl stands))),
+        rest,
+      )
+      by false stands true used inner rest = (
+        (λ e. all p (0, omega arith, refl) used refl),
+        (λ e. let clash : true ≡ false = sym used ∙ e in absurd cc),
+        rest,
+      )
+      by false stands false used inner rest = rest
+
+  augments_are : (ancestors : List (Source × Forest Source)) (row : Forest Source) → AreUsed P ancestors row → InnerAre P (augments_in row)
+  unfolding placed
+  augments_are ancestors end all = tt
+  augments_are ancestors (node s below after) all = by (is_source_of augment_word s) refl
+      (augments_are ancestors after (λ q at used around. all q (later p (under ++ behind) q (Contains-append_right under behind q at)) used around))
+    where
+      p : Placed
+      p = placed_at s below ancestors
+
+      under : List Placed
+      under = placed ((s, below) ∷ ancestors) below
+
+      behind : List Placed
+      behind = placed ancestors after
+
+      by : (b : Bool) → is_source_of augment_word s ≡ b → InnerAre P (augments_in after)
+          → InnerAre P (cond b (record { source = s; given = below } ∷ augments_in after) (augments_in after))
+      by true is rest = (
+        laid_are ((s, below) ∷ ancestors) below
+            (λ q at used around. all q (later p (under ++ behind) q (Contains-append_left under behind q at)) used (around ∙ around_it s below ancestors (augment_no_grouping s is))),
+        rest,
+      )
+      by false is rest = rest
+
+  pub inner_are : (language : Language) (ancestors : List (Source × Forest Source)) (row : Forest Source) → AreUsed P ancestors row → InnerAre P (inner_augments language row)
+  inner_are core ancestors row all = tt
+  inner_are (rfc wide) ancestors row all = augments_are ancestors row all
 
 -- ---- a set of modules
 
@@ -131,32 +185,20 @@ module _ (held_forest : Forest held.Source) where
   abbrev set : Forest Source
   set = numbered_by source_view 0 held_forest
 
-  -- what holds of all to which the grouping of a number refers holds of all that it uses
-  pub all_used : (good : ℕ → Type 0) (d : ℕ) → ((e : ℕ) → HasEdge (definition_edges set) d e → good e)
-      → UsesAre (λ u. OnSome (number_named set u.source.number) good) (row_in (groupings_of set) d)
-  all_used good d holds = subst (UsesAre (λ u. named u.source.number)) (sym (row_at held_forest d)) (by (statement_at set d) refl)
+  -- what is used in the grouping of a number
+  pub grouping_are : (P : Part → Type 0) (e : ℕ)
+      → ((p : Placed) → Contains (statements_of set) p → is_source_of uses_word p.source ≡ true → innermost_of grouping_word p.ancestors ≡ Some e → P (part_of p.source p.below))
+      → UsesAre P (row_in (groupings_of set) e)
+  grouping_are P e all = subst (UsesAre P) (sym (row_at held_forest e)) (by (statement_at set e) refl)
     where
-      named : ℕ → Type 0
-      named n = OnSome (number_named set n) good
-
-      refers_well : (p : Placed) → Contains (statements_of set) p → referring p ≡ Some d → named p.source.number
-      refers_well p at refers = subst (λ o. OnSome (option_map (λ (x : Source). x.number) (option_and_then (meaning set) o)) good) (sym (stands_at held_forest p at)) (meant (meaning set p) refl)
+      by : (o : Option Placed) → statement_at set e ≡ o → UsesAre P (option_map_or row_if o end)
+      by None found = tt
+      by (Some p) found = is (is_source_of grouping_word p.source) refl
         where
-          meant : (o : Option Source) → meaning set p ≡ o → OnSome (option_map (λ (x : Source). x.number) o) good
-          meant None e = tt
-          meant (Some x) e = holds x.number (edge_among (definition_edge set) (statements_of set) p d x.number at
-              (ap₂ (λ m r. option_and_then (λ (y : Source). option_map (λ (a : ℕ). record { source = a; target = y.number }) r) m) e refers))
+          at : Contains (statements_of set) p × (p.source.number ≡ e)
+          at = among_them held_forest e p found
 
-      by : (o : Option Placed) → statement_at set d ≡ o → UsesAre (λ u. named u.source.number) (option_map_or row_if o end)
-      by None e = tt
-      by (Some p) e = is (is_source_of grouping_word p.source) refl
-        where
-          at : Contains (statements_of set) p × (p.source.number ≡ d)
-          at = among_them held_forest d p e
-
-          is : (b : Bool) → is_source_of grouping_word p.source ≡ b → UsesAre (λ u. named u.source.number) (cond b (laid p.below) end)
+          is : (b : Bool) → is_source_of grouping_word p.source ≡ b → UsesAre P (cond b (laid p.below) end)
           is false other = tt
-          is true grouping = used_below named d ((p.source, p.below) ∷ p.ancestors) p.below
-              (ap (λ b. option_map (λ (a : Source × Forest Source). a.0.number) (cond b (Some (p.source, p.below)) (find (λ (a : Source × Forest Source). is_source_of grouping_word a.0) p.ancestors))) grouping
-              ∙ ap (λ n. Some n) at.1)
-              (λ q inside is_it refers. refers_well q (below_them [] set p q at.0 inside) refers)
+          is true grouping = laid_are P ((p.source, p.below) ∷ p.ancestors) p.below (λ q inside used around.
+              all q (below_them [] set p q at.0 inside) used (around ∙ (in_it p.source p.below p.ancestors grouping ∙ ap (λ n. Some n) at.1)))

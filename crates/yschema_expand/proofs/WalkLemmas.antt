@@ -3,14 +3,16 @@ use Rattle.std.proofs.Common.{◌≡◌, ℕ, zero, suc, ◌+◌, ◌-◌, Bool,
 use Rattle.std.proofs.lemmas.Bool.{and_parts}
 use Rattle.std.proofs.lemmas.List.{append-nil}
 use Rattle.yspec.specs.Forest.{Forest, node, end, size, join}
-use Rattle.yspec.specs.linking.Keyword.{Keyword, same_keyword, case_word, uses_word, refine_word}
+use Rattle.yspec.specs.linking.Keyword.{Keyword, same_keyword, augment_word, case_word, uses_word, refine_word}
 use Rattle.yspec.specs.linking.Source.{Source, is_source_of}
 use Rattle.yspec.specs.linking.Parts.{Part, defines_node, own_of, part_of, as_cases, case_for, within}
 use Rattle.yspec.specs.linking.Expansion.{is_uses, laid, owned_by, replaced, unfit_in, groupings_of, row_used, is_refine, refine_steps, changed_at}
-use Rattle.yspec.specs.linking.Rewriting.{all_uses, ends_within}
+use Rattle.yspec.specs.linking.Augments.{Augment, augments_in}
+use Rattle.yspec.specs.linking.Rewriting.{all_uses}
 use Rattle.yspec.specs.schema.Breaks.{Break, broken, when, least_from}
 use Rattle.yspec.proofs.SchemaProofs.LeastLemmas.{least_of_both}
-use Rattle.yspec_wide.specs.Language.{Language}
+use Rattle.yspec_wide.specs.Language.{Language, core, rfc}
+use Rattle.yspec_wide.specs.Sources.{is_augment_in}
 use Rattle.ybase_preorder.specs.Layout.{Place, places, opened, closed}
 use Rattle.ybase_preorder.specs.Layout.{numbered_by, forest_of}
 use Rattle.ybase_preorder.specs.Layout as layout
@@ -26,16 +28,19 @@ use Rattle.yschema_expand.specs.declared.expanding.Made.{Made}
 use Rattle.yschema_expand.specs.NodeView.{numbered_part, part_view}
 use Rattle.yschema_expand.specs.TableView.{slots_of, parts_in}
 use Rattle.yspec.proofs.LinkingProofs.KeywordLemmas.{same_is}
-use Rattle.yspec_wide.specs.Expansion.{conditioned, stands_for_in, unfit_for_in, is_fit_in, overridden_in, after_refine_in, refined_in, refine_breaks_in}
-use Rattle.yschema_expand.specs.Tasks.{changed_by}
-use Rattle.yschema_expand.specs.Walk.{chosen, is_laid, nodes_for, breaks_for, AllEnd, Adds, AddsParts}
+use Rattle.yspec_wide.specs.Expansion.{conditioned, stands_for_in, unfit_for_in, is_fit_in, overridden_in, after_refine_in, refined_in, refine_breaks_in, extended_by, inner_augments, inner_breaks}
+use Rattle.yschema_expand.specs.Walk.{all_inner, chosen, ends_within_in, is_laid, nodes_for, breaks_for, AllEnd, Adds, AddsParts, Changes}
+
+-- what defines nodes is no statement of another kind
+other_word : (k : Keyword) → defines_node k ≡ false → (s : Source) → defines_node s.keyword ≡ true → is_source_of k s ≡ false
+other_word k none s stands = by (same_keyword k s.keyword) refl
+  where
+    by : (b : Bool) → same_keyword k s.keyword ≡ b → b ≡ false
+    by false e = refl
+    by true e = let same : k ≡ s.keyword = same_is k s.keyword e in let clash : false ≡ true = sym none ∙ (ap defines_node same ∙ stands) in absurd cc
 
 no_refine : (s : Source) → defines_node s.keyword ≡ true → is_refine s ≡ false
-no_refine s stands = by (same_keyword refine_word s.keyword) refl
-  where
-    by : (b : Bool) → same_keyword refine_word s.keyword ≡ b → b ≡ false
-    by false e = refl
-    by true e = let same : refine_word ≡ s.keyword = same_is refine_word s.keyword e in let clash : false ≡ true = ap defines_node same ∙ stands in absurd cc
+no_refine s stands = other_word refine_word refl s stands
 
 -- ---- rows in two
 
@@ -81,7 +86,7 @@ as_cases-join (node p below after) g = by (same_keyword case_word p.source.keywo
     by true h = ap (node p below) h
     by false h = ap (node (case_for p) (node p below end)) h
 
-chosen-join : (c : Bool) (f g : Forest Part) → chosen c (join f g) ≡ join (chosen c f) (chosen c g)
+pub chosen-join : (c : Bool) (f g : Forest Part) → chosen c (join f g) ≡ join (chosen c f) (chosen c g)
 chosen-join true f g = as_cases-join f g
 chosen-join false f g = refl
 
@@ -304,25 +309,74 @@ module _ (language : Language) (modules : Forest Source) (owner depth : ℕ) whe
         one.1 ∙ ap (least_from (seen old.told)) (sym (breaks_node p below other)),
       )
 
+-- nodes that were added become others
+pub adds_changed : (parent : Option ℕ) (first : ℕ) (f g : Forest Part) (bs cs : List Break) (old full new : Made) → first ≡ length (slots_of old.table)
+    → Adds parent f bs old full → Changes first f g cs full new → Adds parent g (bs ++ cs) old new
+adds_changed parent first f g bs cs old full new count added changes =
+    let long : length (parts_in old.table) ≡ first =
+    length-seen numbered_part 0 (layout.laid (slots_of old.table)) ∙ (length-laid (slots_of old.table) ∙ sym count) in
+    let done = changes (parts_in old.table) parent long (added.0 ∙ ap (λ n. parts_in old.table ++ places parent n f) (sym count)) in (
+      done.0 ∙ ap (λ n. parts_in old.table ++ places parent n g) count,
+      done.1 ∙ (ap (λ o. least_from o cs) added.1 ∙ sym (least_of_both (seen old.told) bs cs)),
+    )
+
+-- and so once more
+pub changes_both : (first : ℕ) (f g h : Forest Part) (bs cs : List Break) (a b c : Made) → Changes first f g bs a b → Changes first g h cs b c
+    → Changes first f h (bs ++ cs) a c
+changes_both first f g h bs cs a b c one two = λ earlier parent count at.
+    let before = one earlier parent count at in
+    let after = two earlier parent count before.0 in
+    (after.0, after.1 ∙ (ap (λ o. least_from o cs) before.1 ∙ sym (least_of_both (seen a.told) bs cs)))
+
 -- ---- and no `uses` leads over too many
 
-module _ (modules : Forest Source) (owner depth : ℕ) where
-  pub ends_join : (f g : Forest Part) → AllEnd modules depth (join f g) → AllEnd modules depth f × AllEnd modules depth g
-  ends_join = all_join (ends_within modules (groupings_of modules) depth)
+module _ (language : Language) (modules : Forest Source) (depth : ℕ) where
+  abbrev ends : Part → Bool
+  ends = ends_within_in language modules (groupings_of modules) depth
 
-  pub ends_node : (p : Part) (below : Forest Part) → is_uses p ≡ false → AllEnd modules depth (node p below end) → AllEnd modules depth below
+  pub ends_join : (f g : Forest Part) → AllEnd language modules depth (join f g) → AllEnd language modules depth f × AllEnd language modules depth g
+  ends_join = all_join ends
+
+  pub ends_node : (p : Part) (below : Forest Part) → is_uses p ≡ false → AllEnd language modules depth (node p below end) → AllEnd language modules depth below
   unfolding all_uses
   ends_node p below other all =
-      let test = ends_within modules (groupings_of modules) depth in
-      (and_parts (all_uses test below) true (sym (ap (λ b. cond b (test p) (all_uses test below) && true) other) ∙ all)).0
+      (and_parts (all_uses ends below) true (sym (ap (λ b. cond b (ends p) (all_uses ends below) && true) other) ∙ all)).0
 
-  pub ends_uses : (p : Part) → is_uses p ≡ true → AllEnd modules depth (node p end end) → ends_within modules (groupings_of modules) depth p ≡ true
+  pub ends_uses : (p : Part) → is_uses p ≡ true → AllEnd language modules depth (node p end end) → ends_within_in language modules (groupings_of modules) depth p ≡ true
   unfolding all_uses
-  ends_uses p is all =
-      let test = ends_within modules (groupings_of modules) depth in
-      (and_parts (test p) true (sym (ap (λ b. cond b (test p) true && true) is) ∙ all)).0
+  ends_uses p is all = (and_parts (ends p) true (sym (ap (λ b. cond b (ends p) true && true) is) ∙ all)).0
 
 -- ---- what a `uses` stands for
+
+own_augments_in : (below : Forest Source) → augments_in (own_of below) ≡ augments_in below
+own_augments_in end = refl
+own_augments_in (node s given after) = by (defines_node s.keyword) refl (own_augments_in after)
+  where
+    with_it : Bool → List Augment → List Augment
+    with_it b others = cond b (record { source = s; given = given } ∷ others) others
+
+    by : (d : Bool) → defines_node s.keyword ≡ d → augments_in (own_of after) ≡ augments_in after
+        → augments_in (cond d (own_of after) (node s given (own_of after))) ≡ with_it (is_source_of augment_word s) (augments_in after)
+    by true is rest = rest ∙ sym (ap (λ b. with_it b (augments_in after)) (other_word augment_word refl s is))
+    by false is rest = ap (with_it (is_source_of augment_word s)) rest
+
+-- its own statements hold all its augments
+pub own_augments : (language : Language) (below : Forest Source) → inner_augments language (own_of below) ≡ inner_augments language below
+own_augments core below = refl
+own_augments (rfc wide) below = own_augments_in below
+
+-- the first of a row, and another one
+pub first_inner : (language : Language) (s : Source) (below after : Forest Source) → is_augment_in language s ≡ true
+    → inner_augments language (node s below after) ≡ record { source = s; given = below } ∷ inner_augments language after
+first_inner core s below after is = absurd cc
+first_inner (rfc wide) s below after is =
+    let a : Augment = record { source = s; given = below } in ap (λ b. cond b (a ∷ augments_in after) (augments_in after)) is
+
+pub other_inner : (language : Language) (s : Source) (below after : Forest Source) → is_augment_in language s ≡ false
+    → inner_augments language (node s below after) ≡ inner_augments language after
+other_inner core s below after is = refl
+other_inner (rfc wide) s below after is =
+    let a : Augment = record { source = s; given = below } in ap (λ b. cond b (a ∷ augments_in after) (augments_in after)) is
 
 module _ (language : Language) (modules : Forest Source) (owner : ℕ) where
   own_refined : (below : Forest Source) (f : Forest Part) → refined_in language modules owner (own_of below) f ≡ refined_in language modules owner below f
@@ -355,30 +409,62 @@ module _ (language : Language) (modules : Forest Source) (owner : ℕ) where
     abbrev inner : ℕ → Forest Part
     inner depth = nodes_for language modules owner depth (row_used modules (groupings_of modules) u)
 
+    abbrev meant : ℕ → Part → Forest Part
+    meant depth = stands_for_in language modules (groupings_of modules) owner depth
+
+    abbrev told : ℕ → Part → List Break
+    told depth = unfit_for_in language modules (groupings_of modules) owner depth
+
+    -- its nodes once they are refined
+    abbrev refined : ℕ → Forest Part
+    refined depth = refined_in language modules owner below (inner depth)
+
+    abbrev extended : ℕ → Forest Part
+    extended depth = extended_by language (meant depth) modules owner (inner_augments language below) (refined depth)
+
+    abbrev told_inside : ℕ → List Break
+    told_inside depth = inner_breaks language (told depth) (meant depth) modules owner (inner_augments language below) (refined depth)
+        ++ refine_breaks_in language modules owner below (inner depth)
+
+    abbrev row : Forest Part
+    row = row_used modules (groupings_of modules) u
+
     pub stands_so : (depth : ℕ) → (depth ≡ 0 → ⊥)
-        → stands_for_in language modules (groupings_of modules) owner depth u ≡ changed_by language modules owner below (inner (depth - 1))
+        → stands_for_in language modules (groupings_of modules) owner depth u ≡ conditioned language (own_of below) (extended (depth - 1))
     unfolding stands_for_in
     stands_so zero some = absurd (some refl)
     stands_so (suc depth) some =
         let less : suc depth - 1 ≡ depth = omega arith in
-        ap (conditioned language u.own) (own_refined below (inner depth)) ∙ ap (λ n. changed_by language modules owner below (inner n)) (sym less)
+        ap₂ (λ those f. conditioned language u.own (extended_by language (meant depth) modules owner those f)) (own_augments language below) (own_refined below (inner depth))
+        ∙ ap (λ n. conditioned language u.own (extended n)) (sym less)
 
-    pub unfit_so : (depth : ℕ) → (depth ≡ 0 → ⊥) → unfit_for_in language modules (groupings_of modules) owner depth u
-        ≡ breaks_for language modules owner (depth - 1) (row_used modules (groupings_of modules) u) ++ refine_breaks_in language modules owner below (inner (depth - 1))
+    pub unfit_so : (depth : ℕ) → (depth ≡ 0 → ⊥)
+        → unfit_for_in language modules (groupings_of modules) owner depth u ≡ breaks_for language modules owner (depth - 1) row ++ told_inside (depth - 1)
     unfolding unfit_for_in
     unfit_so zero some = absurd (some refl)
     unfit_so (suc depth) some =
         let less : suc depth - 1 ≡ depth = omega arith in
-        ap (λ bs. breaks_for language modules owner depth (row_used modules (groupings_of modules) u) ++ bs) (own_told below (inner depth))
-        ∙ ap (λ n. breaks_for language modules owner n (row_used modules (groupings_of modules) u) ++ refine_breaks_in language modules owner below (inner n)) (sym less)
+        let inside : inner_breaks language (told depth) (meant depth) modules owner (inner_augments language u.own) (refined_in language modules owner u.own (inner depth))
+        ≡ inner_breaks language (told depth) (meant depth) modules owner (inner_augments language below) (refined depth) =
+        ap₂ (λ those f. inner_breaks language (told depth) (meant depth) modules owner those f) (own_augments language below) (own_refined below (inner depth)) in
+        ap (λ bs. breaks_for language modules owner depth row ++ bs) (ap₂ (λ xs ys. xs ++ ys) inside (own_told below (inner depth)))
+        ∙ ap (λ n. breaks_for language modules owner n row ++ told_inside n) (sym less)
 
-pub ends_so : (modules : Forest Source) (u : Part) (depth : ℕ) → ends_within modules (groupings_of modules) depth u ≡ true
-    → (depth ≡ 0 → ⊥) × AllEnd modules (depth - 1) (row_used modules (groupings_of modules) u)
-unfolding ends_within
-ends_so modules u zero ends = absurd cc
-ends_so modules u (suc depth) ends =
+pub ends_so : (language : Language) (modules : Forest Source) (s : Source) (below : Forest Source) (depth : ℕ)
+    → ends_within_in language modules (groupings_of modules) depth (part_of s below) ≡ true
+    → (depth ≡ 0 → ⊥) × AllEnd language modules (depth - 1) (row_used modules (groupings_of modules) (part_of s below))
+    × (all_inner (ends_within_in language modules (groupings_of modules) (depth - 1)) (inner_augments language below) ≡ true)
+unfolding ends_within_in
+ends_so language modules s below zero ends = absurd cc
+ends_so language modules s below (suc depth) ends =
+    let u = part_of s below in
     let less : suc depth - 1 ≡ depth = omega arith in
-    ((λ none. absurd (omega (arith, none))), subst (λ n. AllEnd modules n (row_used modules (groupings_of modules) u)) (sym less) ends)
+    let both = and_parts (all_uses (ends_within_in language modules (groupings_of modules) depth) (row_used modules (groupings_of modules) u))
+    (all_inner (ends_within_in language modules (groupings_of modules) depth) (inner_augments language u.own)) ends in (
+      λ none. absurd (omega (arith, none)),
+      subst (λ n. AllEnd language modules n (row_used modules (groupings_of modules) u)) (sym less) both.0,
+      ap₂ (λ n those. all_inner (ends_within_in language modules (groupings_of modules) n) those) less (sym (own_augments language below)) ∙ both.1,
+    )
 
 pub all_pass : (test : Part → Bool) → ((u : Part) → test u ≡ true) → (f : Forest Part) → all_uses test f ≡ true
 unfolding all_uses

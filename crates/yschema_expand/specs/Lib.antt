@@ -11,3 +11,6 @@ pub mod Knowing
 pub mod Indexing
 pub mod Tasks
 pub mod Turns
+pub mod Taking
+pub mod Hanging
+pub mod TablesHung

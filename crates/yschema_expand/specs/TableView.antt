@@ -10,7 +10,7 @@ use Rattle.ybase_preorder.specs.Layout.{Place, forest_of, laid, numbered_by, see
 use Rattle.ybase_preorder.specs.declared.slot.Slot.{Slot}
 use Rattle.yschema_expand.specs.declared.nodes.ExpandedNode.{ExpandedNode}
 use Rattle.yschema_expand.specs.declared.table.NodeTable.{NodeTable}
-use Rattle.yschema_expand.specs.NodeView.{numbered_part}
+use Rattle.yschema_expand.specs.NodeView.{numbered_part, part_view}
 
 abbrev pub slots_of : NodeTable → List (Slot ExpandedNode)
 slots_of t = t.slots.items
@@ -18,6 +18,13 @@ slots_of t = t.slots.items
 -- the parts as they lie in a table
 abbrev pub parts_in : NodeTable → List (Place Part)
 parts_in t = seen numbered_part 0 (laid (slots_of t))
+
+-- a part as it lies in a slot, and some in slots; no number says anything of them
+abbrev pub lying_slot : Slot ExpandedNode → Place Part
+lying_slot r = record { parent = r.parent; label = part_view r.label; below = r.below }
+
+abbrev pub lying : List (Slot ExpandedNode) → List (Place Part)
+lying slots = seen numbered_part 0 (laid slots)
 
 -- the forest of the parts in a table
 abbrev pub nodes_in : NodeTable → Forest Part

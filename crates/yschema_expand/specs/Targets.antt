@@ -3,10 +3,11 @@ use Rattle.std.specs.Prelude.{ℕ, suc, ◌+◌, Bool, List, [], ◌∷◌, Opti
 use Rattle.yspec.specs.Forest.{Forest, end, node, size}
 use Rattle.yspec.specs.linking.Source.{Source}
 use Rattle.yspec.specs.linking.Parts.{Part}
+use Rattle.yspec.specs.linking.Augments.{Augment}
 use Rattle.yspec.specs.linking.Prefixes.{NodeName}
 use Rattle.yspec.specs.linking.Expansion.{is_step, refine_steps}
 use Rattle.yspec_wide.specs.Language.{Language}
-use Rattle.yspec_wide.specs.Expansion.{may_bear_in}
+use Rattle.yspec_wide.specs.Expansion.{may_bear_in, may_take_in}
 use Rattle.ybase_preorder.specs.View.{row_by, label_by}
 use Rattle.ybase_preorder.specs.declared.siblings.Node.{Node}
 use Rattle.yschema_expand.specs.declared.nodes.ExpandedNode.{ExpandedNode}
@@ -46,3 +47,12 @@ fit_number language given found =
 abbrev pub target_in : Language → Forest Source → ℕ → Source → Forest Source → ℕ → Forest Part → Option ℕ
 target_in language modules owner s given number f =
     fit_number language given (found_at (refine_steps modules owner s) number f)
+
+-- the number of the node to which an augment below a `uses` leads, where that may take what it adds
+abbrev pub taking_number : Language → Forest Source → Augment → Option Found → Option ℕ
+taking_number language modules a found =
+    option_and_then (λ (x : Found). if may_take_in language modules a x.part then Some x.number else None) found
+
+abbrev pub inner_target : Language → Forest Source → ℕ → Augment → ℕ → Forest Part → Option ℕ
+inner_target language modules owner a number f =
+    taking_number language modules a (found_at (refine_steps modules owner a.source) number f)

@@ -1,14 +1,16 @@
 -- What comes of the statements of a row where each `uses` is replaced.
-use Rattle.std.specs.Prelude.{◌≡◌, ◌++◌, ◌||◌, ℕ, Bool, true, List, length, Option, if◌then◌else◌}
+use Rattle.std.specs.Prelude.{◌≡◌, ◌++◌, ◌&&◌, ◌||◌, ℕ, zero, suc, Bool, true, false, List, length, Option, if◌then◌else◌}
+use Rattle.std.specs.List.{list_all}
 use Rattle.yspec.specs.Forest.{Forest}
 use Rattle.yspec.specs.linking.Keyword.{uses_word}
 use Rattle.yspec.specs.linking.Source.{Source, is_source_of}
 use Rattle.yspec.specs.linking.Parts.{Part, as_cases, defines_node}
-use Rattle.yspec.specs.linking.Expansion.{groupings_of, replaced, unfit_in}
-use Rattle.yspec.specs.linking.Rewriting.{all_uses, ends_within}
+use Rattle.yspec.specs.linking.Augments.{Augment}
+use Rattle.yspec.specs.linking.Expansion.{Grouping, groupings_of, laid, replaced, row_used, unfit_in}
+use Rattle.yspec.specs.linking.Rewriting.{all_uses}
 use Rattle.yspec.specs.schema.Breaks.{Break, least_from}
 use Rattle.yspec_wide.specs.Language.{Language}
-use Rattle.yspec_wide.specs.Expansion.{stands_for_in, unfit_for_in}
+use Rattle.yspec_wide.specs.Expansion.{inner_augments, stands_for_in, unfit_for_in}
 use Rattle.ybase_preorder.specs.Layout.{Place, places}
 use Rattle.ylink_grammar.specs.BreakView.{seen}
 use Rattle.yschema_expand.specs.TableView.{slots_of, parts_in}
@@ -32,9 +34,19 @@ abbrev pub breaks_for : Language → Forest Source → ℕ → ℕ → Forest Pa
 breaks_for language modules owner depth parts =
     unfit_in (unfit_for_in language modules (groupings_of modules) owner depth) parts
 
+-- whether what the augments of a `uses` use passes a test, each
+abbrev pub all_inner : (Part → Bool) → List Augment → Bool
+all_inner test augments = list_all (λ (a : Augment). all_uses test (laid a.given)) augments
+
+-- whether a `uses` leads on, by its grouping and its augments, over fewer others than a number
+unfoldable pub ends_within_in : Language → Forest Source → List Grouping → ℕ → Part → Bool
+ends_within_in language modules groupings zero u = false
+ends_within_in language modules groupings (suc depth) u = all_uses (ends_within_in language modules groupings depth) (row_used modules groupings u)
+    && all_inner (ends_within_in language modules groupings depth) (inner_augments language u.own)
+
 -- no `uses` leads over more
-abbrev pub AllEnd : Forest Source → ℕ → Forest Part → Type 0
-AllEnd modules depth parts = all_uses (ends_within modules (groupings_of modules) depth) parts ≡ true
+abbrev pub AllEnd : Language → Forest Source → ℕ → Forest Part → Type 0
+AllEnd language modules depth parts = all_uses (ends_within_in language modules (groupings_of modules) depth) parts ≡ true
 
 -- ---- what a step adds
 

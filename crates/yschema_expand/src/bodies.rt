@@ -39,7 +39,7 @@ fn add_asked<'a, 't>(
     requires given { are_kept_right (language_of context.now.named.now) (row_by source_view given) ≡ true }
     requires kept { are_kept_right (language_of context.now.named.now) (row_by source_view statement.children) ≡ true }
     requires laid { is_laid (label_by source_view statement) ≡ true }
-    requires ends { AllEnd (modules_of context.now.named.now) place.depth
+    requires ends { AllEnd (language_of context.now.named.now) (modules_of context.now.named.now) place.depth
         (laid (node (label_by source_view statement) (row_by source_view statement.children) end)) }
     ensures { let l = language_of context.now.named.now in
         let m = modules_of context.now.named.now in
@@ -70,7 +70,7 @@ fn add_cased<'a, 't>(
     requires known { Knows context.now.groupings.now (language_of context.now.named.now) (modules_of context.now.named.now) }
     requires given { are_kept_right (language_of context.now.named.now) (row_by source_view given) ≡ true }
     requires kept { are_kept_right (language_of context.now.named.now) (row_by source_view statement.children) ≡ true }
-    requires ends { AllEnd (modules_of context.now.named.now) place.depth
+    requires ends { AllEnd (language_of context.now.named.now) (modules_of context.now.named.now) place.depth
         (laid (node (label_by source_view statement) (row_by source_view statement.children) end)) }
     ensures { let l = language_of context.now.named.now in
         let m = modules_of context.now.named.now in
@@ -105,6 +105,8 @@ fn add_body<'a, 't>(
 ) -> Result<(), AllocError>
     requires known { Knows context.now.groupings.now (language_of context.now.named.now) (modules_of context.now.named.now) }
     requires kept { are_kept_right (language_of context.now.named.now) (row_by source_view augment.children) ≡ true }
+    requires ends { let m = modules_of context.now.named.now in
+        AllEnd (language_of context.now.named.now) m (suc (size m)) (laid (row_by source_view augment.children)) }
     ensures { let l = language_of context.now.named.now in
         let m = modules_of context.now.named.now in
         let a = augment_view augment.entry in

@@ -3,9 +3,12 @@
 
 mod augments;
 mod bodies;
+mod bringing;
 mod counting;
 mod expanding;
+mod extending;
 mod groupings;
+mod hanging;
 mod indexing;
 mod laying;
 mod named;
@@ -13,6 +16,7 @@ mod nodes;
 mod refining;
 mod stating;
 mod table;
+mod taking;
 mod target;
 mod walking;
 
@@ -23,3 +27,4 @@ pub use groupings::Groupings;
 pub use named::Named;
 pub use nodes::ExpandedNode;
 pub use table::NodeTable;
+pub use taking::holds_by;

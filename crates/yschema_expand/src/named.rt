@@ -1,6 +1,7 @@
 //! Statements with what the names in them mean.
 
 ghost use Rattle.std.specs.Prelude.{◌≡◌, true};
+ghost use Rattle.ylink_features.specs.VersionView.{AreVersionsOf};
 ghost use Rattle.ylink_grammar.specs.LanguageView.{language_view};
 ghost use Rattle.ylink_grammar.specs.LinkView.{view};
 ghost use Rattle.ylink_names.specs.MeaningView.{AreMeanings};
@@ -9,17 +10,21 @@ ghost use Rattle.yschema_given.specs.Keeping.{are_kept_right};
 
 use ybase_preorder::Siblings;
 use ybase_words::Keyword;
+use ylink_features::Versions;
 use ylink_grammar::{Language, Source, Sources};
 use ylink_names::{Prefixes, meaning_at};
 
-/// The statements of a set of modules in a language, with what prefixes stand for and which definition each statement names.
+/// The statements of a set of modules in a language, with what prefixes stand for, the versions of the modules, and which
+/// definition each statement names.
 #[derive(Drop)]
 pub struct Named<'a, 't> {
     language: &'a Language,
     sources: &'a Sources<'t>,
     prefixes: &'a Prefixes<'t>,
+    versions: &'a Versions,
     meanings: &'a [Option<u32>],
     ghost prefixed: { IsOf prefixes.now (view sources.now) },
+    ghost dated: { AreVersionsOf versions.now (language_view language.now) (view sources.now) },
     ghost meant: { AreMeanings meanings.now (view sources.now) },
     ghost kept: { are_kept_right (language_view language.now) (view sources.now) ≡ true },
 }
@@ -30,11 +35,13 @@ impl<'a, 't> Named<'a, 't> {
     ghost use Rattle.yspec.specs.linking.DerivedTypes.{number_named};
     ghost use Rattle.yspec.specs.linking.Expansion.{groupings_of, laid, row_in};
     ghost use Rattle.ybase_preorder.specs.View.{row_by, row_view};
+    ghost use Rattle.ylink_features.specs.VersionView.{AreVersionsOf};
     ghost use Rattle.ylink_grammar.specs.LanguageView.{language_view};
     ghost use Rattle.ylink_grammar.specs.LinkView.{view};
     ghost use Rattle.ylink_grammar.specs.SourceView.{source_view};
     ghost use Rattle.ylink_names.specs.MeaningView.{AreMeanings};
     ghost use Rattle.ylink_names.specs.PrefixView.{IsOf};
+    ghost use Rattle.yschema_expand.specs.Counting.{grouping_row};
     ghost use Rattle.yschema_expand.specs.NamedView.{language_of, modules_of, row_named, row_or_none};
     ghost use Rattle.yschema_given.specs.Keeping.{are_kept_right};
 
@@ -43,9 +50,11 @@ impl<'a, 't> Named<'a, 't> {
         language: &'a Language,
         sources: &'a Sources<'t>,
         prefixes: &'a Prefixes<'t>,
+        versions: &'a Versions,
         meanings: &'a [Option<u32>],
     ) -> Named<'a, 't>
         requires prefixed { IsOf prefixes.now (view sources.now) }
+        requires dated { AreVersionsOf versions.now (language_view language.now) (view sources.now) }
         requires meant { AreMeanings meanings.now (view sources.now) }
         requires kept { are_kept_right (language_view language.now) (view sources.now) ≡ true }
         ensures language { language_of result ≡ language_view language.entry.now }
@@ -55,6 +64,7 @@ impl<'a, 't> Named<'a, 't> {
             language,
             sources,
             prefixes,
+            versions,
             meanings,
         }
     }
@@ -80,6 +90,13 @@ impl<'a, 't> Named<'a, 't> {
         self.prefixes
     }
 
+    /// The versions of the modules.
+    pub fn versions(&self) -> &'a Versions
+        ensures { AreVersionsOf result.now (language_of self.now) (modules_of self.now) }
+    {
+        self.versions
+    }
+
     /// The number of the definition that the statement of a number names.
     pub(crate) fn meaning(&self, number: u32) -> Option<u32>
         ensures { result ≡ number_named (modules_of self.now) number }
@@ -89,6 +106,7 @@ impl<'a, 't> Named<'a, 't> {
 
     /// The row of the grouping of a number; none of any other statement.
     pub(crate) fn grouping(&self, number: usize) -> Option<Siblings<'a, Source<'t>>>
+        ensures stated { row_or_none result ≡ grouping_row (modules_of self.now) number }
         ensures row { laid (row_or_none result) ≡ row_in (groupings_of (modules_of self.now)) number }
         ensures within { IfSome result
             (λ row. size (row_view row) ≤ size (modules_of self.now)) }

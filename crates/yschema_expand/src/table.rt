@@ -151,7 +151,7 @@ impl<'a, 't> NodeTable<'a, 't> {
     }
 
     /// How many nodes stand below that of a number.
-    fn below(&self, number: usize) -> Option<usize>
+    pub(crate) fn below(&self, number: usize) -> Option<usize>
         ensures { result ≡ option_map (λ r. r.below) (slice_get (slots_of self.now) number) }
     {
         match self.slots.get(number) {

@@ -1,6 +1,6 @@
 //! The nodes to which the paths of refines lead (RFC 7950, 6.5 and 7.13.2).
 
-ghost use Rattle.std.specs.Prelude.{◌≡◌, ◌+◌, ◌++◌, ℕ, List, Option, IfSome, length, map, option_map};
+ghost use Rattle.std.specs.Prelude.{◌≡◌, ◌≤◌, ◌<◌, ◌+◌, ◌++◌, ℕ, List, Option, IfSome, false, is_some, length, map, option_map};
 ghost use Rattle.yspec.specs.Forest.{Forest};
 ghost use Rattle.yspec.specs.linking.Parts.{Part};
 ghost use Rattle.yspec.specs.linking.Source as sources;
@@ -12,7 +12,7 @@ ghost use Rattle.ylink_arguments.specs.NameView.{names_view};
 ghost use Rattle.ylink_names.specs.PrefixView.{IsOf, node_name_view};
 ghost use Rattle.yschema_expand.specs.Indexing.{Indexes};
 ghost use Rattle.yschema_expand.specs.NodeView.{numbered_part, part_view};
-ghost use Rattle.yschema_expand.specs.TableView.{parts_in};
+ghost use Rattle.yschema_expand.specs.TableView.{parts_in, slots_of};
 ghost use Rattle.yschema_expand.specs.Targets.{node_seen, found_in, found_at};
 
 use crate::indexing::TargetIndex;
@@ -90,12 +90,14 @@ pub(crate) fn number_at(
     nodes: LastNodes<'_, '_, '_>,
 ) -> Option<u32>
     requires { IfSome nodes.index (λ x. Indexes nodes.first x.now (parts_in nodes.table.now)) }
-    ensures { let first = nodes.entry.first in
+    ensures found { let first = nodes.entry.first in
         (modules : Forest sources.Source) (earlier : List (Place Part)) (parent : Option ℕ) (f : Forest Part)
         → IsOf prefixes.now modules → length earlier ≡ first
         → parts_in nodes.entry.table.now ≡ earlier ++ places parent first f
         → result ≡ option_map (λ x. x.number)
         (found_at (map (spec.node_name modules home owner) (names_view path.now)) first f) }
+    ensures among { (modules : Forest sources.Source) → IsOf prefixes.now modules → is_some nodes.entry.index ≡ false
+        → IfSome result (λ n. (nodes.entry.first ≤ n) × (n < length (slots_of nodes.entry.table.now))) }
 {
     match nodes.index {
         Some(index) => index.number_at(prefixes, home, owner, path),

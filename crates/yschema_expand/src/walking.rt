@@ -1,23 +1,25 @@
 //! How nodes are made, step by step: what is still to be done stands in a list, since groupings may lead through as many
 //! others as there are statements.
 
-ghost use Rattle.std.specs.Prelude.{◌≡◌, ◌+◌, OnOk, true, false};
+ghost use Rattle.std.specs.Prelude.{◌≡◌, ◌+◌, [], OnOk, true, false};
 ghost use Rattle.yspec.specs.Forest.{Forest, end, node, size};
 ghost use Rattle.yspec.specs.linking.Expansion.{groupings_of, is_uses, laid};
-ghost use Rattle.yspec.specs.linking.Parts.{case_for, part_of, within, Part};
-ghost use Rattle.yspec.specs.linking.Rewriting.{ends_within};
-ghost use Rattle.yspec_wide.specs.Expansion.{refine_breaks_in};
+ghost use Rattle.yspec.specs.linking.Parts.{case_for, own_of, part_of, within, Part};
+ghost use Rattle.yspec_wide.specs.Expansion.{conditioned, refined_in, refine_breaks_in};
 ghost use Rattle.ybase_preorder.specs.View.{row_by, row_view, label_by};
 ghost use Rattle.ylink_grammar.specs.SourceView.{source_view};
 ghost use Rattle.yschema_expand.specs.NamedView.{language_of, modules_of, row_named};
-ghost use Rattle.yschema_expand.specs.Walk.{chosen, is_laid, AddsParts, AllEnd, Changes};
+ghost use Rattle.yschema_expand.specs.Walk.{chosen, ends_within_in, is_laid, AddsParts, AllEnd, Changes};
 ghost use Rattle.yschema_expand.specs.Knowing.{Knows};
-ghost use Rattle.yschema_expand.specs.Tasks.{changed_by, toll, toll_of, Does, Leads, TaskEnds};
+ghost use Rattle.yschema_expand.specs.Tasks.{toll, toll_of, Does, Leads, TaskEnds};
 ghost use Rattle.yschema_expand.specs.Turns.{AllGood, Runs};
 ghost use Rattle.yschema_given.specs.Keeping.{are_kept_right};
 
+use crate::bringing::{Bringing, bring};
 use crate::expanding::{Context, Made, Place};
+use crate::extending::extend;
 use crate::groupings::least_of;
+use crate::hanging::Hanging;
 use crate::laying::{has_keyword, is_laid, is_single};
 use crate::nodes::ExpandedNode;
 use crate::refining::refine;
@@ -34,8 +36,16 @@ pub(crate) enum Task<'a, 't> {
     Add(Place, bool, Siblings<'a, Source<'t>>),
     /// To close the node of a number: all behind it stand below it.
     Close(u32),
-    /// To change, for a module, the nodes from that of a number on, as the `uses` for which they stand says.
+    /// To change, for a module, the nodes from that of a number on, as the refines of a `uses` say for which they stand.
     Change(usize, u32, Siblings<'a, Source<'t>>),
+    /// To add to the nodes from that of a number on what the augments among some statements of their `uses` add, one after another.
+    Extend(Place, u32, Siblings<'a, Source<'t>>),
+    /// To add what some statements of an augment define or use, its guards asked of each.
+    Bring(Bringing<'a, 't>, Siblings<'a, Source<'t>>),
+    /// To put the last nodes where their augment adds them, or to let them go.
+    Hang(Hanging),
+    /// To ask the guards of a row of the top ones among the nodes from that of a number on.
+    Guard(u32, Siblings<'a, Source<'t>>),
 }
 
 /// Adds the nodes that some statements define or use, with all below them; in a choice single ones stand for cases.
@@ -49,7 +59,7 @@ pub(crate) fn add_nodes<'a, 't>(
 ) -> Result<(), AllocError>
     requires known { Knows context.now.groupings.now (language_of context.now.named.now) (modules_of context.now.named.now) }
     requires kept { are_kept_right (language_of context.now.named.now) (row_by source_view statements) ≡ true }
-    requires ends { AllEnd (modules_of context.now.named.now) place.depth
+    requires ends { AllEnd (language_of context.now.named.now) (modules_of context.now.named.now) place.depth
         (chosen in_choice (laid (row_by source_view statements))) }
     ensures { OnOk result (AddsParts (language_of context.now.named.now) (modules_of context.now.named.now) place.parent place.owner place.depth
         (chosen in_choice (laid (row_by source_view statements.entry))) made.old made.new) }
@@ -70,7 +80,7 @@ pub(crate) fn add_one<'a, 't>(
     requires known { Knows context.now.groupings.now (language_of context.now.named.now) (modules_of context.now.named.now) }
     requires kept { are_kept_right (language_of context.now.named.now) (row_by source_view statement.children) ≡ true }
     requires laid { is_laid (label_by source_view statement) ≡ true }
-    requires ends { AllEnd (modules_of context.now.named.now) place.depth
+    requires ends { AllEnd (language_of context.now.named.now) (modules_of context.now.named.now) place.depth
         (laid (node (label_by source_view statement) (row_by source_view statement.children) end)) }
     ensures { OnOk result (AddsParts (language_of context.now.named.now) (modules_of context.now.named.now) place.parent place.owner place.depth
         (laid (node (label_by source_view statement.entry) (row_by source_view statement.entry.children) end)) made.old made.new) }
@@ -109,7 +119,7 @@ fn perform<'a, 't>(
     requires ends { TaskEnds (language_of context.now.named.now) (modules_of context.now.named.now) task }
     ensures { let l = language_of context.now.named.now in
         let m = modules_of context.now.named.now in
-        OnOk result (Leads l m (Does l m task.entry) (toll m task.entry) tasks.old.items tasks.new.items made.old made.new) }
+        OnOk result (Leads l m (Does l m task.entry) (toll l m task.entry) tasks.old.items tasks.new.items made.old made.new) }
 {
     match task {
         Task::Add(place, in_choice, statements) => {
@@ -122,11 +132,21 @@ fn perform<'a, 't>(
         Task::Change(owner, first, statements) => {
             change(alloc, context, owner, first, statements, made)
         }
+        Task::Extend(place, first, statements) => {
+            extend(alloc, context, place, first, statements, tasks, made)
+        }
+        Task::Bring(bringing, statements) => {
+            bring(alloc, context, bringing, statements, tasks, made)
+        }
+        Task::Hang(hanging) => {
+            made.table.hang(hanging);
+            Ok(())
+        }
+        Task::Guard(first, given) => ask(context, first, given, made),
     }
 }
 
-/// Changes, for a module, the nodes from that of a number on, as a `uses` says: its refines are applied, and its conditions are
-/// asked of the top ones.
+/// Applies, for a module, the refines of a `uses` to the nodes from that of a number on.
 fn change<'a, 't>(
     alloc: Global,
     context: &Context<'a, 't>,
@@ -139,16 +159,31 @@ fn change<'a, 't>(
     ensures { let l = language_of context.now.named.now in
         let m = modules_of context.now.named.now in
         let own = row_by source_view statements.entry in
-        (nodes : Forest Part) → OnOk result (Changes first nodes (changed_by l m owner own nodes)
+        (nodes : Forest Part) → OnOk result (Changes first nodes (refined_in l m owner own nodes)
         (refine_breaks_in l m owner own nodes) made.old made.new) }
 {
     let language = context.named.language();
     let prefixes = context.named.prefixes();
-    refine(alloc, language, prefixes, owner, first, statements, made)?;
-    if !bears_guard(language, statements) {
+    refine(alloc, language, prefixes, owner, first, statements, made)
+}
+
+/// Asks the guards of a row of the top ones among the nodes from that of a number on.
+fn ask<'a, 't>(
+    context: &Context<'a, 't>,
+    first: u32,
+    given: Siblings<'a, Source<'t>>,
+    made: &mut Made<'a, 't>,
+) -> Result<(), AllocError>
+    requires { are_kept_right (language_of context.now.named.now) (row_by source_view given) ≡ true }
+    ensures { let l = language_of context.now.named.now in
+        let own = row_by source_view given.entry in
+        (nodes : Forest Part) → OnOk result (Changes first nodes (conditioned l (own_of own) nodes) [] made.old made.new) }
+{
+    let language = context.named.language();
+    if !bears_guard(language, given) {
         return Ok(());
     }
-    made.table.condition_from(language, first, statements)
+    made.table.condition_from(language, first, given)
 }
 
 /// Adds what the first of some statements defines or uses, and leaves the others behind.
@@ -163,13 +198,13 @@ fn add_first<'a, 't>(
 ) -> Result<(), AllocError>
     requires known { Knows context.now.groupings.now (language_of context.now.named.now) (modules_of context.now.named.now) }
     requires kept { are_kept_right (language_of context.now.named.now) (row_by source_view statements) ≡ true }
-    requires ends { AllEnd (modules_of context.now.named.now) place.depth
+    requires ends { AllEnd (language_of context.now.named.now) (modules_of context.now.named.now) place.depth
         (chosen in_choice (laid (row_by source_view statements))) }
     ensures { let l = language_of context.now.named.now in
         let m = modules_of context.now.named.now in
         let parts = chosen in_choice (laid (row_by source_view statements.entry)) in
         OnOk result (Leads l m (AddsParts l m place.parent place.owner place.depth parts)
-        (toll_of m place.depth (size (row_view statements.entry)) parts)
+        (toll_of l m place.depth (size (row_view statements.entry)) parts)
         tasks.old.items tasks.new.items made.old made.new) }
 {
     let mut others = statements;
@@ -192,14 +227,14 @@ fn add_statement<'a, 't>(
 ) -> Result<(), AllocError>
     requires known { Knows context.now.groupings.now (language_of context.now.named.now) (modules_of context.now.named.now) }
     requires kept { are_kept_right (language_of context.now.named.now) (row_by source_view statement.children) ≡ true }
-    requires ends { AllEnd (modules_of context.now.named.now) place.depth (chosen in_choice
+    requires ends { AllEnd (language_of context.now.named.now) (modules_of context.now.named.now) place.depth (chosen in_choice
         (laid (node (label_by source_view statement) (row_by source_view statement.children) end))) }
     ensures { let l = language_of context.now.named.now in
         let m = modules_of context.now.named.now in
         let parts = chosen in_choice (laid (node (label_by source_view statement.entry)
         (row_by source_view statement.entry.children) end)) in
         OnOk result (Leads l m (AddsParts l m place.parent place.owner place.depth parts)
-        (toll_of m place.depth (size (row_view statement.entry.children)) parts)
+        (toll_of l m place.depth (size (row_view statement.entry.children)) parts)
         tasks.old.items tasks.new.items made.old made.new) }
 {
     if !is_laid(statement) {
@@ -223,7 +258,7 @@ fn add_case<'a, 't>(
     requires known { Knows context.now.groupings.now (language_of context.now.named.now) (modules_of context.now.named.now) }
     requires kept { are_kept_right (language_of context.now.named.now) (row_by source_view statement.children) ≡ true }
     requires laid { is_laid (label_by source_view statement) ≡ true }
-    requires ends { AllEnd (modules_of context.now.named.now) place.depth
+    requires ends { AllEnd (language_of context.now.named.now) (modules_of context.now.named.now) place.depth
         (laid (node (label_by source_view statement) (row_by source_view statement.children) end)) }
     ensures { let l = language_of context.now.named.now in
         let m = modules_of context.now.named.now in
@@ -231,7 +266,7 @@ fn add_case<'a, 't>(
         let below = row_by source_view statement.entry.children in
         let parts = node (case_for (part_of s below)) (laid (node s below end)) end in
         OnOk result (Leads l m (AddsParts l m place.parent place.owner place.depth parts)
-        (toll_of m place.depth (size (row_view statement.entry.children)) parts)
+        (toll_of l m place.depth (size (row_view statement.entry.children)) parts)
         tasks.old.items tasks.new.items made.old made.new) }
 {
     let label = ExpandedNode::new(alloc, statement, true, place.owner);
@@ -245,7 +280,7 @@ fn add_case<'a, 't>(
 }
 
 /// Adds what a statement defines or uses, whether or not it stands for a case.
-fn add_alone<'a, 't>(
+pub(crate) fn add_alone<'a, 't>(
     alloc: Global,
     context: &Context<'a, 't>,
     place: Place,
@@ -256,14 +291,14 @@ fn add_alone<'a, 't>(
     requires known { Knows context.now.groupings.now (language_of context.now.named.now) (modules_of context.now.named.now) }
     requires kept { are_kept_right (language_of context.now.named.now) (row_by source_view statement.children) ≡ true }
     requires laid { is_laid (label_by source_view statement) ≡ true }
-    requires ends { AllEnd (modules_of context.now.named.now) place.depth
+    requires ends { AllEnd (language_of context.now.named.now) (modules_of context.now.named.now) place.depth
         (laid (node (label_by source_view statement) (row_by source_view statement.children) end)) }
     ensures { let l = language_of context.now.named.now in
         let m = modules_of context.now.named.now in
         let parts = laid (node (label_by source_view statement.entry)
         (row_by source_view statement.entry.children) end) in
         OnOk result (Leads l m (AddsParts l m place.parent place.owner place.depth parts)
-        (toll_of m place.depth (size (row_view statement.entry.children)) parts)
+        (toll_of l m place.depth (size (row_view statement.entry.children)) parts)
         tasks.old.items tasks.new.items made.old made.new) }
 {
     if has_keyword(statement, Keyword::Uses) {
@@ -285,7 +320,7 @@ fn add_node<'a, 't>(
     requires node { is_uses (part_of (label_by source_view statement)
         (row_by source_view statement.children)) ≡ false }
     requires ends { let s = label_by source_view statement in
-        AllEnd (modules_of context.now.named.now) place.depth
+        AllEnd (language_of context.now.named.now) (modules_of context.now.named.now) place.depth
         (within s (laid (row_by source_view statement.children))) }
     ensures { let l = language_of context.now.named.now in
         let m = modules_of context.now.named.now in
@@ -293,7 +328,7 @@ fn add_node<'a, 't>(
         let below = row_by source_view statement.entry.children in
         let parts = node (part_of s below) (within s (laid below)) end in
         OnOk result (Leads l m (AddsParts l m place.parent place.owner place.depth parts)
-        (toll_of m place.depth (size (row_view statement.entry.children)) parts)
+        (toll_of l m place.depth (size (row_view statement.entry.children)) parts)
         tasks.old.items tasks.new.items made.old made.new) }
 {
     let in_choice = has_keyword(statement, Keyword::Choice);
@@ -308,7 +343,7 @@ fn add_node<'a, 't>(
     Ok(())
 }
 
-/// Leaves behind what a `uses` stands for: the nodes of its grouping, and then its refines.
+/// Leaves behind what a `uses` stands for: the nodes of its grouping, then its refines, its augments, and its guards.
 fn add_uses<'a, 't>(
     context: &Context<'a, 't>,
     place: Place,
@@ -321,14 +356,14 @@ fn add_uses<'a, 't>(
     requires uses { is_uses (part_of (label_by source_view uses)
         (row_by source_view uses.children)) ≡ true }
     requires ends { let m = modules_of context.now.named.now in
-        ends_within m (groupings_of m) place.depth (part_of (label_by source_view uses)
+        ends_within_in (language_of context.now.named.now) m (groupings_of m) place.depth (part_of (label_by source_view uses)
         (row_by source_view uses.children)) ≡ true }
     ensures { let l = language_of context.now.named.now in
         let m = modules_of context.now.named.now in
         let parts = node (part_of (label_by source_view uses.entry)
         (row_by source_view uses.entry.children)) end end in
         OnOk result (Leads l m (AddsParts l m place.parent place.owner place.depth parts)
-        (toll_of m place.depth (size (row_view uses.entry.children)) parts)
+        (toll_of l m place.depth (size (row_view uses.entry.children)) parts)
         tasks.old.items tasks.new.items made.old made.new) }
 {
     if place.depth == 0 {
@@ -339,7 +374,10 @@ fn add_uses<'a, 't>(
         ..place
     };
     let first = made.table.len();
-    tasks.push(Task::Change(place.owner, first, uses.children()))?;
+    let own = uses.children();
+    tasks.push(Task::Guard(first, own))?;
+    tasks.push(Task::Extend(inside, first, own))?;
+    tasks.push(Task::Change(place.owner, first, own))?;
     add_grouping(context, inside, uses.number(), tasks, made)
 }
 
@@ -353,12 +391,12 @@ fn add_grouping<'a, 't>(
     made: &mut Made<'a, 't>,
 ) -> Result<(), AllocError>
     requires known { Knows context.now.groupings.now (language_of context.now.named.now) (modules_of context.now.named.now) }
-    requires ends { AllEnd (modules_of context.now.named.now) place.depth
+    requires ends { AllEnd (language_of context.now.named.now) (modules_of context.now.named.now) place.depth
         (row_named (modules_of context.now.named.now) number) }
     ensures { let l = language_of context.now.named.now in
         let m = modules_of context.now.named.now in
         OnOk result (Leads l m (AddsParts l m place.parent place.owner place.depth (row_named m number))
-        (toll_of m place.depth (size m) (row_named m number) + 1)
+        (toll_of l m place.depth (size m) (row_named m number) + 1)
         tasks.old.items tasks.new.items made.old made.new) }
 {
     if context.groupings.is_without_nodes(context.named, number) {

@@ -227,7 +227,10 @@ pub fn reasons()
         ≡ failed 2 (codes "m.yang:3: C1\n  | key c;\n  key can't stand here.\n  A statement or a built-in type isn't known, may not stand there, or isn't read by this program. Correct its name, or move it; README says what of YANG is read.") }
     ensures of_a_rule { printed true (outcome (compile core (codes "m.yang" ∷ []))
         (Some (codes "module m {\n  yang-version 1.1; namespace n;\n  key c;\n}\n") ∷ []))
-        ≡ failed 2 (codes "m.yang:1: C2\n  | module m {\n  A statement has too many or too few substatements of a kind. Leave one of them, or add the one that must be there: a leaf needs a type, a module its namespace and prefix.") }
+        ≡ failed 2 (codes "m.yang:1: C2\n  | module m {\n  module lacks a prefix.\n  A statement has too many or too few substatements of a kind. Leave one of them, or add the one that must be there: a leaf needs a type, a module its namespace and prefix.") }
+    ensures of_an_argument { printed true (outcome (compile core (codes "m.yang" ∷ []))
+        (Some (codes "module m {\n  yang-version 1.1; namespace n; prefix m;\n  leaf c { type string; mandatory yes; }\n}\n") ∷ []))
+        ≡ failed 2 (codes "m.yang:3: C3\n  | leaf c { type string; mandatory yes; }\n  mandatory takes true or false, not \"yes\".\n  The argument of a statement is missing or not of its form. Write it as its statement wants it: an identifier, a number, true or false, a date, a path.") }
     ensures of_a_code { printed false (outcome (explain (codes "V10" ∷ [])) [])
         ≡ found 0 (codes "V10: Another item of a configuration leaf-list has the same value.\n  Told: the item.\n  To do: Take one of them out.\n  Source: RFC 7950, 7.7.\n") }
     ensures in_small_letters { printed false (outcome (explain (codes "v10" ∷ [])) [])

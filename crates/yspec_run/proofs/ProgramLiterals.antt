@@ -6,14 +6,20 @@ use Rattle.ysay_text.specs.Near.{is_near, nearest}
 use Rattle.ysay_text.specs.Sentence.{of_line}
 use Rattle.ysay_pattern.specs.Stop.{stop_from}
 use Rattle.ysay_pattern.specs.Said as patterns
+use Rattle.ysay_forms.specs.Said as forms
 use Rattle.ysay_names.specs.Keys as keys
 use Rattle.ysay_names.specs.Names as names
 use Rattle.ysay_names.specs.Prefixes as prefixes
+use Rattle.ysay_types.specs.Defaults as defaults
+use Rattle.ysay_types.specs.Restrictions as restrictions
+use Rattle.ysay_targets.specs.Targets as targets
 use Rattle.ysay_refusal.specs.Sentence.{said_of_refusal}
+use Rattle.ysay_refusals.specs.Lines.{said_of_others}
+use Rattle.ysay_refusals.specs.Remarks.{instance_remarks, item_remarks, member_remarks, node_remarks}
 use Rattle.ysay_repeated.specs.Repeated.{has_repeated, repeated_in}
 use Rattle.yspec_run.specs.Output.{outcome}
 use Rattle.yspec_run.specs.Unjudged.{outcome_said}
 
 unfoldable pub yprogram_on_literals : ⊤
-unfolding ywide_on_literals outcome outcome_said shown_line of_line stop_from patterns.of_line prefixes.of_line names.of_line keys.of_line is_near nearest said_of_refusal repeated_in has_repeated
+unfolding ywide_on_literals outcome outcome_said shown_line of_line stop_from patterns.of_line forms.of_line prefixes.of_line names.of_line keys.of_line restrictions.of_line restrictions.of_entry restrictions.of_name defaults.of_line targets.of_line is_near nearest said_of_refusal said_of_others instance_remarks item_remarks member_remarks node_remarks repeated_in has_repeated
 yprogram_on_literals = tt

@@ -14,12 +14,17 @@ use Rattle.yspec_wide.specs.Compiling.{compiled_in}
 use Rattle.ysay_text.specs.Line.{shown, shown_line}
 use Rattle.ysay_text.specs.Sentence.{of_line}
 use Rattle.ysay_pattern.specs.Said as patterns
+use Rattle.ysay_forms.specs.Said as forms
 use Rattle.ysay_names.specs.Keys as keys
 use Rattle.ysay_names.specs.Names as names
 use Rattle.ysay_names.specs.Prefixes as prefixes
+use Rattle.ysay_types.specs.Defaults as defaults
+use Rattle.ysay_types.specs.Restrictions as restrictions
+use Rattle.ysay_targets.specs.Targets as targets
 use Rattle.yspec.specs.edit.EditText.{Edit}
 use Rattle.ysay_edit.specs.Part.{said_of_edit}
 use Rattle.ysay_refusal.specs.Sentence.{said_of_refusal}
+use Rattle.ysay_refusals.specs.Lines.{said_of_others}
 use Rattle.ysay_edit.specs.Spelling.{said_of_line}
 use Rattle.ysay_repeated.specs.Said.{said_of_repeated}
 use Rattle.yspec_run.specs.Part.{Part}
@@ -51,10 +56,15 @@ slip_hint line bytes = line_hint line bytes ++ object_hint (begins_object bytes)
 -- what is said of the statements of a line of a module of a set, by the code that is told of it
 abbrev pub statement_said : ℕ → ℕ → Forest Statement → Forest Statement → Text
 statement_said code line modules top = if code == 1 then of_line line top
+    else (if code == 2 then forms.of_line forms.amounts line top
+    else (if code == 3 then forms.of_line forms.an_argument line top
     else (if code == 6 then prefixes.of_line line top
     else (if code == 8 then names.of_line line modules top
+    else (if code == 10 then restrictions.of_line line modules top
+    else (if code == 11 then defaults.of_line line modules top
     else (if code == 12 then keys.of_line line top
-    else (if code == 20 then patterns.of_line line top else []))))
+    else (if code == 14 then targets.of_line line modules top
+    else (if code == 20 then patterns.of_line line top else [])))))))))
 
 abbrev pub statement_hint : ℕ → ℕ → Forest Statement → Forest Statement → Text
 statement_hint code line modules top = as_line (codes "  ") (statement_said code line modules top)
@@ -92,9 +102,9 @@ is_read_in_rfc (rfc wide) modules b = false
 abbrev pub language_hint : Bool → Text
 language_hint is_read = if is_read then codes "  with --profile rfc this is read.\n" else []
 
--- of a document that is refused, by its bytes
+-- of a document that is refused, by its bytes, and of all else in it for which it is
 abbrev pub refusal_hint : Schema → List ℕ → Refusal → Text
-refusal_hint schema bytes r = as_line (codes "  ") (said_of_refusal schema bytes r)
+refusal_hint schema bytes r = as_line (codes "  ") (said_of_refusal schema bytes r) ++ said_of_others schema bytes r
 
 -- of a document with a member that is given twice, by the place of its node
 abbrev pub repeated_hint : Schema → List Step → Text

@@ -20,6 +20,7 @@ use Rattle.yspec_wide.specs.Operations.{place_breaks}
 use Rattle.yspec_wide.specs.Compiling.{whole_plan, plan_in, schema_of_plan_in, schema_in, node_breaks_in, place_phase_in, phases_of_plan_in, phases_in, compiled_in}
 use Rattle.yspec_wide.proofs.CoreLemmas.{kept_of_all_alike}
 use Rattle.yspec_wide.proofs.CoreLinkingLemmas.{linking_alike}
+use Rattle.yspec_wide.proofs.CoreCountLemmas.{count_alike}
 use Rattle.yspec_wide.proofs.CoreExpansionLemmas.{augmented_alike, unfit_alike, augment_breaks_alike, standing_alike}
 use Rattle.yspec_wide.proofs.CoreNodeLemmas.{schema_nodes_alike, node_breaks_alike}
 
@@ -60,7 +61,8 @@ places_alike plan = ap (λ others. name_breaks plan ++ others) (none_placed plan
 
 plan_told : (modules : Forest Statement) (plan : Plan)
     → first_broken (phases_of_plan_in core modules plan plan) ≡ first_broken (phases_of_plan modules plan)
-plan_told modules plan = ap (or_told (limit_breaks (nat_lt node_limit (node_count plan.modules)) modules))
+plan_told modules plan = ap (λ count. or_told (limit_breaks (nat_lt node_limit count) modules) (first_broken (later_phases plan))) (count_alike plan.modules)
+    ∙ ap (or_told (limit_breaks (nat_lt node_limit (node_count plan.modules)) modules))
     (ap (λ named. or_told (unfit_breaks_in core plan.modules ++ augment_breaks_in core plan.modules) (or_told named
     (or_told (node_breaks_in core plan plan) (or_told (limit_breaks (is_too_deep plan.nodes) modules) (first_broken []))))) (places_alike plan)
     ∙ ap₂ (λ unfit left. or_told (unfit ++ left) (or_told (name_breaks plan)
@@ -68,6 +70,10 @@ plan_told modules plan = ap (or_told (limit_breaks (nat_lt node_limit (node_coun
     (unfit_alike plan.modules) (augment_breaks_alike plan.modules)
     ∙ ap (λ later. or_told (unfit_breaks plan.modules ++ augment_breaks plan.modules) (or_told (name_breaks plan) later))
     (node_breaks_alike plan (or_told (limit_breaks (is_too_deep plan.nodes) modules) (first_broken []))))
+  where
+    later_phases : Plan → List (List Break)
+    later_phases plan = (unfit_breaks_in core plan.modules ++ augment_breaks_in core plan.modules)
+        ∷ place_phase_in core plan ∷ node_breaks_in core plan plan ∷ limit_breaks (is_too_deep plan.nodes) modules ∷ []
 
 pub told_alike : (modules : Forest Statement) → first_broken (phases_in core modules) ≡ first_broken (phases modules)
 told_alike modules =

@@ -13,7 +13,7 @@ use Rattle.yspec.specs.linking.Augments.{Augment, augments_of, target_steps, may
 use Rattle.yspec.proofs.ForestLemmas.{join_end}
 use Rattle.yspec_wide.specs.Language.{core}
 use Rattle.yspec_wide.specs.Sources.{guard_row, without_guards, is_operation}
-use Rattle.yspec_wide.specs.Expansion.{conditioned, takes_operations, overridden_in, after_refine_in, refined_in, stands_for_in, expanded_in, expanded_in_from, expanded_parts_in, refine_breaks_in, unfit_for_in, unfit_in_from, unfit_breaks_in, added_nodes_in, may_take_in, is_ready_in, applied_in, augmented_in, body_breaks_in, augment_breaks_in}
+use Rattle.yspec_wide.specs.Expansion.{conditioned, takes_operations, overridden_in, after_refine_in, refined_in, extended_by, stands_for_in, expanded_in, expanded_in_from, expanded_parts_in, refine_breaks_in, inner_breaks, unfit_for_in, unfit_in_from, unfit_breaks_in, added_nodes_in, may_take_in, is_ready_in, applied_in, augmented_in, body_breaks_in, augment_breaks_in}
 use Rattle.yspec_wide.specs.Standing.{is_standing, standing, all_stand}
 use Rattle.yspec_wide.proofs.CoreLinkingLemmas.{all_stand_in_core}
 use Rattle.yspec_wide.proofs.StandingLemmas.{all_stand_alike}
@@ -64,7 +64,7 @@ refine_breaks_alike modules owner (node s given after) nodes =
 
 module _ (modules : Forest Source) (groupings : List Grouping) (owner : ℕ) where
   pub stands_for_alike : (depth : ℕ) → stands_for_in core modules groupings owner depth ≡ stands_for modules groupings owner depth
-  unfolding stands_for_in stands_for
+  unfolding stands_for_in stands_for extended_by
   stands_for_alike zero = refl
   stands_for_alike (suc depth) = fun_ext (λ u.
       conditioned_alike u.own (refined_in core modules owner u.own
@@ -77,7 +77,7 @@ module _ (modules : Forest Source) (groupings : List Grouping) (owner : ℕ) whe
   expanded_alike nodes = ap (λ meant. replaced meant owner nodes) (stands_for_alike (suc (size modules)))
 
   pub unfit_for_alike : (depth : ℕ) → unfit_for_in core modules groupings owner depth ≡ unfit_for modules groupings owner depth
-  unfolding unfit_for_in unfit_for
+  unfolding unfit_for_in unfit_for inner_breaks
   unfit_for_alike zero = refl
   unfit_for_alike (suc depth) = fun_ext (λ u. ap₂ (λ inside here. inside ++ here)
       (ap (λ told. unfit_in told (row_used modules groupings u)) (unfit_for_alike depth))

@@ -15,7 +15,7 @@ use Rattle.yspec.specs.linking.StatementBreaks.{has_keyword, is_prefixed, row_br
 use Rattle.yspec.specs.linking.Source.{unless_extension, kept_keyword, kept_at, kept, numbered, sources_from, sources_of}
 use Rattle.yspec_wide.specs.Language.{core, yang_1_1}
 use Rattle.yspec_wide.specs.Words.{known, same_word}
-use Rattle.yspec_wide.specs.Table.{allowed_before, row_before, rule_in}
+use Rattle.yspec_wide.specs.Table.{as_before, allowed_before, row_before, rule_in}
 use Rattle.yspec_wide.specs.StatementBreaks.{has_word, occurrences, is_miscounted, own_breaks, is_allowed, known_breaks, named_breaks, breaks_at, row_breaks_in, top_breaks, breaks_in_from, statement_phase_in}
 use Rattle.yspec_wide.specs.Sources.{keyword_kept, kept_keyword_in, is_derived_type, restricts_below, kept_in, sources_in_from, sources_in}
 
@@ -49,7 +49,7 @@ allowed_alike k (a ∷ rows) = ap (λ c. same_keyword a.keyword k || c) (allowed
 -- ---- a statement where it stands
 
 own_alike : (m : ℕ) (k : Keyword) (s : Statement) (below : Forest Statement)
-    → own_breaks core yang_1_1 m (known k) s below ≡ narrow.own_breaks m k s below
+    → own_breaks core yang_1_1 m (as_before (rule_of k).form) (known k) s below ≡ narrow.own_breaks m k s below
 own_alike m k s below = ap (λ b. narrow.argument_breaks m (rule_of k).form s ++ (narrow.type_breaks m k s
     ++ (narrow.version_breaks m k s below ++ when b (broken 2 m s.line)))) (any_alike below (rule_of k).substatements)
 

@@ -130,7 +130,7 @@ put_last : (so_far : Option Break) (b : Break) (xs : List Break)
 put_last so_far b [] = refl
 put_last so_far b (x ∷ xs) = ap (λ t. least_from (Some t) xs) (swap_two so_far b x) ∙ put_last (Some (lesser so_far x)) b xs
 
-swap_lists : (so_far : Option Break) (xs ys : List Break)
+pub swap_lists : (so_far : Option Break) (xs ys : List Break)
     → least_from (least_from so_far xs) ys ≡ least_from (least_from so_far ys) xs
 swap_lists so_far xs [] = refl
 swap_lists so_far xs (y ∷ ys) = ap (λ s. least_from s ys) (sym (put_last so_far y xs)) ∙ swap_lists (Some (lesser so_far y)) xs ys

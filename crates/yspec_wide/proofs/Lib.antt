@@ -3,6 +3,7 @@ pub mod CoreLemmas
 pub mod CoreWordLemmas
 pub mod CoreVersionLemmas
 pub mod CoreLinkingLemmas
+pub mod CoreCountLemmas
 pub mod CoreExpansionLemmas
 pub mod CoreTypeLemmas
 pub mod CoreNodeLemmas

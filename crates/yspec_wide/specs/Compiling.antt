@@ -11,7 +11,6 @@ use Rattle.yspec.specs.linking.Prefixes.{prefix_breaks}
 use Rattle.yspec.specs.linking.Scopes.{taken_breaks, lost_breaks}
 use Rattle.yspec.specs.linking.Circles.{import_circles, definition_circles}
 use Rattle.yspec.specs.linking.DerivedTypes.{type_breaks}
-use Rattle.yspec.specs.linking.NodeCounts.{node_count}
 use Rattle.yspec.specs.linking.Planned.{Planned, Plan, at_top, planned, nodes_of}
 use Rattle.yspec.specs.linking.NodeBreaks.{name_breaks, config_breaks, tuple_breaks, reference_breaks}
 use Rattle.yspec.specs.linking.Compiling.{schema_modules, is_too_deep}
@@ -21,6 +20,7 @@ use Rattle.yspec_wide.specs.Language.{Language, core, rfc}
 use Rattle.yspec_wide.specs.StatementBreaks.{statement_phase_in}
 use Rattle.yspec_wide.specs.Sources.{sources_in, is_anything}
 use Rattle.yspec_wide.specs.Features.{condition_prefix_breaks, taken_feature_breaks, condition_breaks}
+use Rattle.yspec_wide.specs.NodeCounts.{node_count_in}
 use Rattle.yspec_wide.specs.Expansion.{augmented_in, unfit_breaks_in, augment_breaks_in}
 use Rattle.yspec_wide.specs.Operations.{place_breaks}
 use Rattle.yspec_wide.specs.Standing.{standing}
@@ -81,7 +81,7 @@ abbrev pub place_phase_in : Language → Plan → List Break
 place_phase_in language whole = name_breaks whole ++ flat_map (place_breaks language whole) (nodes_of whole)
 
 abbrev pub phases_of_plan_in : Language → Forest Statement → Plan → Plan → List (List Break)
-phases_of_plan_in language modules whole plan = limit_breaks (nat_lt node_limit (node_count plan.modules)) modules
+phases_of_plan_in language modules whole plan = limit_breaks (nat_lt node_limit (node_count_in language plan.modules)) modules
     ∷ (unfit_breaks_in language plan.modules ++ augment_breaks_in language plan.modules)
     ∷ place_phase_in language whole
     ∷ node_breaks_in language whole plan

@@ -1,11 +1,11 @@
 -- Features: which a name means, which are on, and what is told of those that aren't found or lead to themselves (RFC 7950,
--- 7.20.1 and 7.20.2).
-use Rattle.std.specs.Prelude.{ℕ, zero, suc, ◌&&◌, ◌||◌, ◌++◌, Bool, false, not, List, [], ◌∷◌, find, map, Option, Some, None, is_some, option_and_then, if◌then◌else◌}
+-- 7.20.1 and 7.20.2). Prefixes in what the language has besides the core.
+use Rattle.std.specs.Prelude.{ℕ, zero, suc, ◌&&◌, ◌||◌, ◌++◌, Bool, false, not, List, [], ◌∷◌, find, map, Option, Some, None, is_some, option_and_then, unwrap_or, if◌then◌else◌}
 use Rattle.std.specs.List.{list_any, list_all, flat_map, filter_map}
 use Rattle.std.specs.Option.{option_map_or}
 use Rattle.yspec.specs.Forest.{Forest, end, node, size}
 use Rattle.yspec.specs.text.Text.{Text, is_text}
-use Rattle.yspec.specs.linking.Arguments.{Name}
+use Rattle.yspec.specs.linking.Arguments.{Name, relative_path_of}
 use Rattle.yspec.specs.linking.Source.{Source, argument_in}
 use Rattle.yspec.specs.linking.Imports.{body_at, module_meant}
 use Rattle.yspec.specs.linking.Identities.{module_name}
@@ -15,7 +15,7 @@ use Rattle.yspec.specs.linking.Graph.{Edge, is_on_circle}
 use Rattle.yspec.specs.schema.Breaks.{Break, broken, when}
 use Rattle.yspec_wide.specs.Language.{Language, is_chosen, version_of}
 use Rattle.yspec_wide.specs.Expressions.{Expression, holds, names_in, expression_of}
-use Rattle.yspec_wide.specs.Sources.{is_feature, is_condition, conditions_in}
+use Rattle.yspec_wide.specs.Sources.{is_augment_in, is_feature, is_condition, conditions_in}
 
 -- a `feature` with what stands below it
 pub record Feature : Type 0 where
@@ -76,10 +76,16 @@ module _ (language : Language) where
   abbrev pub names_asked : Forest Source → Source → List Name
   names_asked modules s = option_map_or names_in (condition_of modules s) []
 
+  -- those in the path of an `augment` below a `uses` (RFC 7950, 7.17); an absolute path has none so
+  abbrev pub names_led_by : Source → List Name
+  names_led_by s = if is_augment_in language s then unwrap_or (relative_path_of (argument_in s)) [] else []
+
+  abbrev pub names_prefixed : Forest Source → Source → List Name
+  names_prefixed modules s = if is_condition language s then names_asked modules s else names_led_by s
+
   abbrev pub condition_prefix_break : Forest Source → Placed → List Break
   condition_prefix_break modules p =
-      when (is_condition language p.source && list_any (is_unknown_prefix modules p.source.home) (names_asked modules p.source))
-      (broken 6 p.source.home p.source.statement.line)
+      when (list_any (is_unknown_prefix modules p.source.home) (names_prefixed modules p.source)) (broken 6 p.source.home p.source.statement.line)
 
   abbrev pub condition_prefix_breaks : Forest Source → List Break
   condition_prefix_breaks modules = flat_map (condition_prefix_break modules) (statements_of modules)

@@ -7,6 +7,7 @@ pub mod Table
 pub mod StatementBreaks
 pub mod Sources
 pub mod Features
+pub mod NodeCounts
 pub mod Expansion
 pub mod Standing
 pub mod VersionBreaks

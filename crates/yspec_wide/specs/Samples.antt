@@ -18,6 +18,8 @@ use Rattle.yspec.specs.document.Reading.{Refusal, document_of}
 use Rattle.yspec_wide.specs.Language.{Language, Choosing, rfc, rfc_with, YangVersion}
 use Rattle.yspec_wide.specs.Expressions.{holds, expression_of}
 use Rattle.yspec_wide.specs.Texts.{version_of_text, module_in}
+use Rattle.yspec_wide.specs.Sources.{sources_in}
+use Rattle.yspec_wide.specs.NodeCounts.{node_count_in}
 use Rattle.yspec_wide.specs.Compiling.{compiled_in}
 
 -- ---- expressions
@@ -102,6 +104,14 @@ faults_with features lines document = faults_under (rfc_with (chosen (codes "m")
 abbrev pub tags_with : Text → Text → Option (List (ℕ × Option Text))
 tags_with lines document = option_and_then (λ schema. option_map (λ tree. map (λ f. (fault_number f.code, f.app_tag)) (faults_of schema tree))
     (result_ok (document_of schema document))) (result_ok (compiled_in (rfc_with []) (statements_in (rfc_with []) (text_in_1_1 lines ∷ []))))
+
+-- a grouping of several kinds of nodes in line 5, and these lines behind it
+abbrev pub extended : Text → Outcome
+extended lines = with_all (codes "  grouping g { container c { leaf x { type string; } list l { key k; leaf k { type string; } } choice h { leaf y { type string; } } } leaf z { type string; } }\n" ++ lines)
+
+-- how many nodes are counted of module m
+abbrev pub counted_with : Text → ℕ
+counted_with lines = node_count_in (rfc_with []) (sources_in (rfc_with []) (statements_in (rfc_with []) (text_in_1_1 lines ∷ [])))
 
 -- ---- conditions that aren't judged
 

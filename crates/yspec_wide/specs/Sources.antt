@@ -1,13 +1,13 @@
 -- The statements that linking stands on, with features, conditions, patterns, and names that restrict types among them, and members
 -- of unions that may be leafrefs (RFC 7950, 7.20.1, 7.20.2, 7.21.5, 9.4.5, 9.6.4, 9.7.4, 9.12).
-use Rattle.std.specs.Prelude.{ℕ, ◌+◌, Bool, false, not, ◌&&◌, ◌||◌, List, [], Option, Some, None, filter, is_some, option_map, option_and_then, unwrap_or, if◌then◌else◌}
+use Rattle.std.specs.Prelude.{ℕ, ◌+◌, Bool, false, not, ◌&&◌, ◌||◌, List, Option, Some, None, filter, is_some, option_map, option_and_then, unwrap_or, if◌then◌else◌}
 use Rattle.std.specs.List.{list_any}
 use Rattle.std.specs.Option.{option_map_or}
 use Rattle.yspec.specs.Forest.{Forest, end, node, row, join, size}
 use Rattle.yspec.specs.text.Text.{is_text}
 use Rattle.yspec.specs.text.Statement.{Statement}
-use Rattle.yspec.specs.linking.Keyword.{Keyword, same_keyword, extension_word, type_word, enum_word, bit_word, container_word, leaf_word}
-use Rattle.yspec.specs.linking.Source.{Source, unless_extension, kept_at, numbered}
+use Rattle.yspec.specs.linking.Keyword.{Keyword, same_keyword, extension_word, type_word, enum_word, bit_word, container_word, leaf_word, augment_word}
+use Rattle.yspec.specs.linking.Source.{Source, unless_extension, kept_at, numbered, is_source_of}
 use Rattle.yspec.specs.linking.BuiltIns.{built_in_named}
 use Rattle.yspec_wide.specs.Language.{Language, core, rfc, is_yang_1, version_below}
 use Rattle.yspec_wide.specs.Words.{Word, known, feature_word, if_feature_word, must_word, when_word, rpc_word, action_word, notification_word, input_word, output_word, anydata_word, anyxml_word, word_text, word_named}
@@ -73,6 +73,11 @@ sources_in language modules = sources_in_from language 0 0 modules
 abbrev pub is_added : Language → Word → Source → Bool
 is_added core w s = false
 is_added (rfc wide) w s = is_text s.statement.keyword (word_text w)
+
+-- whether a statement is an `augment` in a language that has it below a `uses`
+abbrev pub is_augment_in : Language → Source → Bool
+is_augment_in core s = false
+is_augment_in (rfc wide) s = is_source_of augment_word s
 
 module _ (language : Language) where
   abbrev pub is_feature : Source → Bool

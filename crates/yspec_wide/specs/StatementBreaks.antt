@@ -6,12 +6,13 @@ use Rattle.yspec.specs.Forest.{Forest, end, node, row}
 use Rattle.yspec.specs.text.Text.{Text, is_text}
 use Rattle.yspec.specs.text.Statement.{Statement}
 use Rattle.yspec.specs.schema.Breaks.{Break, broken, when, is_wrong_count}
-use Rattle.yspec.specs.linking.Keyword.{module_word, yang_version_word, extension_word, type_word}
+use Rattle.yspec.specs.linking.Keyword.{module_word, yang_version_word, extension_word, type_word, augment_word, refine_word}
+use Rattle.yspec.specs.linking.Arguments.{relative_path_form}
 use Rattle.yspec.specs.linking.StatementBreaks as narrow
 use Rattle.yspec.specs.linking.StatementBreaks.{is_prefixed}
 use Rattle.yspec_wide.specs.Language.{Language, core, rfc, YangVersion, yang_1_1, version_below}
 use Rattle.yspec_wide.specs.Words.{Word, known, same_word, word_named}
-use Rattle.yspec_wide.specs.Table.{WideForm, fits_in, takes_none, Allowed, rule_in}
+use Rattle.yspec_wide.specs.Table.{WideForm, as_before, fits_in, takes_none, Allowed, rule_in}
 
 -- that in which a module is read: under the core every text is one of YANG 1.1
 abbrev pub version_in : Language → Forest Statement → YangVersion
@@ -68,17 +69,24 @@ count_breaks language m s below allowed = when (list_any (is_miscounted language
 
 -- ---- statements where they stand
 
-abbrev pub own_breaks : Language → YangVersion → ℕ → Word → Statement → Forest Statement → List Break
-own_breaks language version m w s below = argument_breaks m version (rule_in language version w).form s ++ (type_breaks language m w s
+abbrev pub own_breaks : Language → YangVersion → ℕ → WideForm → Word → Statement → Forest Statement → List Break
+own_breaks language version m form w s below = argument_breaks m version form s ++ (type_breaks language m w s
     ++ (version_breaks language m w s below ++ count_breaks language m s below (rule_in language version w).substatements))
 
 abbrev pub is_allowed : Word → List Allowed → Bool
 is_allowed w allowed = list_any (λ a. same_word a.word w) allowed
 
+-- The path of an `augment` below a `uses`, where a `refine` may stand too, is relative as that of a refine (RFC 7950, 7.17).
+abbrev pub form_at : Language → List Allowed → Word → WideForm → WideForm
+form_at core allowed w form = form
+form_at (rfc wide) allowed w form = if same_word w (known augment_word) && is_allowed (known refine_word) allowed
+    then as_before relative_path_form else form
+
 -- An `extension` that may stand there is passed over as well. `inner` are the rules broken below.
 abbrev pub known_breaks : Language → YangVersion → ℕ → List Allowed → Word → Statement → Forest Statement → List Break → List Break
 known_breaks language version m allowed w s below inner = if not (is_allowed w allowed) then broken 1 m s.line
-    else (if same_word w (known extension_word) then [] else own_breaks language version m w s below ++ inner)
+    else (if same_word w (known extension_word) then []
+    else own_breaks language version m (form_at language allowed w (rule_in language version w).form) w s below ++ inner)
 
 abbrev pub named_breaks : Language → YangVersion → ℕ → List Allowed → Option Word → Statement → Forest Statement → List Break
     → List Break
@@ -104,7 +112,7 @@ row_breaks_in language version m allowed (node s below after) =
 abbrev pub top_breaks : Language → ℕ → Statement → Forest Statement → List Break
 top_breaks language m s below = let version = version_in language below in
     if has_word language (known module_word) s
-    then own_breaks language version m (known module_word) s below
+    then own_breaks language version m (rule_in language version (known module_word)).form (known module_word) s below
     ++ row_breaks_in language version m (rule_in language version (known module_word)).substatements below
     else broken 1 m s.line
 

@@ -6,6 +6,7 @@
 pub mod anything;
 pub mod binaries;
 pub mod expressions;
+pub mod extending;
 pub mod features;
 pub mod guards;
 pub mod laws;

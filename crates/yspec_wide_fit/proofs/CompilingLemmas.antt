@@ -14,7 +14,7 @@ use Rattle.yspec.specs.linking.Scopes.{taken_breaks}
 use Rattle.yspec.specs.linking.DerivedTypes.{type_breaks}
 use Rattle.yspec.specs.linking.Parts.{Part}
 use Rattle.yspec.specs.linking.Augments.{in_turn}
-use Rattle.yspec.specs.linking.NodeCounts.{node_count}
+use Rattle.yspec_wide.specs.NodeCounts.{node_count_in}
 use Rattle.yspec.specs.linking.Planned.{Planned, Plan, nodes_of, planned}
 use Rattle.yspec.specs.linking.NodeBreaks.{name_breaks}
 use Rattle.yspec.specs.linking.Compiling.{schema_modules, is_too_deep}
@@ -100,7 +100,7 @@ breaks_nothing language modules e =
     let of_names = place_phase_in language whole ∷ of_nodes in
     let unfit = unfit_breaks_in language sources ++ augment_breaks_in language sources in
     let of_refines = unfit ∷ of_names in
-    let many = limit_breaks (nat_lt node_limit (node_count sources)) modules in
+    let many = limit_breaks (nat_lt node_limit (node_count_in language sources)) modules in
     let of_sizes = many ∷ of_refines in
     let types = type_breaks sources ++ (version_type_breaks language sources ++ pattern_breaks language sources) in
     let of_types = types ∷ of_sizes in

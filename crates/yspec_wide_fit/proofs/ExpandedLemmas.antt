@@ -4,7 +4,7 @@ use Rattle.std.proofs.lemmas.Bool.{and_parts}
 use Rattle.std.specs.Prelude.{find, is_some, option_map, option_and_then, ◌==◌}
 use Rattle.std.specs.List.{filter_map, cons_option}
 use Rattle.std.specs.Option.{option_map_or}
-use Rattle.yspec.specs.Forest.{Forest, end, node, row, size, change_nth, below_nth}
+use Rattle.yspec.specs.Forest.{Forest, end, node, row, join, size, change_nth, below_nth}
 use Rattle.yspec.specs.linking.Keyword.{Keyword, same_keyword, case_word, module_word, uses_word, grouping_word, augment_word}
 use Rattle.yspec.specs.linking.Source.{Source, is_source_of, first_with}
 use Rattle.yspec.specs.linking.Scopes.{Placed, placed, statements_of}
@@ -14,14 +14,14 @@ use Rattle.yspec.specs.linking.Prefixes.{NodeName}
 use Rattle.yspec.specs.linking.Planned.{Plan}
 use Rattle.yspec.specs.linking.Compiling.{schema_modules}
 use Rattle.yspec.specs.linking.Expansion.{Grouping, laid, grouping_at, groupings_of, row_in, row_used, replaced, is_step, part_at, changed_at, is_refine, refine_steps}
-use Rattle.yspec.specs.linking.Augments.{Augment, augments_in, augments_of, target_steps, may_be_augmented, kept_out, may_take, marked, added_below, first_that, done_first, in_turn}
+use Rattle.yspec.specs.linking.Augments.{Augment, augments_in, augments_of, target_steps, may_be_augmented, kept_out, may_take, marked, first_that, done_first, in_turn}
 use Rattle.yspec.proofs.LinkingProofs.KeywordLemmas.{of_each, same_is}
 use Rattle.yspec.proofs.LinkingProofs.ExpansionLemmas.{SameNodes, same_itself}
-use Rattle.yspec_wide.specs.Language.{Language}
-use Rattle.yspec_wide.specs.Expansion.{conditioned, is_closed, is_fit_in, overridden_in, after_refine_in, refined_in, stands_for_in, expanded_in_from, expanded_parts_in, added_nodes_in, may_take_in, is_choice_in_choice, is_ready_in, applied_in, augmented_in}
+use Rattle.yspec_wide.specs.Language.{Language, core, rfc}
+use Rattle.yspec_wide.specs.Expansion.{conditioned, is_closed, is_fit_in, overridden_in, after_refine_in, refined_in, inner_augments, brought_by, is_fit_augment, put_below, after_augment, extended_by, stands_for_in, expanded_in_from, expanded_parts_in, added_nodes_in, may_take_in, is_choice_in_choice, is_ready_in, applied_in, augmented_in}
 use Rattle.yspec_wide.specs.Standing.{is_implied_case, is_all_cut, is_default_off, without_default, standing_by}
 use Rattle.yspec_wide_fit.proofs.LegalLemmas.{may_stand, IsLegal, AreModules, has_none}
-use Rattle.yspec_wide_fit.proofs.SoundLemmas.{is_leaf_word, is_choice_part, Row, elsewhere, anywhere, row_below, AreSound, sound_joined, sound_cases, same_sound, row_anywhere, row_legal, row_none, AreLaid, laid_right, sound_replaced}
+use Rattle.yspec_wide_fit.proofs.SoundLemmas.{is_leaf_word, is_choice_part, Row, elsewhere, anywhere, row_below, AreSound, sound_joined, sound_cases, same_sound, row_anywhere, row_legal, row_none, RowStands, IsUsedAt, AreLaid, laid_right, sound_replaced}
 
 -- ---- what changes nothing but what nodes state
 
@@ -77,6 +77,109 @@ module _ (language : Language) (modules : Forest Source) (owner : ℕ) where
   same_refined (node s given after) f =
       let next = after_refine_in language modules owner s given f in
       same_by_way f next (refined_in language modules owner after next) (same_after s given f) (same_refined after next)
+
+-- ---- below a target
+
+no_leaf : (k : Keyword) → may_be_augmented k ≡ true → is_leaf_word k ≡ false
+no_leaf k may = by (is_leaf_word k) (may_be_augmented k) may (of_each (λ k. not (may_be_augmented k && is_leaf_word k)) refl k)
+  where
+    by : (l m : Bool) → m ≡ true → not (m && l) ≡ true → l ≡ false
+    by false m is e = refl
+    by true true is e = absurd cc
+    by true false is e = absurd cc
+
+not_true : (b : Bool) → not b ≡ true → b ≡ false
+not_true true e = absurd cc
+not_true false e = refl
+
+module _ (count : ℕ) (told : Forest Part → Forest Part) (alike : (f : Forest Part) → SameNodes f (told f)) (given : Forest Source) (added : Forest Part)
+    (every : AreSound count anywhere added) (plain : is_some (first_with case_word given) ≡ false → AreSound count elsewhere added) where
+  abbrev change : Part → Forest Part → Forest Part → Forest Part
+  change p below after = node p (join below (told (within p.source added))) after
+
+  here : (p : Part) (below after : Forest Part) (r : Row) → may_take p given ≡ true → AreSound count r (node p below after) → AreSound count r (change p below after)
+  here p below after r may sound =
+      let augmented : may_be_augmented p.source.keyword ≡ true = (and_parts (may_be_augmented p.source.keyword) (not (is_some (first_with (kept_out p) given))) may).0 in (
+        sound.0,
+        record {
+          defines = sound.1.defines;
+          name = sound.1.name;
+          owner = sound.1.owner;
+          bare = λ leaf. absurd (let no : false ≡ true = sym (no_leaf p.source.keyword augmented) ∙ leaf in cc);
+        },
+        sound_joined count (row_below (is_choice_part p)) below (told (within p.source added)) sound.2
+            (same_sound count (row_below (is_choice_part p)) (within p.source added) (told (within p.source added)) (alike (within p.source added))
+            (inside (is_choice_part p) refl)),
+        sound.3,
+      )
+    where
+      inside : (c : Bool) → is_choice_part p ≡ c → AreSound count (row_below c) (cond c (as_cases added) added)
+      inside true is = sound_cases count added every
+      inside false is = plain (ap (λ x. is_some (first_with (cond x uses_word case_word) given)) (sym is)
+          ∙ not_true (is_some (first_with (kept_out p) given)) (and_parts (may_be_augmented p.source.keyword) (not (is_some (first_with (kept_out p) given))) may).1)
+
+  end_at : (steps : List NodeName) → changed_at steps change end ≡ end
+  end_at [] = refl
+  end_at (step ∷ []) = refl
+  end_at (step ∷ next ∷ steps) = refl
+
+  Takes : Option Part → Type 0
+  Takes found = option_map_or (λ p. may_take p given) found false ≡ true
+
+  sound_last : (test : Part → Bool) (f : Forest Part) (r : Row) → AreSound count r f → Takes (find test (row f)) → AreSound count r (change_nth test 0 change f)
+  unfolding Takes
+  sound_last test end r sound takes = absurd cc
+  sound_last test (node p below after) r sound takes = by (test p) takes (sound_last test after r sound.3)
+    where
+      by : (x : Bool) → Takes (cond x (Some p) (find test (row after))) → (Takes (find test (row after)) → AreSound count r (change_nth test 0 change after))
+          → AreSound count r (cond x (change p below after) (node p below (change_nth test 0 change after)))
+      by true takes rest = here p below after r takes sound
+      by false takes rest = (sound.0, sound.1, sound.2, rest takes)
+
+  sound_nth : (test : Part → Bool) (next : NodeName) (steps : List NodeName) (f : Forest Part) (r : Row)
+      → ((g : Forest Part) (q : Row) → AreSound count q g → Takes (part_at (next ∷ steps) g) → AreSound count q (changed_at (next ∷ steps) change g))
+      → AreSound count r f → Takes (option_and_then (part_at (next ∷ steps)) (below_nth test 0 f))
+      → AreSound count r (change_nth test 0 (λ p below after. node p (changed_at (next ∷ steps) change below) after) f)
+  unfolding Takes
+  sound_nth test next steps end r deeper sound takes = absurd cc
+  sound_nth test next steps (node p below after) r deeper sound takes = by (test p) takes (sound_nth test next steps after r deeper sound.3)
+    where
+      rest : Forest Part
+      rest = change_nth test 0 (λ p below after. node p (changed_at (next ∷ steps) change below) after) after
+
+      by : (x : Bool) → Takes (option_and_then (part_at (next ∷ steps)) (cond x (Some below) (below_nth test 0 after)))
+          → (Takes (option_and_then (part_at (next ∷ steps)) (below_nth test 0 after)) → AreSound count r rest)
+          → AreSound count r (cond x (node p (changed_at (next ∷ steps) change below) after) (node p below rest))
+      by true takes others = (
+        sound.0,
+        record {
+          defines = sound.1.defines;
+          name = sound.1.name;
+          owner = sound.1.owner;
+          bare = λ leaf. ap (changed_at (next ∷ steps) change) (sound.1.bare leaf) ∙ end_at (next ∷ steps);
+        },
+        deeper below (row_below (is_choice_part p)) sound.2 takes,
+        sound.3,
+      )
+      by false takes others = (sound.0, sound.1, sound.2, others takes)
+
+  pub sound_at : (steps : List NodeName) (f : Forest Part) (r : Row) → AreSound count r f → option_map_or (λ p. may_take p given) (part_at steps f) false ≡ true
+      → AreSound count r (changed_at steps change f)
+  unfolding Takes
+  sound_at [] f r sound takes = sound
+  sound_at (step ∷ []) f r sound takes = sound_last (is_step step) f r sound takes
+  sound_at (step ∷ next ∷ steps) f r sound takes = sound_nth (is_step step) next steps f r (sound_at (next ∷ steps)) sound takes
+
+-- an augment that is ready in a language is so without one
+takes_of : (language : Language) (modules : Forest Source) (a : Augment) (o : Option Part) → option_map_or (may_take_in language modules a) o false ≡ true → option_map_or (λ p. may_take p a.given) o false ≡ true
+takes_of language modules a None e = absurd cc
+takes_of language modules a (Some p) e = by (may_be_augmented p.source.keyword) (not (is_some (first_with (kept_out p) a.given))) (not (is_choice_in_choice language modules a p))
+    (not (is_closed language a.given p.source)) e
+  where
+    by : (x y z w : Bool) → ((x && (y && z)) && w) ≡ true → (x && y) ≡ true
+    by true true z w e = refl
+    by true false z w e = absurd cc
+    by false y z w e = absurd cc
 
 -- ---- groupings
 
@@ -143,16 +246,65 @@ module _ (language : Language) (count : ℕ) (modules : Forest Source) (right : 
       by None = tt
       by (Some number) = right number
 
-  sound_stands : (owner : ℕ) → owner < count → (depth : ℕ) (u : Part) → AreSound count elsewhere (stands_for_in language modules (groupings_of modules) owner depth u)
+  -- what one augment adds, given what each `uses` stands for
+  module _ (meant : Part → Forest Part) (sound : (u : Part) → IsUsedAt u → AreSound count elsewhere (meant u)) (owner : ℕ) (few : owner < count) where
+    brought_in : (home : ℕ) (a : Augment) (r : Row) → IsLegal home (may_stand augment_word) a.given → RowStands r a.given
+        → AreSound count r (brought_by language meant owner a)
+    brought_in home a r legal stands =
+        let those = replaced meant owner (laid a.given) in
+        same_sound count r those (conditioned language a.given those) (same_conditioned language a.given those)
+        (sound_replaced count meant sound owner few r (laid a.given) (laid_right home (may_stand augment_word) a.given r legal stands))
+
+    AllLegalAt : ℕ → List Augment → Type 0
+    AllLegalAt home [] = Unit {0}
+    AllLegalAt home (a ∷ others) = IsLegal home (may_stand augment_word) a.given × AllLegalAt home others
+
+    legal_in : (home : ℕ) (allowed : List _) (f : Forest Source) → IsLegal home allowed f → AllLegalAt home (augments_in f)
+    unfolding AllLegalAt
+    legal_in home allowed end legal = tt
+    legal_in home allowed (node s below after) legal = by (is_source_of augment_word s) refl (legal_in home allowed after legal.2)
+      where
+        by : (b : Bool) → is_source_of augment_word s ≡ b → AllLegalAt home (augments_in after)
+            → AllLegalAt home (cond b (record { source = s; given = below } ∷ augments_in after) (augments_in after))
+        by true is rest = (subst (λ k. IsLegal home (may_stand k) below) (sym (same_is augment_word s.keyword is)) legal.1, rest)
+        by false is rest = rest
+
+    legal_inner : (l : Language) (home : ℕ) (allowed : List _) (f : Forest Source) → IsLegal home allowed f → AllLegalAt home (inner_augments l f)
+    unfolding AllLegalAt
+    legal_inner core home allowed f legal = tt
+    legal_inner (rfc wide) home allowed f legal = legal_in home allowed f legal
+
+    sound_after : (home : ℕ) (a : Augment) (nodes : Forest Part) → IsLegal home (may_stand augment_word) a.given → AreSound count elsewhere nodes
+        → AreSound count elsewhere (after_augment language meant modules owner a nodes)
+    sound_after home a nodes legal are = by (is_fit_augment language modules owner nodes a) refl
+      where
+        by : (b : Bool) → is_fit_augment language modules owner nodes a ≡ b
+            → AreSound count elsewhere (cond b (changed_at (refine_steps modules owner a.source) (put_below (brought_by language meant owner a)) nodes) nodes)
+        by true is = sound_at count (λ f. f) same_itself a.given (brought_by language meant owner a)
+            (brought_in home a anywhere legal (row_anywhere a.given)) (λ none. brought_in home a elsewhere legal (row_none a.given none))
+            (refine_steps modules owner a.source) nodes elsewhere are (takes_of language modules a (part_at (refine_steps modules owner a.source) nodes) is)
+        by false is = are
+
+    sound_extended : (home : ℕ) (xs : List Augment) (nodes : Forest Part) → AllLegalAt home xs → AreSound count elsewhere nodes
+        → AreSound count elsewhere (extended_by language meant modules owner xs nodes)
+    unfolding extended_by AllLegalAt
+    sound_extended home [] nodes legal are = are
+    sound_extended home (a ∷ xs) nodes legal are =
+        sound_extended home xs (after_augment language meant modules owner a nodes) legal.1 (sound_after home a nodes legal.0 are)
+
+  sound_stands : (owner : ℕ) → owner < count → (depth : ℕ) (u : Part) → IsUsedAt u → AreSound count elsewhere (stands_for_in language modules (groupings_of modules) owner depth u)
   unfolding stands_for_in
-  sound_stands owner few zero u = tt
-  sound_stands owner few (suc depth) u =
-      let inner = replaced (stands_for_in language modules (groupings_of modules) owner depth) owner (row_used modules (groupings_of modules) u) in
+  sound_stands owner few zero u used = tt
+  sound_stands owner few (suc depth) u used =
+      let meant = stands_for_in language modules (groupings_of modules) owner depth in
+      let inner = replaced meant owner (row_used modules (groupings_of modules) u) in
       let after = refined_in language modules owner u.own inner in
-      same_sound count elsewhere inner (conditioned language u.own after)
-      (same_by_way inner after (conditioned language u.own after) (same_refined language modules owner u.own inner) (same_conditioned language u.own after))
-      (sound_replaced count (stands_for_in language modules (groupings_of modules) owner depth) (sound_stands owner few depth) owner few elsewhere
-      (row_used modules (groupings_of modules) u) (used_laid u))
+      let whole = extended_by language meant modules owner (inner_augments language u.own) after in
+      same_sound count elsewhere whole (conditioned language u.own whole) (same_conditioned language u.own whole)
+      (sound_extended meant (sound_stands owner few depth) owner few used.0 (inner_augments language u.own) after
+      (legal_inner meant (sound_stands owner few depth) owner few language used.0 (may_stand uses_word) u.own used.1)
+      (same_sound count elsewhere inner after (same_refined language modules owner u.own inner)
+      (sound_replaced count meant (sound_stands owner few depth) owner few elsewhere (row_used modules (groupings_of modules) u) (used_laid u))))
 
   sound_expanded : (home : ℕ) → home < count → (r : Row) (f : Forest Part) → AreLaid r f
       → AreSound count r (replaced (stands_for_in language modules (groupings_of modules) home (suc (size modules))) home f)
@@ -212,99 +364,6 @@ module _ (language : Language) (count : ℕ) (modules : Forest Source) (right : 
   adds_from plan home (node s below after) is legal =
       adds_joined (augments_in below) (augments_of after) (adds_in home (omega (arith, is)) below legal.3) (adds_from plan (home + 1) after (omega (arith, is)) legal.4)
 
--- ---- below a target
-
-no_leaf : (k : Keyword) → may_be_augmented k ≡ true → is_leaf_word k ≡ false
-no_leaf k may = by (is_leaf_word k) (may_be_augmented k) may (of_each (λ k. not (may_be_augmented k && is_leaf_word k)) refl k)
-  where
-    by : (l m : Bool) → m ≡ true → not (m && l) ≡ true → l ≡ false
-    by false m is e = refl
-    by true true is e = absurd cc
-    by true false is e = absurd cc
-
-not_true : (b : Bool) → not b ≡ true → b ≡ false
-not_true true e = absurd cc
-not_true false e = refl
-
-module _ (count number : ℕ) (given : Forest Source) (added : Forest Part) (every : AreSound count anywhere added)
-    (plain : is_some (first_with case_word given) ≡ false → AreSound count elsewhere added) where
-  change : Part → Forest Part → Forest Part → Forest Part
-  change = added_below number added
-
-  here : (p : Part) (below after : Forest Part) (r : Row) → may_take p given ≡ true → AreSound count r (node p below after) → AreSound count r (change p below after)
-  unfolding change
-  here p below after r may sound =
-      let augmented : may_be_augmented p.source.keyword ≡ true = (and_parts (may_be_augmented p.source.keyword) (not (is_some (first_with (kept_out p) given))) may).0 in (
-        sound.0,
-        record {
-          defines = sound.1.defines;
-          name = sound.1.name;
-          owner = sound.1.owner;
-          bare = λ leaf. absurd (let no : false ≡ true = sym (no_leaf p.source.keyword augmented) ∙ leaf in cc);
-        },
-        sound_joined count (row_below (is_choice_part p)) below (marked number (within p.source added)) sound.2
-            (same_sound count (row_below (is_choice_part p)) (within p.source added) (marked number (within p.source added)) (same_marked number (within p.source added))
-            (inside (is_choice_part p) refl)),
-        sound.3,
-      )
-    where
-      inside : (c : Bool) → is_choice_part p ≡ c → AreSound count (row_below c) (cond c (as_cases added) added)
-      inside true is = sound_cases count added every
-      inside false is = plain (ap (λ x. is_some (first_with (cond x uses_word case_word) given)) (sym is)
-          ∙ not_true (is_some (first_with (kept_out p) given)) (and_parts (may_be_augmented p.source.keyword) (not (is_some (first_with (kept_out p) given))) may).1)
-
-  end_at : (steps : List NodeName) → changed_at steps change end ≡ end
-  end_at [] = refl
-  end_at (step ∷ []) = refl
-  end_at (step ∷ next ∷ steps) = refl
-
-  Takes : Option Part → Type 0
-  Takes found = option_map_or (λ p. may_take p given) found false ≡ true
-
-  sound_last : (test : Part → Bool) (f : Forest Part) (r : Row) → AreSound count r f → Takes (find test (row f)) → AreSound count r (change_nth test 0 change f)
-  unfolding Takes
-  sound_last test end r sound takes = absurd cc
-  sound_last test (node p below after) r sound takes = by (test p) takes (sound_last test after r sound.3)
-    where
-      by : (x : Bool) → Takes (cond x (Some p) (find test (row after))) → (Takes (find test (row after)) → AreSound count r (change_nth test 0 change after))
-          → AreSound count r (cond x (change p below after) (node p below (change_nth test 0 change after)))
-      by true takes rest = here p below after r takes sound
-      by false takes rest = (sound.0, sound.1, sound.2, rest takes)
-
-  sound_nth : (test : Part → Bool) (next : NodeName) (steps : List NodeName) (f : Forest Part) (r : Row)
-      → ((g : Forest Part) (q : Row) → AreSound count q g → Takes (part_at (next ∷ steps) g) → AreSound count q (changed_at (next ∷ steps) change g))
-      → AreSound count r f → Takes (option_and_then (part_at (next ∷ steps)) (below_nth test 0 f))
-      → AreSound count r (change_nth test 0 (λ p below after. node p (changed_at (next ∷ steps) change below) after) f)
-  unfolding Takes
-  sound_nth test next steps end r deeper sound takes = absurd cc
-  sound_nth test next steps (node p below after) r deeper sound takes = by (test p) takes (sound_nth test next steps after r deeper sound.3)
-    where
-      rest : Forest Part
-      rest = change_nth test 0 (λ p below after. node p (changed_at (next ∷ steps) change below) after) after
-
-      by : (x : Bool) → Takes (option_and_then (part_at (next ∷ steps)) (cond x (Some below) (below_nth test 0 after)))
-          → (Takes (option_and_then (part_at (next ∷ steps)) (below_nth test 0 after)) → AreSound count r rest)
-          → AreSound count r (cond x (node p (changed_at (next ∷ steps) change below) after) (node p below rest))
-      by true takes others = (
-        sound.0,
-        record {
-          defines = sound.1.defines;
-          name = sound.1.name;
-          owner = sound.1.owner;
-          bare = λ leaf. ap (changed_at (next ∷ steps) change) (sound.1.bare leaf) ∙ end_at (next ∷ steps);
-        },
-        deeper below (row_below (is_choice_part p)) sound.2 takes,
-        sound.3,
-      )
-      by false takes others = (sound.0, sound.1, sound.2, others takes)
-
-  pub sound_at : (steps : List NodeName) (f : Forest Part) (r : Row) → AreSound count r f → option_map_or (λ p. may_take p given) (part_at steps f) false ≡ true
-      → AreSound count r (changed_at steps (added_below number added) f)
-  unfolding change Takes
-  sound_at [] f r sound takes = sound
-  sound_at (step ∷ []) f r sound takes = sound_last (is_step step) f r sound takes
-  sound_at (step ∷ next ∷ steps) f r sound takes = sound_nth (is_step step) next steps f r (sound_at (next ∷ steps)) sound takes
-
 -- ---- all augments, one after another
 
 module _ (language : Language) (count : ℕ) (modules : Forest Source) (right : (number : ℕ) → AreLaid elsewhere (row_in (groupings_of modules) number)) where
@@ -329,17 +388,6 @@ module _ (language : Language) (count : ℕ) (modules : Forest Source) (right : 
       by true is deeper e = let same : (a, others) ≡ found = cc in subst (Found test) same (is, add.0, add.1)
       by false is deeper e = later deeper (first_that test others) refl e
 
-  -- an augment that is ready in a language is so without one
-  takes_of : (a : Augment) (o : Option Part) → option_map_or (may_take_in language modules a) o false ≡ true → option_map_or (λ p. may_take p a.given) o false ≡ true
-  takes_of a None e = absurd cc
-  takes_of a (Some p) e = by (may_be_augmented p.source.keyword) (not (is_some (first_with (kept_out p) a.given))) (not (is_choice_in_choice language modules a p))
-      (not (is_closed language a.given p.source)) e
-    where
-      by : (x y z w : Bool) → ((x && (y && z)) && w) ≡ true → (x && y) ≡ true
-      by true true z w e = refl
-      by true false z w e = absurd cc
-      by false y z w e = absurd cc
-
   sound_in_turn : (times : ℕ) (nodes : Forest Part) (waiting : List Augment) → AreSound count elsewhere nodes → AllAdd language count modules right waiting
       → AreSound count elsewhere (in_turn (is_ready_in language modules) (applied_in language modules) times nodes waiting).0
   unfolding in_turn Adds Found
@@ -357,8 +405,8 @@ module _ (language : Language) (count : ℕ) (modules : Forest Source) (right : 
           let those = taken (is_ready_in language modules nodes) waiting found e add in
           let a = found.0 in
           deeper (applied_in language modules a nodes) found.1
-          (sound_at count a.source.number a.given (added_nodes_in language modules a) those.1.0 those.1.1 (target_steps modules a) nodes elsewhere are
-          (takes_of a (part_at (target_steps modules a) nodes) those.0)) those.2
+          (sound_at count (marked a.source.number) (same_marked a.source.number) a.given (added_nodes_in language modules a) those.1.0 those.1.1 (target_steps modules a) nodes elsewhere are
+          (takes_of language modules a (part_at (target_steps modules a) nodes) those.0)) those.2
 
 pub sound_augmented : (language : Language) (plan : Plan) (f : Forest Source) → AreModules 0 f → AreSound (length (schema_modules plan f)) elsewhere (augmented_in language f).0
 sound_augmented language plan f legal =

@@ -11,8 +11,8 @@ use Rattle.yspec.specs.Forest.{Forest, end, node, join, size}
 use Rattle.yspec.specs.text.Text.{Text, is_text, is_identifier}
 use Rattle.yspec.specs.text.Statement.{Statement}
 use Rattle.yspec.specs.schema.Breaks.{Break, broken}
-use Rattle.yspec.specs.linking.Keyword.{Keyword, same_keyword, keyword_named, keywords, module_word, extension_word, container_word, leaf_word, enum_word, bit_word, value_word, position_word, error_message_word, error_app_tag_word}
-use Rattle.yspec.specs.linking.Arguments.{identifier_form, fits}
+use Rattle.yspec.specs.linking.Keyword.{Keyword, same_keyword, keyword_named, keywords, module_word, extension_word, augment_word, uses_word, refine_word, container_word, leaf_word, enum_word, bit_word, value_word, position_word, error_message_word, error_app_tag_word}
+use Rattle.yspec.specs.linking.Arguments.{identifier_form, relative_path_form, fits}
 use Rattle.yspec.specs.linking.Table as narrow
 use Rattle.yspec.specs.linking.Table.{rule_of, doc, in_range, texts}
 use Rattle.yspec.specs.linking.Source.{Source, unless_extension, kept_at, numbered, argument_in}
@@ -26,7 +26,7 @@ use Rattle.yspec.specs.schema.Schema.{argument_text}
 use Rattle.yspec_wide.specs.Language.{Language, Unjudged, core, rfc, YangVersion, yang_1, yang_1_1}
 use Rattle.yspec_wide.specs.Words.{Word, known, feature_word, if_feature_word, pattern_word, modifier_word, must_word, when_word, rpc_word, action_word, notification_word, input_word, output_word, anydata_word, anyxml_word, same_word, word_text, or_added, or_unjudged, word_named}
 use Rattle.yspec_wide.specs.Table.{WideForm, as_before, no_argument, fits_in, in_call, in_side, in_notification, in_anything, Allowed, row_before, added, bearing_when, lacks, has_fewer, with_fewer, of_version, is_version_row, with_version_free, rule_in}
-use Rattle.yspec_wide.specs.StatementBreaks.{version_in, argument_breaks, own_breaks, is_allowed, known_breaks, named_breaks, breaks_at, substatements_of, row_breaks_in, top_breaks, breaks_in_from}
+use Rattle.yspec_wide.specs.StatementBreaks.{version_in, argument_breaks, form_at, own_breaks, is_allowed, known_breaks, named_breaks, breaks_at, substatements_of, row_breaks_in, top_breaks, breaks_in_from}
 use Rattle.yspec_wide.specs.Sources.{keyword_kept, keyword_restricting, kept_keyword_in, may_restrict, restricts_below, kept_in, sources_in_from}
 
 -- ---- rows of sources
@@ -35,10 +35,15 @@ use Rattle.yspec_wide.specs.Sources.{keyword_kept, keyword_restricting, kept_key
 abbrev pub in_name : List narrow.Allowed
 in_name = narrow.perhaps value_word ∷ narrow.perhaps position_word ∷ []
 
+-- augments below a `uses`
+abbrev pub in_uses : Keyword → List narrow.Allowed
+in_uses uses_word = narrow.many augment_word ∷ []
+in_uses _ = []
+
 -- what may stand below a keyword, with what documents a feature, what a pattern says of other values, and the number of a name that
 -- restricts a type: these are kept as `extension` is named
 abbrev pub may_stand : Keyword → List narrow.Allowed
-may_stand k = in_name ++ (in_range ++ (doc ++ (rule_of k).substatements))
+may_stand k = in_uses k ++ (in_name ++ (in_range ++ (doc ++ (rule_of k).substatements)))
 
 pub record IsLegalAt (home : ℕ) (allowed : List narrow.Allowed) (s : Source) : Type 0 where
   pub known : same_keyword extension_word s.keyword ≡ false → narrow_breaks.is_allowed s.keyword allowed ≡ true
@@ -139,15 +144,6 @@ of_version_is yang_1 k w rows e =
     lacking (λ (a : Allowed). not (lacks k a.word)) w rows (sym (recounted (with_fewer k) (fewer_word k) w (filter (λ (a : Allowed). not (lacks k a.word)) rows)) ∙ e)
 of_version_is yang_1_1 k w rows e = e
 
--- what is added the core doesn't have
-none_added : (k j : Keyword) → is_allowed (known j) (added k) ≡ false
-none_added k j = turned (is_allowed (known j) (added k))
-    (of_each (λ j. not (is_allowed (known j) (added k))) (of_each (λ k. list_all (λ j. not (is_allowed (known j) (added k))) keywords) refl k) j)
-  where
-    turned : (b : Bool) → not b ≡ true → b ≡ false
-    turned true e = absurd cc
-    turned false e = refl
-
 none_bearing : (k j : Keyword) → is_allowed (known j) (bearing_when k) ≡ false
 none_bearing k j = turned (is_allowed (known j) (bearing_when k))
     (of_each (λ j. not (is_allowed (known j) (bearing_when k))) (of_each (λ k. list_all (λ j. not (is_allowed (known j) (bearing_when k))) keywords) refl k) j)
@@ -175,8 +171,18 @@ ahead j rows after e =
     list_any-append (λ (a : narrow.Allowed). same_keyword a.keyword j) rows after ∙ ap (λ b. b || narrow_breaks.is_allowed j after) e
 
 documented : (j k : Keyword) → narrow_breaks.is_allowed j (rule_of k).substatements ≡ true → narrow_breaks.is_allowed j (may_stand k) ≡ true
-documented j k e = behind j in_name (in_range ++ (doc ++ (rule_of k).substatements))
-    (behind j in_range (doc ++ (rule_of k).substatements) (behind j doc (rule_of k).substatements e))
+documented j k e = behind j (in_uses k) (in_name ++ (in_range ++ (doc ++ (rule_of k).substatements)))
+    (behind j in_name (in_range ++ (doc ++ (rule_of k).substatements))
+    (behind j in_range (doc ++ (rule_of k).substatements) (behind j doc (rule_of k).substatements e)))
+
+implied : (a b : Bool) → (not a || b) ≡ true → a ≡ true → b ≡ true
+implied true b e is = e
+implied false b e is = absurd cc
+
+-- what is added that the core has elsewhere: augments below a `uses`
+added_stands : (k j : Keyword) → is_allowed (known j) (added k) ≡ true → narrow_breaks.is_allowed j (may_stand k) ≡ true
+added_stands k j = implied _ _ (of_each (λ j. not (is_allowed (known j) (added k)) || narrow_breaks.is_allowed j (may_stand k))
+    (of_each (λ k. list_all (λ j. not (is_allowed (known j) (added k)) || narrow_breaks.is_allowed j (may_stand k)) keywords) refl k) j)
 
 covers_core : (language : Language) (version : YangVersion) (k : Keyword) → CoversCore (rule_in language version (known k)).substatements (may_stand k)
 covers_core core version k j e = documented j k (sym (before_is j (rule_of k).substatements) ∙ e)
@@ -186,13 +192,16 @@ covers_core (rfc wide) version k j e =
     let later = no_first (is_allowed (known j) (bearing_when k)) (is_allowed (known j) behind_when) (none_bearing k j)
     (sym (list_any-append (λ (a : Allowed). same_word a.word (known j)) (bearing_when k) behind_when) ∙ e) in
     let whole = of_version_is version k (known j) (map with_version_free rows ++ added k) later in
-    let own = or_none (is_allowed (known j) (map with_version_free rows)) (is_allowed (known j) (added k)) (none_added k j)
-    (sym (list_any-append (λ (a : Allowed). same_word a.word (known j)) (map with_version_free rows) (added k)) ∙ whole) in
-    documented j k (sym (before_is j (rule_of k).substatements) ∙ (sym (recounted with_version_free free_word (known j) rows) ∙ own))
+    by (is_allowed (known j) (map with_version_free rows)) refl
+    (sym (list_any-append (λ (a : Allowed). same_word a.word (known j)) (map with_version_free rows) (added k)) ∙ whole)
+  where
+    rows : List Allowed
+    rows = row_before (rule_of k).substatements
 
-implied : (a b : Bool) → (not a || b) ≡ true → a ≡ true → b ≡ true
-implied true b e is = e
-implied false b e is = absurd cc
+    by : (a : Bool) → is_allowed (known j) (map with_version_free rows) ≡ a → (a || is_allowed (known j) (added k)) ≡ true
+        → narrow_breaks.is_allowed j (may_stand k) ≡ true
+    by true is e = documented j k (sym (before_is j (rule_of k).substatements) ∙ (sym (recounted with_version_free free_word (known j) rows) ∙ is))
+    by false is e = added_stands k j e
 
 abbrev hosts_at : Language → YangVersion → Word → Keyword → Bool
 hosts_at language version w k = not (is_allowed w (rule_in language version (known k)).substatements) || narrow_breaks.is_allowed (keyword_for w) (may_stand k)
@@ -575,9 +584,39 @@ legal_restricting refers false language home number allowed s f g legal = legal
 legal_restricting refers true language home number allowed s f g legal =
     legal_as_restricting refers home number allowed (kept_keyword_in language false s) s f g legal
 
+-- ---- the form of an argument
+
+-- an augment alone has another form somewhere
+form_stays : (language : Language) (rows : List Allowed) (w : Word) (form : WideForm) → same_word w (known augment_word) ≡ false → form_at language rows w form ≡ form
+form_stays core rows w form other = refl
+form_stays (rfc wide) rows w form other =
+    ap (λ b. cond (b && is_allowed (known refine_word) rows) (as_before relative_path_form) form) other
+
+no_augment : (w : Word) → is_node w ≡ true → same_word w (known augment_word) ≡ false
+no_augment rpc_word holds = refl
+no_augment action_word holds = refl
+no_augment notification_word holds = refl
+no_augment input_word holds = refl
+no_augment output_word holds = refl
+no_augment anydata_word holds = refl
+no_augment anyxml_word holds = refl
+no_augment (known j) holds = absurd cc
+no_augment feature_word holds = absurd cc
+no_augment if_feature_word holds = absurd cc
+no_augment pattern_word holds = absurd cc
+no_augment modifier_word holds = absurd cc
+no_augment must_word holds = absurd cc
+no_augment when_word holds = absurd cc
+
+no_augment_word : (k : Keyword) → defines_node k ≡ true → same_word (known k) (known augment_word) ≡ false
+no_augment_word k defines = by_definition k (λ k. same_word (known k) (known augment_word) ≡ false) refl refl refl refl refl refl defines
+
 -- ---- a row of statements
 
 module _ (language : Language) (version : YangVersion) (refers : Bool) (m : ℕ) where
+  abbrev form_in : List Allowed → Word → WideForm
+  form_in rows w = form_at language rows w (rule_in language version w).form
+
   Inside : Word → List Break → Forest (Keyword × Statement) → Type 0
   Inside w inner f = (allowed : List narrow.Allowed) → Covers (rule_in language version w).substatements allowed → inner ≡ [] → (n : ℕ) → IsLegal m allowed (numbered refers m n f)
 
@@ -591,13 +630,13 @@ module _ (language : Language) (version : YangVersion) (refers : Bool) (m : ℕ)
   legal_added number rows allowed w covers other is s below inner f g e inside rest =
       subst (λ k. IsLegal m allowed (numbered refers m number (kept_at k s f g))) (sym is) (by (is_allowed w rows) (same_word w (known extension_word)) other e)
     where
-      by : (a x : Bool) → x ≡ false → cond (not a) (broken 1 m s.line) (cond x [] (own_breaks language version m w s below ++ inner)) ≡ []
+      by : (a x : Bool) → x ≡ false → cond (not a) (broken 1 m s.line) (cond x [] (own_breaks language version m (form_in rows w) w s below ++ inner)) ≡ []
           → IsLegal m allowed (numbered refers m number (kept_at (Some extension_word) s f g))
       by false x unlike e = absurd cc
       by true true unlike e = absurd cc
       by true false unlike e = (
         record { known = λ unlike. absurd cc; named = λ defines. absurd cc; stands = refl },
-        inside (may_stand extension_word) covers (none_second (own_breaks language version m w s below) inner e) (number + 1),
+        inside (may_stand extension_word) covers (none_second (own_breaks language version m (form_in rows w) w s below) inner e) (number + 1),
         rest (number + suc (size f)),
       )
 
@@ -611,18 +650,20 @@ module _ (language : Language) (version : YangVersion) (refers : Bool) (m : ℕ)
   legal_node number rows allowed covers w holds other is s below inner f g named e inside rest =
       subst (λ k. IsLegal m allowed (numbered refers m number (kept_at k s f g))) (sym is) (by (is_allowed w rows) refl (same_word w (known extension_word)) other e)
     where
-      by : (a : Bool) → is_allowed w rows ≡ a → (x : Bool) → x ≡ false → cond (not a) (broken 1 m s.line) (cond x [] (own_breaks language version m w s below ++ inner)) ≡ []
+      by : (a : Bool) → is_allowed w rows ≡ a → (x : Bool) → x ≡ false → cond (not a) (broken 1 m s.line) (cond x [] (own_breaks language version m (form_in rows w) w s below ++ inner)) ≡ []
           → IsLegal m allowed (numbered refers m number (kept_at (Some (keyword_for w)) s f g))
       by false may x unlike e = absurd cc
       by true may true unlike e = absurd cc
       by true may false unlike e =
-          let own = none_first (own_breaks language version m w s below) inner e in (
+          let own = none_first (own_breaks language version m (form_in rows w) w s below) inner e in (
             record {
               known = λ unlike. covers.1 w holds may;
-              named = λ defines. node_named language version m w s holds named (none_first (argument_breaks m version (rule_in language version w).form s) _ own);
+              named = λ defines. node_named language version m w s holds named
+                  (subst (λ form. argument_breaks m version form s ≡ []) (form_stays language rows w (rule_in language version w).form (no_augment w holds))
+                  (none_first (argument_breaks m version (form_in rows w) s) _ own));
               stands = refl;
             },
-            inside (may_stand (keyword_for w)) (covers_node language version w holds) (none_second (own_breaks language version m w s below) inner e) (number + 1),
+            inside (may_stand (keyword_for w)) (covers_node language version w holds) (none_second (own_breaks language version m (form_in rows w) w s below) inner e) (number + 1),
             rest (number + suc (size f)),
           )
 
@@ -634,22 +675,20 @@ module _ (language : Language) (version : YangVersion) (refers : Bool) (m : ℕ)
   unfolding numbered Inside
   legal_known number rows allowed covers k s below inner f g e inside rest = by (is_allowed (known k) rows) refl (same_keyword k extension_word) e
     where
-      form : WideForm
-      form = (rule_in language version (known k)).form
-
       by : (a : Bool) → is_allowed (known k) rows ≡ a → (x : Bool)
-          → cond (not a) (broken 1 m s.line) (cond x [] (own_breaks language version m (known k) s below ++ inner)) ≡ []
+          → cond (not a) (broken 1 m s.line) (cond x [] (own_breaks language version m (form_in rows (known k)) (known k) s below ++ inner)) ≡ []
           → IsLegal m allowed (numbered refers m number (kept_at (cond x None (Some k)) s f g))
       by false may x e = absurd cc
       by true may true e = rest number
       by true may false e =
-          let own = none_first (own_breaks language version m (known k) s below) inner e in (
+          let own = none_first (own_breaks language version m (form_in rows (known k)) (known k) s below) inner e in (
             record {
               known = λ other. covers.0 k may;
-              named = λ defines. identifier_is version m form s (none_first (argument_breaks m version form s) _ own) (form_is language version k defines);
+              named = λ defines. identifier_is version m (form_in rows (known k)) s (none_first (argument_breaks m version (form_in rows (known k)) s) _ own)
+                  (form_stays language rows (known k) (rule_in language version (known k)).form (no_augment_word k defines) ∙ form_is language version k defines);
               stands = refl;
             },
-            inside (may_stand k) (covers_known language version k) (none_second (own_breaks language version m (known k) s below) inner e) (number + 1),
+            inside (may_stand k) (covers_known language version k) (none_second (own_breaks language version m (form_in rows (known k)) (known k) s below) inner e) (number + 1),
             rest (number + suc (size f)),
           )
 
@@ -716,7 +755,7 @@ AreModules home (node s below after) = (s.keyword ≡ module_word) × (s.home �
 
 pub record IsModule (language : Language) (m : ℕ) (s : Statement) (below : Forest Statement) : Type 0 where
   pub keyword : kept_keyword_in language false s ≡ Some module_word
-  pub own : own_breaks language (version_in language below) m (known module_word) s below ≡ []
+  pub own : own_breaks language (version_in language below) m (rule_in language (version_in language below) (known module_word)).form (known module_word) s below ≡ []
   pub inner : row_breaks_in language (version_in language below) m (rule_in language (version_in language below) (known module_word)).substatements below ≡ []
 
 pub is_module : (language : Language) (m : ℕ) (s : Statement) (below : Forest Statement) → top_breaks language m s below ≡ [] → IsModule language m s below
@@ -726,7 +765,7 @@ is_module language m s below e = by (word_named language s.keyword) refl e
     version = version_in language below
 
     own : List Break
-    own = own_breaks language version m (known module_word) s below
+    own = own_breaks language version m (rule_in language version (known module_word)).form (known module_word) s below
 
     inner : List Break
     inner = row_breaks_in language version m (rule_in language version (known module_word)).substatements below

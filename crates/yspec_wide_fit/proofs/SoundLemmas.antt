@@ -7,7 +7,7 @@ use Rattle.yspec.specs.text.Text.{is_identifier}
 use Rattle.yspec.specs.linking.Keyword.{Keyword, same_keyword, leaf_word, leaf_list_word, choice_word, case_word, uses_word}
 use Rattle.yspec.specs.linking.Table as narrow
 use Rattle.yspec.specs.linking.Source.{Source, is_source_of, first_with, argument_in}
-use Rattle.yspec.specs.linking.Parts.{Part, defines_node, part_of, case_for, as_cases, within}
+use Rattle.yspec.specs.linking.Parts.{Part, defines_node, own_of, part_of, case_for, as_cases, within}
 use Rattle.yspec.specs.linking.Expansion.{laid, is_uses, owned_by, replaced}
 use Rattle.yspec.proofs.LinkingProofs.KeywordLemmas.{of_each, same_is, by_definition}
 use Rattle.yspec.proofs.LinkingProofs.ExpansionLemmas.{SameNodes}
@@ -166,11 +166,23 @@ pub record IsLaidAt (p : Part) (below : Forest Part) : Type 0 where
   pub name : is_identifier (argument_in p.source) ≡ true
   pub bare : is_leaf_word p.source.keyword ≡ true → below ≡ end
 
+-- what a `uses` states is legal
+abbrev pub IsUsedAt : Part → Type 0
+IsUsedAt p = (home : ℕ) × IsLegal home (may_stand uses_word) p.own
+
 -- the same of all but the `uses` among them
 abbrev pub AreLaid : Row → Forest Part → Type 0
 AreLaid r end = Unit {0}
-AreLaid r (node p below after) = (stands_in r (is_case_part p) ≡ true) × (is_uses p ≡ false → IsLaidAt p below)
+AreLaid r (node p below after) = (stands_in r (is_case_part p) ≡ true) × ((is_uses p ≡ false → IsLaidAt p below) × (is_uses p ≡ true → IsUsedAt p))
     × AreLaid (row_below (is_choice_part p)) below × AreLaid r after
+
+legal_own : (home : ℕ) (allowed : List narrow.Allowed) (f : Forest Source) → IsLegal home allowed f → IsLegal home allowed (own_of f)
+legal_own home allowed end legal = tt
+legal_own home allowed (node s below after) legal = by (defines_node s.keyword) (legal_own home allowed after legal.2)
+  where
+    by : (b : Bool) → IsLegal home allowed (own_of after) → IsLegal home allowed (cond b (own_of after) (node s below (own_of after)))
+    by true rest = rest
+    by false rest = (legal.0, legal.1, rest)
 
 abbrev NoneUsed : Forest Part → Type 0
 NoneUsed end = Unit {0}
@@ -212,7 +224,7 @@ laid_cases (node p below after) none are = by (is_case_part p) refl (laid_cases 
     by true is rest = (is, are.1, are.2, rest)
     by false is rest = (
       refl,
-      λ no. record { defines = refl; name = (are.1 none.0).name; bare = λ no. absurd cc },
+      (λ no. record { defines = refl; name = (are.1.0 none.0).name; bare = λ no. absurd cc }, λ no. absurd cc),
       (opposite (is_case_part p) is, are.1, are.2, tt),
       rest,
     )
@@ -241,11 +253,22 @@ laid_right home allowed (node s below after) r legal stands = by (defines_node s
         → AreLaid r (cond b (node (part_of s below) (within s (laid below)) (laid after)) (cond c (node (part_of s below) end (laid after)) (laid after)))
     by true defines c uses deeper rest = (
       stands.0,
-      λ is. record { defines = defines; name = legal.0.named defines; bare = bare (same_keyword choice_word s.keyword) },
+      (
+        λ is. record { defines = defines; name = legal.0.named defines; bare = bare (same_keyword choice_word s.keyword) },
+        λ is. absurd (let no : false ≡ true = sym (node_is_no_use s.keyword defines) ∙ is in cc),
+      ),
       inside defines deeper (same_keyword choice_word s.keyword) refl,
       rest,
     )
-    by false defines true uses deeper rest = (stands.0, (λ is. absurd (let no : true ≡ false = sym uses ∙ is in cc)), tt, rest)
+    by false defines true uses deeper rest = (
+      stands.0,
+      (
+        λ is. absurd (let no : true ≡ false = sym uses ∙ is in cc),
+        λ is. (home, legal_own home (may_stand uses_word) below (subst (λ k. IsLegal home (may_stand k) below) (sym (same_is uses_word s.keyword uses)) legal.1)),
+      ),
+      tt,
+      rest,
+    )
     by false defines false uses deeper rest = rest
 
 -- ---- what they are replaced by
@@ -253,7 +276,7 @@ laid_right home allowed (node s below after) r legal stands = by (defines_node s
 use_is_no_case : (k : Keyword) → same_keyword uses_word k ≡ true → same_keyword case_word k ≡ false
 use_is_no_case k is = ap (same_keyword case_word) (sym (same_is uses_word k is))
 
-pub sound_replaced : (count : ℕ) (meant : Part → Forest Part) → ((u : Part) → AreSound count elsewhere (meant u)) → (owner : ℕ) → owner < count
+pub sound_replaced : (count : ℕ) (meant : Part → Forest Part) → ((u : Part) → IsUsedAt u → AreSound count elsewhere (meant u)) → (owner : ℕ) → owner < count
     → (r : Row) (f : Forest Part) → AreLaid r f → AreSound count r (replaced meant owner f)
 unfolding replaced
 sound_replaced count meant sound owner few r end are = tt
@@ -264,8 +287,8 @@ sound_replaced count meant sound owner few r (node p below after) are = by (is_u
     by : (b : Bool) → is_uses p ≡ b → AreSound count (row_below (is_choice_part p)) (replaced meant owner below) → AreSound count r (replaced meant owner after)
         → AreSound count r (cond b (join (meant p) (replaced meant owner after)) (node (owned_by owner p) (replaced meant owner below) (replaced meant owner after)))
     by true is inner rest = sound_joined count r (meant p) (replaced meant owner after)
-        (sound_in count r (meant p) (ap (stands_in r) (sym (use_is_no_case p.source.keyword is)) ∙ are.0) (sound p)) rest
-    by false is inner rest = let here = are.1 is in (
+        (sound_in count r (meant p) (ap (stands_in r) (sym (use_is_no_case p.source.keyword is)) ∙ are.0) (sound p (are.1.1 is))) rest
+    by false is inner rest = let here = are.1.0 is in (
       are.0,
       record { defines = here.defines; name = here.name; owner = few; bare = λ leaf. ap (replaced meant owner) (here.bare leaf) },
       inner,

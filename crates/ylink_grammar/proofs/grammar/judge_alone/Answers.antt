@@ -1,12 +1,12 @@
-use Rattle.std.proofs.Common.{[], ◌∷◌, ◌++◌, ap, ap₂, not, false, ◌∙◌}
+use Rattle.std.proofs.Common.{[], ◌∷◌, ◌++◌, ap, ap₂, not, ◌∙◌}
 use Rattle.yspec.specs.schema.Breaks.{broken, least_from, when}
 use Rattle.std.specs.List.{list_any}
-use Rattle.std.specs.Option.{option_map_or}
-use Rattle.yspec_wide.specs.Table.{fits_in, takes_none, rule_in}
+use Rattle.yspec_wide.specs.Table.{rule_in}
 use Rattle.yspec_wide.specs.StatementBreaks.{argument_breaks, type_breaks, version_breaks, count_breaks, is_miscounted}
 use Rattle.ytext.specs.View.{view}
 use Rattle.ylink_conditions.specs.View.{version_view}
 use Rattle.ylink_grammar.specs.BreakView.{break_view, seen}
+use Rattle.ylink_grammar.specs.FormView.{wide_form_view}
 use Rattle.ylink_grammar.specs.LanguageView.{language_view}
 use Rattle.ylink_grammar.specs.WordView.{word_view}
 use Rattle.ylink_grammar.proofs.JudgeLemmas.{judged_alone, unbroken}
@@ -21,9 +21,8 @@ returns-then-not-miscounted c =
     let w = word_view c.args.word in
     let s = (view c.args.statement.now).0 in
     let below = (view c.args.statement.now).1 in
-    let form = ap (λ r. r.form) c.rule_in-rule.ensures.rule in
-    let fitting = c.in_ok-unfitting.ensures ∙ ap (λ f. option_map_or (fits_in v f) s.argument (takes_none f)) form in
-    let counted = c.is_miscounted-miscounted.ensures ∙ ap (λ r. list_any (is_miscounted l below) r.substatements) c.rule_in-rule.ensures.rule in
+    let fitting = c.in_ok-unfitting.ensures in
+    let counted = c.is_miscounted-miscounted.ensures ∙ ap (λ r. list_any (is_miscounted l below) r.substatements) c.requires.rule in
     let told = seen c.args.told.now in
     unbroken told _ _ _ _ (broken 3 m s.line) (broken 1 m s.line) (broken 4 m s.line) (broken 2 m s.line) c.if-not-miscounted.true
     ∙ ap (least_from told) (ap₂ (λ x y. x ++ y) (ap (λ b. when (not b) (broken 3 m s.line)) fitting)
@@ -39,13 +38,12 @@ returns c =
     let w = word_view c.args.word in
     let s = (view c.args.statement.now).0 in
     let below = (view c.args.statement.now).1 in
-    let form = ap (λ r. r.form) c.rule_in-rule.ensures.rule in
-    let fitting = c.in_ok-unfitting.ensures ∙ ap (λ f. option_map_or (fits_in v f) s.argument (takes_none f)) form in
-    let counted = c.is_miscounted-miscounted.ensures ∙ ap (λ r. list_any (is_miscounted l below) r.substatements) c.rule_in-rule.ensures.rule in
+    let fitting = c.in_ok-unfitting.ensures in
+    let counted = c.is_miscounted-miscounted.ensures ∙ ap (λ r. list_any (is_miscounted l below) r.substatements) c.requires.rule in
     judged_alone (seen c.args.told.now) (seen c.least_when-first.result) (seen c.least_when-first-2.result) (seen c.least_when-first-3.result)
     (seen c.least_when.result) (when _ (break_view c.broken.result ∷ [])) (when _ (break_view c.broken-2.result ∷ []))
     (when _ (break_view c.broken-3.result ∷ [])) (when _ (break_view c.broken-4.result ∷ []))
-    (argument_breaks m v (rule_in l v w).form s) (type_breaks l m w s) (version_breaks l m w s below) (count_breaks l m s below (rule_in l v w).substatements)
+    (argument_breaks m v (wide_form_view c.args.form) s) (type_breaks l m w s) (version_breaks l m w s below) (count_breaks l m s below (rule_in l v w).substatements)
     c.least_when-first.ensures c.least_when-first-2.ensures c.least_when-first-3.ensures c.least_when.ensures
     (ap₂ (λ b x. when (not b) (break_view x ∷ [])) fitting c.broken.ensures)
     (ap₂ (λ b x. when b (break_view x ∷ [])) c.is_type_outside-outside.ensures c.broken-2.ensures ∙ type_alike l m w s)

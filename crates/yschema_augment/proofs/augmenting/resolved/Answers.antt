@@ -4,8 +4,6 @@ use Rattle.std.proofs.lemmas.List.{length-map}
 use Rattle.yspec.specs.linking.Augments.{in_turn, target_steps}
 use Rattle.yspec_wide.specs.Expansion as spec
 use Rattle.ybase_index.specs.Index.{texts_of}
-use Rattle.ylink_features.specs.VersionView.{AreVersionsOf}
-use Rattle.ylink_grammar.specs.LinkView.{view}
 use Rattle.yschema_augment.specs.Asking.{AreNames, texts_seen}
 use Rattle.yschema_expand.specs.AugmentView.{augment_view, augments_seen}
 use Rattle.yschema_augment.specs.Hanging.{plain}
@@ -25,8 +23,7 @@ invariant_of-targets c = record {
       ∙ (ap length c.in_ok-texts.ensures.paths
       ∙ (length-map (augments_seen c.args.augments.now) (target_steps (modules_of c.args.named.now))
       ∙ length-map c.args.augments.now augment_view)));
-  dated = subst (AreVersionsOf c.in_ok-versions.versions (language_of c.args.named.now)) c.sources.ensures
-      (subst (λ l. AreVersionsOf c.in_ok-versions.versions l (view c.sources.result.now)) c.language.ensures c.in_ok-versions.ensures);
+  dated = c.versions.ensures;
 }
 
 pub resolve-requires : goal.resolve-requires

@@ -1,7 +1,8 @@
-use Rattle.std.proofs.Common.{◌≡◌, ◌∙◌, ◌+◌, ◌++◌, true, None, List, [], ◌∷◌, ap₂, drop, get_or, length, sym, ap, subst}
+use Rattle.std.proofs.Common.{◌∙◌, ◌+◌, ◌++◌, suc, true, None, List, [], ◌∷◌, ap₂, drop, get_or, length, sym, ap, subst}
 use Rattle.std.proofs.lemmas.List.{append_assoc, drop_more}
 use Rattle.std.specs.List.{flat_map}
 use Rattle.yspec.specs.Forest.{size}
+use Rattle.yspec.specs.linking.Expansion.{laid}
 use Rattle.yspec_wide.specs.Expansion.{body_breaks_in}
 use Rattle.ybase_preorder.specs.View.{row_by}
 use Rattle.ybase_preorder.specs.declared.siblings.Node.{Node}
@@ -12,8 +13,9 @@ use Rattle.yschema_expand.specs.AugmentView.{augment_view, augments_seen}
 use Rattle.yschema_expand.specs.Bodies.{body_of, bodies_of, starts_from}
 use Rattle.yschema_expand.specs.NamedView.{language_of, modules_of}
 use Rattle.yschema_expand.specs.TableView.{slots_of}
-use Rattle.yschema_expand.specs.Walk.{Adds}
+use Rattle.yschema_expand.specs.Walk.{Adds, AllEnd}
 use Rattle.yschema_expand.proofs.BodyLemmas.{kept_there}
+use Rattle.yschema_expand.proofs.EndLemmas.{augment_ends}
 use Rattle.yschema_expand.proofs.WalkLemmas.{adds_join, adds_length}
 use Rattle.yschema_expand.proofs.bodies.add_bodies.Goals as goal
 
@@ -26,6 +28,16 @@ add_body-requires-clause-kept c =
     ap (λ (n : Node Source). are_kept_right l (row_by source_view n.children)) c.augment-item.is
     ∙ kept_there l m c.args.augments.now c.loop-augment.augment-index item (drop (c.loop-augment.augment-index + 1) c.args.augments.now)
     c.args.context.now.named.now.kept c.requires.augments at
+
+pub add_body-requires-clause-ends : goal.add_body-requires-clause-ends
+add_body-requires-clause-ends c =
+    let l = language_of c.args.context.now.named.now in
+    let m = modules_of c.args.context.now.named.now in
+    let item = get_or c.args.augments.now c.loop-augment.augment-index c.augment-item.result in
+    let at = drop_more c.args.augments.now c.loop-augment.augment-index c.augment-item.result c.loop-augment-test.true in
+    subst (λ (n : Node Source). AllEnd l m (suc (size m)) (laid (row_by source_view n.children))) (sym c.augment-item.is)
+    (augment_ends l m c.args.augments.now c.loop-augment.augment-index item (drop (c.loop-augment.augment-index + 1) c.args.augments.now)
+    c.requires.known.0 c.requires.augments at)
 
 pub loop-augment-preserved : goal.loop-augment-preserved
 loop-augment-preserved c =

@@ -1,7 +1,6 @@
-use Rattle.std.proofs.Common.{rules, ◌≡◌, ◌∙◌, ◌+◌, true, false, suc, None, length, sym, ap, subst}
+use Rattle.std.proofs.Common.{rules, ◌≡◌, ◌∙◌, ◌+◌, true, suc, None, length, sym, ap, subst}
 use Rattle.yspec.specs.Forest.{end, node, size}
 use Rattle.yspec.specs.linking.Expansion.{laid, groupings_of}
-use Rattle.yspec.specs.linking.Rewriting.{ends_within}
 use Rattle.ybase_preorder.specs.View.{row_by, label_by, slots_in}
 use Rattle.ybase_preorder.proofs.RowLemmas.{takes_by, takes_none_by}
 use Rattle.ylink_grammar.specs.SourceView.{source_view}
@@ -10,10 +9,11 @@ use Rattle.yschema_given.proofs.KeepingLemmas.{kept_parts}
 use Rattle.yschema_expand.specs.AugmentView.{augment_view}
 use Rattle.yschema_expand.specs.Bodies.{body_nodes}
 use Rattle.yschema_expand.specs.NamedView.{language_of, modules_of}
-use Rattle.yschema_expand.specs.Walk.{breaks_for, Adds}
+use Rattle.yschema_expand.specs.Walk.{breaks_for, ends_within_in, Adds, AllEnd}
 use Rattle.yschema_expand.proofs.BodyLemmas.{adds_rest}
+use Rattle.yschema_expand.proofs.EndLemmas.{all_first}
 use Rattle.yschema_expand.proofs.GroupingLemmas.{laid_end}
-use Rattle.yschema_expand.proofs.WalkLemmas.{adds_none, all_pass, breaks_none, depth_of}
+use Rattle.yschema_expand.proofs.WalkLemmas.{adds_none, breaks_none, depth_of}
 use Rattle.yschema_expand.proofs.bodies.add_body.Goals as goal
 
 pub loop-statement-init : goal.loop-statement-init
@@ -27,6 +27,7 @@ loop-statement-init c =
       more = tt;
       ends = tt;
       kept = ap (are_kept_right l) whole ∙ c.requires.kept;
+      ends_there = subst (λ f. AllEnd l m (suc (size m)) (laid f)) (sym whole) c.requires.ends;
       so_far = λ final added. subst (λ f. Adds None (body_nodes l m a.source.home (suc (size m)) a.given (laid f)) (breaks_for l m a.source.home (suc (size m)) (laid f)) c.args.made.now final) whole added;
     }
 
@@ -45,10 +46,16 @@ add_cased-requires-clause-kept c =
 
 pub add_cased-requires-clause-ends : goal.add_cased-requires-clause-ends
 add_cased-requires-clause-ends c =
+    let l = language_of c.args.context.now.named.now in
     let m = modules_of c.args.context.now.named.now in
     let depth = depth_of m (slots_in c.sources.result.now.table) c.slots.result.now (sym c.sources.ensures) c.slots.ensures in
-    all_pass (ends_within m (groupings_of m) (length c.slots.result.now + 1)) (λ u. ap (λ n. ends_within m (groupings_of m) n u) depth ∙ c.requires.known.0 u)
-    (laid (node (label_by source_view c.in-Some.statement) (row_by source_view c.in-Some.statement.children) end))
+    let after = c.next.new.self in
+    let s = label_by source_view c.in-Some.statement in
+    let below = row_by source_view c.in-Some.statement.children in
+    let taken = takes_by source_view c.loop-statement.statement-iterator after c.in-Some.statement c.in-Some.ensures.steps in
+    let parts = all_first (ends_within_in l m (groupings_of m) (suc (size m))) s below (row_by source_view after)
+    (subst (λ f. AllEnd l m (suc (size m)) (laid f)) taken c.loop-statement.invariant.ends_there) in
+    subst (λ n. AllEnd l m n (laid (node s below end))) (sym depth) parts.0
 
 pub loop-statement-preserved : goal.loop-statement-preserved
 loop-statement-preserved c =
@@ -77,6 +84,8 @@ loop-statement-preserved c =
       more = tt;
       ends = tt;
       kept = (kept_parts l s below rest (subst (λ f. are_kept_right l f ≡ true) taken c.loop-statement.invariant.kept)).2;
+      ends_there = (all_first (ends_within_in l m (groupings_of m) (suc (size m))) s below rest
+          (subst (λ f. AllEnd l m (suc (size m)) (laid f)) taken c.loop-statement.invariant.ends_there)).1;
       so_far = λ final added. c.loop-statement.invariant.so_far final
           (subst (λ f. Adds None (body_nodes l m a.source.home full a.given (laid f)) (breaks_for l m a.source.home full (laid f)) now final) (sym taken)
           (adds_rest l m a.source.home full a.given s below rest now mid final one added));

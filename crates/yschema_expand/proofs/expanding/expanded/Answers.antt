@@ -1,15 +1,15 @@
 use Rattle.std.proofs.Common.{rules, true, ◌≡◌, ◌+◌, suc, None, length, sym, ap, ◌∙◌, subst}
 use Rattle.yspec.specs.Forest.{size}
 use Rattle.yspec.specs.linking.Expansion.{laid, groupings_of}
-use Rattle.yspec.specs.linking.Rewriting.{ends_within}
 use Rattle.yspec_wide.specs.Expansion.{expanded_in_from, unfit_in_from}
 use Rattle.ybase_preorder.specs.View.{row_by, label_by, slots_in}
 use Rattle.ybase_preorder.proofs.RowLemmas.{takes_by, takes_none_by}
 use Rattle.ylink_grammar.specs.SourceView.{source_view}
 use Rattle.yschema_expand.specs.NamedView.{language_of, modules_of}
-use Rattle.yschema_expand.specs.Walk.{Adds, AddsParts, nodes_for, breaks_for}
+use Rattle.yschema_expand.specs.Walk.{Adds, AddsParts, AllEnd, nodes_for, breaks_for}
 use Rattle.yschema_expand.specs.declared.expanding.Made.{Made}
-use Rattle.yschema_expand.proofs.WalkLemmas.{adds_join, adds_none, all_pass, begun, depth_of}
+use Rattle.yschema_expand.proofs.EndLemmas.{RowsEnd, rows_end}
+use Rattle.yschema_expand.proofs.WalkLemmas.{adds_join, adds_none, begun, depth_of}
 use Rattle.yschema_given.specs.Keeping.{are_kept_right}
 use Rattle.yschema_given.proofs.KeepingLemmas.{kept_parts}
 use Rattle.yschema_expand.proofs.expanding.expanded.Goals as goal
@@ -26,15 +26,20 @@ loop-top-init c =
       more = tt;
       ends = tt;
       kept = ap (are_kept_right l) whole ∙ c.args.named.now.kept;
+      ends_there = subst (RowsEnd l m) (sym whole) (rows_end l m c.requires.0);
       so_far = λ final added. subst (λ f. Adds None (expanded_in_from l m groupings f) (unfit_in_from l m groupings f) start final) whole added;
     }
 
 pub add_nodes-requires-clause-ends : goal.add_nodes-requires-clause-ends
 add_nodes-requires-clause-ends c =
+    let l = language_of c.args.named.now in
     let m = modules_of c.args.named.now in
     let depth = depth_of m (slots_in c.sources-sources.result.now.table) c.slots.result.now (sym c.sources-sources.ensures) c.slots.ensures in
-    all_pass (ends_within m (groupings_of m) (length c.slots.result.now + 1)) (λ u. ap (λ n. ends_within m (groupings_of m) n u) depth ∙ c.requires.0 u)
-    (laid (row_by source_view c.children.result))
+    let taken = takes_by source_view c.loop-top.top-iterator c.next.new.self c.in-Some.top c.in-Some.ensures.steps in
+    let below = row_by source_view c.in-Some.top.children in
+    let first = (subst (RowsEnd l m) taken c.loop-top.invariant.ends_there).0 in
+    subst (λ r. AllEnd l m (length c.slots.result.now + 1) (laid (row_by source_view r))) (sym c.children.ensures)
+    (subst (λ n. AllEnd l m n (laid below)) (sym depth) first)
 
 pub add_nodes-requires-clause-kept : goal.add_nodes-requires-clause-kept
 add_nodes-requires-clause-kept c =
@@ -72,6 +77,7 @@ loop-top-preserved c =
       more = tt;
       ends = tt;
       kept = (kept_parts l s below rest (subst (λ f. are_kept_right l f ≡ true) taken c.loop-top.invariant.kept)).2;
+      ends_there = (subst (RowsEnd l m) taken c.loop-top.invariant.ends_there).1;
       so_far = λ final added. c.loop-top.invariant.so_far final
           (subst (λ f. Adds None (expanded_in_from l m groupings f) (unfit_in_from l m groupings f) now final) (sym taken)
           (adds_join None (nodes_for l m s.home full (laid below)) (expanded_in_from l m groupings rest) (breaks_for l m s.home full (laid below)) (unfit_in_from l m groupings rest) now mid final one added));

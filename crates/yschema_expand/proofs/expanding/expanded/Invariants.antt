@@ -7,6 +7,7 @@ use Rattle.yschema_expand.specs.NamedView.{language_of, modules_of}
 use Rattle.yschema_expand.specs.Walk.{Adds}
 use Rattle.yschema_expand.specs.declared.expanding.Made.{Made}
 use Rattle.yschema_given.specs.Keeping.{are_kept_right}
+use Rattle.yschema_expand.proofs.EndLemmas.{RowsEnd}
 use Rattle.yschema_expand.proofs.expanding.expanded.Given as goal
 
 -- whatever adds the nodes of the modules that are left adds those of all
@@ -19,6 +20,7 @@ invariant-loop-top l =
       more : (goal.iterator-loop-top).can_next l.top-iterator;
       ends : (goal.iterator-loop-top).is_finite l.top-iterator;
       kept : are_kept_right language (row_by source_view l.top-iterator) ≡ true;
+      ends_there : RowsEnd language m (row_by source_view l.top-iterator);
       so_far : (final : Made) → Adds None (expanded_in_from language m groupings (row_by source_view l.top-iterator)) (unfit_in_from language m groupings (row_by source_view l.top-iterator)) l.made final
           → Adds None (expanded_in_from language m groupings m) (unfit_in_from language m groupings m) l.initial.made final;
     }

@@ -1,11 +1,11 @@
 use Rattle.std.proofs.Common.{◌≡◌, ◌∙◌, ◌<◌, length, get_or, min, cond, arith, sym, ap}
 use Rattle.std.specs.Prelude.{◌==◌}
-use Rattle.yspec.specs.linking.Expansion.{groupings_of, row_in}
-use Rattle.yspec.specs.linking.NodeCounts.{counted}
+use Rattle.yspec.specs.linking.Keyword.{grouping_word}
+use Rattle.yspec_wide.specs.NodeCounts.{counted_below}
 use Rattle.ybase_preorder.specs.View.{forest_in, slots_in}
-use Rattle.yschema_expand.specs.Counting.{count_at, count_by, many}
-use Rattle.yschema_expand.specs.NamedView.{modules_of}
-use Rattle.yschema_expand.proofs.OrderLemmas.{counted_next, counted_all}
+use Rattle.yschema_expand.specs.Counting.{count_at, count_by, grouping_row, many}
+use Rattle.yschema_expand.specs.NamedView.{language_of, modules_of}
+use Rattle.yschema_expand.proofs.CountLemmas.{counted_next, counted_all}
 use Rattle.yschema_expand.proofs.WalkLemmas.{depth_of}
 use Rattle.yschema_expand.proofs.groupings.counts_of.Goals as goal
 
@@ -21,6 +21,7 @@ loop-number-init c =
 
 pub loop-number-preserved : goal.loop-number-preserved
 loop-number-preserved c =
+    let l = language_of c.args.named.now in
     let m = modules_of c.args.named.now in
     let f = forest_in c.args.named.now.sources.now.table in
     let nodes = c.args.order.now in
@@ -31,11 +32,11 @@ loop-number-preserved c =
     let below = c.requires.within i within in
     let long = c.loop-number.invariant.count in
     let inside : number < length old = omega (arith, below, long) in
-    let own : c.count_in-count.result ≡ min (counted (count_by old m) (row_in (groupings_of m) number)) many =
-    c.count_in-count.ensures ∙ ap (λ counts. min (counted (count_by counts m) (row_in (groupings_of m) number)) many) c.deref.ensures.value in
+    let own : c.count_in-count.result ≡ min (counted_below l (count_by old m) grouping_word (grouping_row m number)) many =
+    c.count_in-count.ensures ∙ ap (λ counts. min (counted_below l (count_by counts m) grouping_word (grouping_row m number)) many) c.deref.ensures.value in
     record {
       count = c.set_count.ensures.length ∙ long;
-      known = counted_next f nodes c.requires (count_at old) (count_at c.set_count.new.counts.items) i c.loop-number.invariant.known within
+      known = counted_next l f nodes c.requires (count_at old) (count_at c.set_count.new.counts.items) i c.loop-number.invariant.known within
           (λ e. c.set_count.ensures.count e inside ∙ ap (λ k. cond (e == number) k (count_at old e)) own);
     }
 
@@ -45,4 +46,4 @@ returns c = λ e named.
     let nodes = c.args.order.now in
     let table = count_at c.loop-number.counts.items in
     let ended = c.loop-number-test.false in
-    counted_all f nodes c.requires table (λ j before inside. c.loop-number.invariant.known j (omega (arith, before, ended)) inside) e named
+    counted_all (language_of c.args.named.now) f nodes c.requires table (λ j before inside. c.loop-number.invariant.known j (omega (arith, before, ended)) inside) e named

@@ -1,12 +1,12 @@
-use Rattle.std.proofs.Common.{rules, ◌≡◌, ◌∙◌, ◌<◌, None, length, get_or, cond, arith, sym, ap}
+use Rattle.std.proofs.Common.{rules, ◌≡◌, ◌∙◌, ◌<◌, false, None, length, get_or, cond, arith, sym, ap}
 use Rattle.std.specs.Prelude.{◌==◌}
 use Rattle.yspec.specs.schema.Breaks.{least_from}
 use Rattle.ybase_preorder.specs.View.{forest_in, slots_in}
 use Rattle.ylink_grammar.specs.BreakView.{seen}
 use Rattle.ylink_names.specs.Ordered.{IsNamed}
-use Rattle.yschema_expand.specs.Counting.{count_at, refine_at, top_refines}
+use Rattle.yschema_expand.specs.Counting.{count_at, grouping_row, refine_at, refine_by, top_breaks}
 use Rattle.yschema_expand.specs.NamedView.{language_of, modules_of}
-use Rattle.yschema_expand.proofs.OrderLemmas.{total}
+use Rattle.yschema_expand.proofs.CountLemmas.{whole}
 use Rattle.yschema_expand.proofs.ToldLemmas.{told_next, told_all}
 use Rattle.yschema_expand.proofs.WalkLemmas.{depth_of}
 use Rattle.yschema_expand.proofs.groupings.refines_of.Goals as goal
@@ -22,15 +22,16 @@ loop-number-init c =
     }
 
 pub returns : goal.returns
-returns c = λ e owner named empty.
+returns c = λ e owner depth named empty enough.
     let f = forest_in c.args.named.now.sources.now.table in
     let nodes = c.args.order.now in
     let refines = refine_at c.loop-number.refines.items in
     let ended = c.loop-number-test.false in
-    told_all (language_of c.args.named.now) f nodes c.requires.order refines (λ j before inside. c.loop-number.invariant.known j (omega (arith, before, ended)) inside) e owner named empty
+    told_all (language_of c.args.named.now) f nodes c.requires.order refines (λ j before inside. c.loop-number.invariant.known j (omega (arith, before, ended)) inside) e owner depth named empty enough
 
 pub loop-number-preserved : goal.loop-number-preserved
 loop-number-preserved c =
+    let l = language_of c.args.named.now in
     let m = modules_of c.args.named.now in
     let f = forest_in c.args.named.now.sources.now.table in
     let nodes = c.args.order.now in
@@ -43,12 +44,11 @@ loop-number-preserved c =
     let long = c.loop-number.invariant.count in
     let inside : number < length old = omega (arith, below, long) in
     let held : count_at c.args.counts.now number ≡ 0 = sym c.count_at.ensures ∙ first_of (search rules, grind arith, cc) in
-    let empty : IsNamed m number → total f number ≡ 0 = λ named. let counted_is = c.requires.counts number named in omega (arith, held, counted_is) in
-    let told = c.refine_told-refine.ensures in
-    let own : seen c.refine_told-refine.result ≡ least_from None (top_refines old m told.0) =
-    told.2 ∙ ap (λ rs. least_from None (top_refines rs m told.0)) c.deref.ensures.value in
+    let empty : IsNamed m number → whole l f number ≡ 0 = λ named. let counted_is = c.requires.counts number named in omega (arith, held, counted_is) in
+    let own : seen c.refine_told-refine.result ≡ least_from None (top_breaks l (refine_by old m) false (grouping_row m number)) =
+    c.refine_told-refine.ensures ∙ ap (λ rs. least_from None (top_breaks l (refine_by rs m) false (grouping_row m number))) c.deref.ensures.value in
     record {
       count = c.set_refine.ensures.length ∙ long;
-      known = told_next (language_of c.args.named.now) f nodes c.requires.order old new i c.loop-number.invariant.known within empty told.0 told.1
+      known = told_next l f nodes c.requires.order (refine_at old) (refine_at new) i c.loop-number.invariant.known within empty
           (λ e. c.set_refine.ensures.refine e inside ∙ ap (λ o. cond (e == number) o (refine_at old e)) own);
     }

@@ -31,4 +31,4 @@ returns c = λ modules earlier parent f of_it count at.
     IfOk-weaker c.fit.result _ _ (λ number is. is
     ∙ (ap (λ g. option_and_then (λ n. cond (option_map_or (λ p. may_bear_in l p (row_by source_view g)) (part_in slots n) false) (Some n) None) c.number_at-number.result) c.children.ensures
     ∙ fit_there slots first earlier parent f count at l (refine_steps modules owner s) given c.number_at-number.result
-    (c.number_at-number.ensures modules earlier parent f of_it count at ∙ ap (λ ss. option_map (λ x. x.number) (found_at ss first f)) steps))) c.fit.ensures
+    (c.number_at-number.ensures.found modules earlier parent f of_it count at ∙ ap (λ ss. option_map (λ x. x.number) (found_at ss first f)) steps))) c.fit.ensures

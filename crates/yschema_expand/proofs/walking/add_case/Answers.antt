@@ -28,11 +28,11 @@ returns c =
     let old = c.args.made.now in
     let mid : Made = record { table = c.open.new.self; told = old.told } in
     let inner = laid (node s below end) in
-    let whole = tolls_node (toll_for m depth) (case_for (part_of s below)) inner refl in
-    on_ok_weaker c.add_alone.result (λ leads. leaves_behind (Does l m) (toll m) (TaskEnds l m) (AddsParts l m (Some n) owner depth inner) (AddsParts l m parent owner depth (node (case_for (part_of s below)) inner end))
-    (toll_of m depth (size (row_view c.args.statement.children)) inner) (toll_of m depth (size (row_view c.args.statement.children)) (node (case_for (part_of s below)) inner end)) (Close n) c.args.tasks.now.items
+    let whole = tolls_node (toll_for l m depth) (case_for (part_of s below)) inner refl in
+    on_ok_weaker c.add_alone.result (λ leads. leaves_behind (Does l m) (toll l m) (TaskEnds l m) (AddsParts l m (Some n) owner depth inner) (AddsParts l m parent owner depth (node (case_for (part_of s below)) inner end))
+    (toll_of l m depth (size (row_view c.args.statement.children)) inner) (toll_of l m depth (size (row_view c.args.statement.children)) (node (case_for (part_of s below)) inner end)) (Close n) c.args.tasks.now.items
     c.add_alone.new.tasks.items old mid c.add_alone.new.made
     (λ full final added closed. adds_node l m owner depth parent (case_for (part_of s below)) inner c.new-label.result n old mid full final refl c.new-label.ensures
     c.in_ok-number.ensures.laid c.in_ok-number.ensures.number refl added closed.0 closed.1)
     tt (omega (arith, whole))
-    (subst (λ ts. Leads l m (AddsParts l m (Some n) owner depth inner) (toll_of m depth (size (row_view c.args.statement.children)) inner) ts c.add_alone.new.tasks.items mid c.add_alone.new.made) c.in_ok-push.ensures.items leads)) c.add_alone.ensures
+    (subst (λ ts. Leads l m (AddsParts l m (Some n) owner depth inner) (toll_of l m depth (size (row_view c.args.statement.children)) inner) ts c.add_alone.new.tasks.items mid c.add_alone.new.made) c.in_ok-push.ensures.items leads)) c.add_alone.ensures

@@ -33,7 +33,7 @@ returns-then-is_without_nodes c =
     let row = row_named m c.args.number in
     let none = (Decides-eqb _ _).0 (sym c.is_without_nodes.ensures ∙ c.if-is_without_nodes.true) in
     let known = c.requires.known.1 c.args.number owner depth none c.requires.ends in
-    leaves_none (Does l m) (toll m) (TaskEnds l m) (AddsParts l m parent owner depth row) _ c.args.tasks.now.items old (record { table = old.table; told = c.least_of-made.result }) (
+    leaves_none (Does l m) (toll l m) (TaskEnds l m) (AddsParts l m parent owner depth row) _ c.args.tasks.now.items old (record { table = old.table; told = c.least_of-made.result }) (
       sym (ap (λ f. parts_in old.table ++ places parent k f) known.0 ∙ append-nil (parts_in old.table)),
       c.least_of-made.ensures ∙ (ap (λ o. least_from (seen old.told) (told_list o)) (c.refine_in.ensures ∙ known.1)
           ∙ least_told (seen old.told) (breaks_for l m owner depth row)),
@@ -52,11 +52,11 @@ returns-in_ok-push c =
     let is : laid (row_by source_view found) ≡ row = sym (ap (λ r. laid (row_or_none r)) c.in-Some.is) ∙ c.grouping_used.ensures.row in
     let few = c.in-Some.ensures.within in
     let t : Task = Add c.args.place false found in
-    let cost = ap (tolls (toll_for m depth)) is in
-    subst (λ ts. Leads l m (AddsParts l m parent owner depth row) (toll_of m depth (size m) row + 1) c.args.tasks.now.items ts old old) (sym c.in_ok-push.ensures.items)
-    (leaves_so (Does l m) (toll m) (TaskEnds l m) (Does l m t) (AddsParts l m parent owner depth row) (suc (toll m t)) (toll_of m depth (size m) row + 1) c.args.tasks.now.items (c.args.tasks.now.items ++ t ∷ []) old old
+    let cost = ap (tolls (toll_for l m depth)) is in
+    subst (λ ts. Leads l m (AddsParts l m parent owner depth row) (toll_of l m depth (size m) row + 1) c.args.tasks.now.items ts old old) (sym c.in_ok-push.ensures.items)
+    (leaves_so (Does l m) (toll l m) (TaskEnds l m) (Does l m t) (AddsParts l m parent owner depth row) (suc (toll l m t)) (toll_of l m depth (size m) row + 1) c.args.tasks.now.items (c.args.tasks.now.items ++ t ∷ []) old old
     (λ mid does. subst (λ f. AddsParts l m parent owner depth f old mid) is does) (omega (arith, few, cost))
-    (leaves_task (Does l m) (toll m) (TaskEnds l m) t c.args.tasks.now.items old (subst (AllEnd m depth) (sym is) c.requires.ends, c.in-Some.ensures.kept)))
+    (leaves_task (Does l m) (toll l m) (TaskEnds l m) t c.args.tasks.now.items old (subst (AllEnd l m depth) (sym is) c.requires.ends, c.in-Some.ensures.kept)))
 
 pub returns-in_default : goal.returns-in_default
 returns-in_default c =
@@ -66,5 +66,5 @@ returns-in_default c =
     let owner = c.args.place.owner in
     let depth = c.args.place.depth in
     let row = row_named m c.args.number in
-    leaves_none (Does l m) (toll m) (TaskEnds l m) (AddsParts l m parent owner depth row) _ c.args.tasks.now.items c.args.made.now c.args.made.now
+    leaves_none (Does l m) (toll l m) (TaskEnds l m) (AddsParts l m parent owner depth row) _ c.args.tasks.now.items c.args.made.now c.args.made.now
     (adds_nothing l m owner depth parent row c.args.made.now (sym c.in_default.ensures.row ∙ laid_end))

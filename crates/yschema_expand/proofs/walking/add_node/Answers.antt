@@ -39,14 +39,14 @@ returns c =
     let inside : chosen chooses (laid (row_by source_view c.children.result)) ≡ within s (laid below) =
     ap₂ (λ b r. cond b (as_cases (laid r)) (laid r)) choice (ap (row_by source_view) c.children.ensures) in
     let inner = within s (laid below) in
-    let cost = ap (tolls (toll_for m depth)) inside in
+    let cost = ap (tolls (toll_for l m depth)) inside in
     let count = ap (λ r. size (row_view r)) c.children.ensures in
-    let whole = tolls_node (toll_for m depth) (part_of s below) inner c.requires.node in
+    let whole = tolls_node (toll_for l m depth) (part_of s below) inner c.requires.node in
     let items = c.in_ok-push-2.ensures.items ∙ ap (λ ts. ts ++ t ∷ []) c.in_ok-push.ensures.items in
-    subst (λ ts. Leads l m (AddsParts l m parent owner depth (node (part_of s below) inner end)) (toll_of m depth (size (row_view c.args.statement.children)) (node (part_of s below) inner end)) c.args.tasks.now.items ts old mid) (sym items)
-    (leaves_behind (Does l m) (toll m) (TaskEnds l m) (Does l m t) (AddsParts l m parent owner depth (node (part_of s below) inner end)) (suc (toll m t)) (toll_of m depth (size (row_view c.args.statement.children)) (node (part_of s below) inner end)) (Close n) c.args.tasks.now.items
+    subst (λ ts. Leads l m (AddsParts l m parent owner depth (node (part_of s below) inner end)) (toll_of l m depth (size (row_view c.args.statement.children)) (node (part_of s below) inner end)) c.args.tasks.now.items ts old mid) (sym items)
+    (leaves_behind (Does l m) (toll l m) (TaskEnds l m) (Does l m t) (AddsParts l m parent owner depth (node (part_of s below) inner end)) (suc (toll l m t)) (toll_of l m depth (size (row_view c.args.statement.children)) (node (part_of s below) inner end)) (Close n) c.args.tasks.now.items
     ((c.args.tasks.now.items ++ Close n ∷ []) ++ t ∷ []) old mid mid
     (λ full final added closed. adds_node l m owner depth parent (part_of s below) inner c.new-label.result n old mid full final c.requires.node c.new-label.ensures
     c.in_ok-number.ensures.laid c.in_ok-number.ensures.number refl (subst (λ f. AddsParts l m (Some n) owner depth f mid full) inside added) closed.0 closed.1)
     tt (omega (arith, cost, count, whole))
-    (leaves_task (Does l m) (toll m) (TaskEnds l m) t (c.args.tasks.now.items ++ Close n ∷ []) mid (subst (AllEnd m depth) (sym inside) c.requires.ends, subst (λ (r : Siblings held.Source). are_kept_right l (row_by source_view r) ≡ true) (sym c.children.ensures) c.requires.kept)))
+    (leaves_task (Does l m) (toll l m) (TaskEnds l m) t (c.args.tasks.now.items ++ Close n ∷ []) mid (subst (AllEnd l m depth) (sym inside) c.requires.ends, subst (λ (r : Siblings held.Source). are_kept_right l (row_by source_view r) ≡ true) (sym c.children.ensures) c.requires.kept)))

@@ -25,5 +25,5 @@ returns c =
     let now = c.args.made.now in
     let final = c.finish.new.made in
     on_ok_weaker c.finish.result (λ runs.
-    let done = runs_pop (Does l m) (toll m) (TaskEnds l m) [] t now final (subst (λ ts. Runs (Does l m) ts now final) only runs) in
+    let done = runs_pop (Does l m) (toll l m) (TaskEnds l m) [] t now final (subst (λ ts. Runs (Does l m) ts now final) only runs) in
     subst (Does l m t now) done.2 done.1) c.finish.ensures

@@ -23,18 +23,19 @@ returns-then-not-is_laid c =
     let s = label_by source_view c.args.statement in
     let below = row_by source_view c.args.statement.children in
     let other : is_laid s ≡ false = sym c.is_laid.ensures ∙ c.if-not-is_laid.true in
-    leaves_none (Does l m) (toll m) (TaskEnds l m) (AddsParts l m parent owner depth (chosen c.args.in_choice (laid (node s below end)))) _ c.args.tasks.now.items c.args.made.now c.args.made.now
+    leaves_none (Does l m) (toll l m) (TaskEnds l m) (AddsParts l m parent owner depth (chosen c.args.in_choice (laid (node s below end)))) _ c.args.tasks.now.items c.args.made.now c.args.made.now
     (adds_nothing l m owner depth parent (chosen c.args.in_choice (laid (node s below end))) c.args.made.now (chosen_empty c.args.in_choice (laid (node s below end)) (laid_none s below other)))
 
 pub add_case-requires-clause-ends : goal.add_case-requires-clause-ends
 add_case-requires-clause-ends c =
+    let l = language_of c.args.context.now.named.now in
     let m = modules_of c.args.context.now.named.now in
     let s = label_by source_view c.args.statement in
     let below = row_by source_view c.args.statement.children in
     let is : is_laid s ≡ true = sym c.is_laid.ensures ∙ c.if-not-is_laid.false in
     let single : (c.args.in_choice && not (same_keyword case_word s.keyword)) ≡ true = sym c.is_single.ensures ∙ c.if-is_single.true in
-    ends_node m c.args.place.owner c.args.place.depth (case_for (part_of s below)) (laid (node s below end)) refl
-    (subst (AllEnd m c.args.place.depth) (laid_single c.args.in_choice s below is single) c.requires.ends)
+    ends_node l m c.args.place.depth (case_for (part_of s below)) (laid (node s below end)) refl
+    (subst (AllEnd l m c.args.place.depth) (laid_single c.args.in_choice s below is single) c.requires.ends)
 
 pub returns-then-is_single : goal.returns-then-is_single
 returns-then-is_single c =
@@ -47,17 +48,18 @@ returns-then-is_single c =
     let below = row_by source_view c.args.statement.children in
     let is : is_laid s ≡ true = sym c.is_laid.ensures ∙ c.if-not-is_laid.false in
     let single : (c.args.in_choice && not (same_keyword case_word s.keyword)) ≡ true = sym c.is_single.ensures ∙ c.if-is_single.true in
-    on_ok_weaker c.add_case.result (subst (λ parts. Leads l m (AddsParts l m parent owner depth parts) (toll_of m depth (size (row_view c.args.statement.children)) parts)
+    on_ok_weaker c.add_case.result (subst (λ parts. Leads l m (AddsParts l m parent owner depth parts) (toll_of l m depth (size (row_view c.args.statement.children)) parts)
     c.args.tasks.now.items c.add_case.new.tasks.items c.args.made.now c.add_case.new.made) (sym (laid_single c.args.in_choice s below is single))) c.add_case.ensures
 
 pub add_alone-requires-clause-ends : goal.add_alone-requires-clause-ends
 add_alone-requires-clause-ends c =
+    let l = language_of c.args.context.now.named.now in
     let m = modules_of c.args.context.now.named.now in
     let s = label_by source_view c.args.statement in
     let below = row_by source_view c.args.statement.children in
     let is : is_laid s ≡ true = sym c.is_laid.ensures ∙ c.if-not-is_laid.false in
     let single : (c.args.in_choice && not (same_keyword case_word s.keyword)) ≡ false = sym c.is_single.ensures ∙ c.if-is_single.false in
-    subst (AllEnd m c.args.place.depth) (laid_own c.args.in_choice s below is single) c.requires.ends
+    subst (AllEnd l m c.args.place.depth) (laid_own c.args.in_choice s below is single) c.requires.ends
 
 pub returns : goal.returns
 returns c =
@@ -70,5 +72,5 @@ returns c =
     let below = row_by source_view c.args.statement.children in
     let is : is_laid s ≡ true = sym c.is_laid.ensures ∙ c.if-not-is_laid.false in
     let single : (c.args.in_choice && not (same_keyword case_word s.keyword)) ≡ false = sym c.is_single.ensures ∙ c.if-is_single.false in
-    on_ok_weaker c.add_alone.result (subst (λ parts. Leads l m (AddsParts l m parent owner depth parts) (toll_of m depth (size (row_view c.args.statement.children)) parts)
+    on_ok_weaker c.add_alone.result (subst (λ parts. Leads l m (AddsParts l m parent owner depth parts) (toll_of l m depth (size (row_view c.args.statement.children)) parts)
     c.args.tasks.now.items c.add_alone.new.tasks.items c.args.made.now c.add_alone.new.made) (sym (laid_own c.args.in_choice s below is single))) c.add_alone.ensures

@@ -15,4 +15,4 @@ invariant-loop-task l =
     }
 
 abbrev pub decreases-loop-task : goal.decreases-loop-task
-decreases-loop-task l = work (toll (modules_of l.context.named.now)) l.tasks.items
+decreases-loop-task l = work (toll (language_of l.context.named.now) (modules_of l.context.named.now)) l.tasks.items

@@ -15,6 +15,7 @@ returns c = record {
   of_a_keyword = refl;
   of_a_place = refl;
   of_a_rule = refl;
+  of_an_argument = refl;
   of_a_code = refl;
   in_small_letters = refl;
   of_no_code = refl;

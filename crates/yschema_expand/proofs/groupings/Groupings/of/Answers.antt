@@ -12,7 +12,7 @@ returns-clause-knows c =
     let m = modules_of c.args.named.now in
     let f = forest_in c.args.named.now.sources.now.table in
     let nodes = c.args.order.now in (
-      straight f nodes c.requires,
+      straight f nodes c.requires (language_of c.args.named.now),
       (λ number owner depth none ends. known_used (language_of c.args.named.now) f nodes c.requires (count_at c.in_ok-counts.counts.items) (refine_at c.in_ok-refines.refines.items)
           c.in_ok-counts.ensures c.in_ok-refines.ensures number (number_named m number) refl owner depth none ends),
     )

@@ -1,0 +1,4 @@
+pub mod Forms
+pub mod Counts
+pub mod Said
+pub mod View

@@ -1,0 +1,3 @@
+pub mod Remarks
+pub mod Lines
+pub mod View

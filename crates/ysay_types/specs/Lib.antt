@@ -1,0 +1,5 @@
+pub mod Quoted
+pub mod BuiltIns
+pub mod Chain
+pub mod Restrictions
+pub mod Defaults
