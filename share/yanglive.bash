@@ -27,10 +27,10 @@ _yanglive() {
     done
     case ${COMP_WORDS[1]} in
         compile)
-            options="--explain --features --help --profile --unjudged -p"
+            options="--explain --features --format --help --profile --unjudged -p"
             case $place in *) kind=yang ;; esac ;;
         tree)
-            options="--all --explain --features --help --profile --unjudged -p"
+            options="--all --explain --features --format --help --profile --unjudged -p"
             case $place in 0) kind=name ;; *) kind=yang ;; esac ;;
         validate)
             options="--config --explain --features --format --help --profile --strict --unjudged -p"

@@ -246,6 +246,11 @@ def refused_edits(count):
     return keyed(["a"], "", 1, "remove /m:c/e[k='b']\n" * count)
 
 
+def missing_entries(count):
+    """Lines of a script, each of which names an entry that isn't there, by a key that is near to none of as many entries."""
+    return keyed([f"e{n}" for n in range(count)], "", 1, "".join(f"remove /m:c/e[k='x{n}']\n" for n in range(count)))
+
+
 def created_entries(count):
     """Entries that a script creates, one by one."""
     return keyed(["a"], "", 0, "".join(f'create /m:c/e {{"k":"{n}"}}\n' for n in range(count)))
@@ -273,6 +278,7 @@ GROWING = {
     "doubled-items-explained": (doubled_items_explained, 2500, 5000), "distinct-items": (distinct_items, 499999, 999999),
     "distinct-keys": (distinct_keys, 249999, 499999), "opened": (opened, 50000, 100000), "top-entries": (top_entries, 50000, 100000),
     "wide-edits": (wide_edits, 20000, 40000), "refused-edits": (refused_edits, 50000, 100000),
+    "missing-entries": (missing_entries, 2000, 4000),
     "created-entries": (created_entries, 50000, 100000), "moved-entries": (moved_entries, 10000, 20000),
 }  # fmt: skip
 

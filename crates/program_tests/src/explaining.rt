@@ -258,13 +258,14 @@ yanglive validate - p.yang
 0 faults
 ==
 yanglive edit --explain empty.json script p.yang
-1 11
+1 12
 line 4: E2
   | replace /p:c/speed 1
   nothing called \"speed\" may stand here.
   A step of the path names no node there, or in the wrong form. Write /module:name at the top and where the module changes, and /name elsewhere.
 line 5: E7
   | replace /p:c/note 5 6
+  note isn't stored in /p:c; write create in place of replace.
   What is to be replaced, removed or moved isn't stored. Create it, or leave the line out.
 line 6: E10 J3
   | replace /p:c {\"speed\":1}
@@ -276,13 +277,14 @@ V1 invalid-value - /p:c/id -
 1 fault
 ==
 yanglive edit --dump --explain empty.json script p.yang
-1 11
+1 12
 line 4: E2
   | replace /p:c/speed 1
   nothing called \"speed\" may stand here.
   A step of the path names no node there, or in the wrong form. Write /module:name at the top and where the module changes, and /name elsewhere.
 line 5: E7
   | replace /p:c/note 5 6
+  note isn't stored in /p:c; write create in place of replace.
   What is to be replaced, removed or moved isn't stored. Create it, or leave the line out.
 line 6: E10 J3
   | replace /p:c {\"speed\":1}
@@ -522,18 +524,21 @@ yanglive edit --dump second adding n.yang
 second: J5 /net:host[2]
 ==
 yanglive validate --explain fraction n.yang
-2 2
+2 3
 fraction: J6 /net:host[1]/speed
+  a number with a point or an exponent, or beyond 64 bits, isn't a value of uint16: it takes an integer without quotes in 0..65535.
   A number has a fraction or an exponent. Write an integer without them; write a decimal64 as a string.
 ==
 yanglive edit --explain fraction adding n.yang
-2 2
+2 3
 fraction: J6 /net:host[1]/speed
+  a number with a point or an exponent, or beyond 64 bits, isn't a value of uint16: it takes an integer without quotes in 0..65535.
   A number has a fraction or an exponent. Write an integer without them; write a decimal64 as a string.
 ==
 yanglive validate --explain open n.yang
-2 3
+2 4
 open: J1 /
+  the document ends before all brackets are closed.
   The document isn't JSON. Look for a comma or a bracket too many or too few, and for text that isn't UTF-8.
 open:1:1: reading stops here
 ==
@@ -614,7 +619,7 @@ fn explained_faults(rt: HostRuntime) {
 // Refused lines of a script under the same module, of which is said which name of their paths isn't known, and what stands in
 // their values.
 const EDITS: &str = "yanglive edit --explain good refused n.yang
-1 39
+1 40
 line 2: E2
   | create /net:hots {}
   nothing called \"net:hots\" may stand here; near it: net:host.
@@ -653,6 +658,7 @@ line 10: E10 J5
   A value is of another kind than its node: no object for a container or an entry, no array for a list or leaf-list. Write a container as an object, a list as an array of objects, a leaf-list as an array of values, an empty leaf as [null].
 line 11: E10 J6
   | replace /net:host[1]/speed 1.5
+  a number with a point or an exponent, or beyond 64 bits, isn't a value of uint16: it takes an integer without quotes in 0..65535.
   A number has a fraction or an exponent. Write an integer without them; write a decimal64 as a string.
 0 faults
 ==

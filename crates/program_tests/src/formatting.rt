@@ -1,4 +1,4 @@
-//! Faults and refusals told as JSON. Rows with lines of their own are parted by lines `==`.
+//! Faults and refusals told as JSON, or by lines to which an editor jumps. Rows with lines of their own are parted by lines `==`.
 
 use crate::explaining::{NET, prints};
 use crate::rows::all_parts_hold;
@@ -63,9 +63,55 @@ yanglive validate --format json good frob.yang
 2 1
 frob.yang:2: C1
 {\"error-message\":\"A statement or a built-in type isn't known, may not stand there, or isn't read by this program.\",\"error-tag\":\"operation-not-supported\",\"error-type\":\"application\",\"yanglive:code\":\"C1\",\"yanglive:file\":\"frob.yang\",\"yanglive:line\":2}
+==
+yanglive validate --format lines faulty n.yang
+1 0
+faulty:1:34: error: V1 /net:host[name='a']/speed: \"x\" isn't a value of uint16: it takes an integer without quotes in 0..65535.
+faulty:1:51: error: V4 /net:more: no case of the choice how is there.
+2 faults
+==
+yanglive validate --format lines good n.yang
+0 0
+0 faults
+==
+yanglive edit --format lines good script n.yang
+1 1
+script:2:1: error: E7
+V9 operation-failed data-not-unique /net:host[1] 1
+V9 operation-failed data-not-unique /net:host[2] 1
+2 faults
+==
+yanglive edit --format lines --dump good list n.yang
+1 1
+list:1:1: error: E10 J5
+{\"net:host\":[{\"name\":\"a\",\"port\":5,\"speed\":1}]}
+==
+yanglive validate --format lines bare n.yang
+2 1
+bare:1:1: error: J4 /
+==
+yanglive validate --strict --format lines twice n.yang
+2 1
+twice:1:52: error: J8 /net:host[1]/port
+==
+yanglive validate --format lines list n.yang
+2 1
+list:1:1: error: J1 /
+==
+yanglive compile --format lines half.yang
+2 1
+half.yang:1:1: error: L6
+==
+yanglive tree --format lines p frob.yang
+2 1
+frob.yang:2:3: error: C1
+==
+yanglive compile --format lines empty.yang
+2 1
+empty.yang:1:1: error: L6
 ";
 
-fn is_said_of_faults_as_json(alloc: Global, row: &str) -> Option<bool> {
+fn is_told_in_its_format(alloc: Global, row: &str) -> Option<bool> {
     let files = [
         file("n.yang", NET),
         file(
@@ -96,6 +142,6 @@ fn is_said_of_faults_as_json(alloc: Global, row: &str) -> Option<bool> {
 }
 
 #[test]
-fn faults_as_json(rt: HostRuntime) {
-    all_parts_hold(&rt, rt.alloc(), ROWS, is_said_of_faults_as_json);
+fn formats(rt: HostRuntime) {
+    all_parts_hold(&rt, rt.alloc(), ROWS, is_told_in_its_format);
 }

@@ -236,7 +236,7 @@ output 0
 yanglive validate --format xml d.json p.yang
 errors 3
 error: invalid value 'xml' for '--format <FORMAT>'
-  [possible values: text, json]
+  [possible values: text, lines, and of a document json]
 ==
 yanglive edit --format= d.json s.txt p.yang
 errors 3
@@ -244,7 +244,7 @@ errors 3
 ==
 yanglive compile --format json p.yang
 errors 3
-'--format'
+error: invalid value 'json' for '--format <FORMAT>'
 ==
 yanglive tree --strict p p.yang
 errors 3

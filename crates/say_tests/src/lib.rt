@@ -14,6 +14,8 @@ mod module;
 #[cfg(test)]
 mod modules;
 #[cfg(test)]
+mod placing;
+#[cfg(test)]
 mod repeating;
 #[cfg(test)]
 mod rows;

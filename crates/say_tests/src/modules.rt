@@ -29,11 +29,13 @@ const ADDED: &str = "module added {
 }
 ";
 
-/// A list with a key, one with two and one with none; items, and a container.
+/// A list with a key, one with two and one with none; items, a container and a choice.
 pub(crate) const LINES: &str = "module net {
   yang-version 1.1; namespace \"urn:net\"; prefix n;
   container host { leaf name { type string; } leaf-list server { type string; } }
-  list link { key id; leaf id { type string; } leaf mtu { type uint16; } container state { leaf up { type boolean; } } }
+  list link { key id; leaf id { type string; } leaf mtu { type uint16; }
+    container state { leaf up { type boolean; } choice how { case quick { leaf rate { type uint8; } } leaf slow { type uint8; } } }
+  }
   list route { key \"prefix metric\"; leaf prefix { type string; } leaf metric { type uint8; } }
   list note { config false; leaf text { type string; } }
 }

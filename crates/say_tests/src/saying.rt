@@ -56,9 +56,24 @@ const ROWS: &str =
 {"net:host":{"port":[{"id":1},{"id":2,"state":true}]}} => true stands where an object is due.
 {"net:host":{"port":[{"id":1},{"id":2,"state":{"up":null}}]}} => null stands where a leaf's value is due.
 {"net:host":{"port":[{"id":1},false]}} => false stands where an object is due.
-{ => 
+{"net:host":{"port":[{"id":1.5}]}} => a number with a point or an exponent, or beyond 64 bits, isn't a value of uint8: it takes an integer without quotes in 0..255.
+{"net:host":{"port":[{"id":1,"speed":18446744073709551616}]}} => a number with a point or an exponent, or beyond 64 bits, isn't a value of uint16: it takes an integer without quotes in 0..65535.
+{"net:host":{"name":1e2}} => a number with a point or an exponent, or beyond 64 bits, isn't a value of string: it takes a text in quotes.
+{"net:host":{"tag":["a",-0.5]}} => a number with a point or an exponent, or beyond 64 bits, isn't a value of string: it takes a text in quotes.
+{"net:host":{"name":"a",}} => no comma stands behind the last member.
+{"net:host":{"tag":["a" , ]}} => no comma stands behind the last item.
+{"net:host":{/**/}} => JSON has no comments.
+{"net:host":{}} // all => JSON has no comments.
+{'net:host':{}} => JSON wants double quotes.
+{"net:host":{"name":'a'}} => JSON wants double quotes.
+{ => the document ends before all brackets are closed.
+{"net:host":{"name":"a\"}} => the document ends before all brackets are closed.
+{"net:host":{"tag":["a"} => the document ends before all brackets are closed.
+{"net:host":{"tag" ["a",]}} => 
+{"net:host":{"name":http://a,}} => 
+{"net:host":{}}} => 
+{"net:host":{"name":/a}} => 
 [] => 
-{"net:host":{"port":[{"id":1.5}]}} => 
 "#;
 
 #[test]
@@ -99,7 +114,7 @@ const OTHERS: &str = r#"{"net:host":7}
   J5 /net:host/port[3]: false stands where an object is due.
 ==
 {"net:host":{"name":1.5,"rate":2.5}}
-  J6 /net:host/rate
+  J6 /net:host/rate: a number with a point or an exponent, or beyond 64 bits, isn't a value of uint8: it takes an integer without quotes in 0..255.
 ==
 {"net:host":{"net:name":[],"name":[]}}
   J4 /net:host: here "net:name" is written name.

@@ -29,8 +29,8 @@ fn step_of(schema: &Schema, parent: Option<SchemaId>, word: &str) -> Option<Step
     }
 }
 
-// The steps of a place, which are parted by spaces.
-fn steps_of(alloc: Global, schema: &Schema, place: &str) -> Option<Vec<Step>> {
+/// The steps of a place, which are parted by spaces.
+pub(crate) fn steps_of(alloc: Global, schema: &Schema, place: &str) -> Option<Vec<Step>> {
     let mut steps = Vec::new(alloc);
     let mut parent = None;
     for word in place.split(' ') {

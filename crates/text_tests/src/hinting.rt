@@ -1,11 +1,16 @@
 //! The lines that are told, which words are near to one another, and what is said of statements.
 
 use crate::rows::all_hold;
+use crate::spelled::unmarked;
 use std::alloc::Global;
+use ysay_circles::{circle_sentence, condition_sentence, place_sentence};
 use ysay_forms::{count_sentence, form_sentence};
 use ysay_names::{name_sentence, prefix_sentence};
+use ysay_nodes::{config_sentence, needed_sentence, twice_sentence};
 use ysay_pattern::{Stop, pattern_sentence, stop_of};
-use ysay_targets::target_sentence;
+use ysay_sets::{import_sentence, taken_sentence};
+use ysay_slips::slip_sentence;
+use ysay_targets::{leafref_sentence, target_sentence};
 use ysay_text::{is_near, is_unread, line_sentence, nearest, nearest_word, shown_line};
 use ysay_types::{default_sentence, restriction_sentence};
 use ytext::parse;
@@ -206,6 +211,36 @@ fn sentences_of_patterns(rt: HostRuntime) {
 8|character 3 of the pattern can't stand there: x}
 9|";
     all_hold(&rt, rt.alloc(), rows, is_said_of_patterns);
+}
+
+// `CODE|TEXT|SENTENCE`, with ¶ for a line feed
+fn is_said_of_slip(alloc: Global, row: &str) -> Option<bool> {
+    let (code, rest) = row.split_once('|')?;
+    let (text, wanted) = rest.split_once('|')?;
+    let code = code.parse::<u8>().ok()?;
+    let text = unmarked(alloc, text).ok()?;
+    let said = slip_sentence(alloc, code, text.as_str().as_bytes()).ok()?;
+    Some(said.as_str() == wanted)
+}
+
+#[test]
+fn sentences_of_slips(rt: HostRuntime) {
+    let rows = "5|leaf a { type string units s; }|; or { is due before units.
+5|a b¶ 'c' { d; }|; or { is due before this string.
+5|a { b \"c\" }|; is due before }.
+5|a { 'b' c; }|a keyword is due in place of this string.
+5|{ }|a keyword is due in place of {.
+5|a 'b' + c;|a quoted string is due behind +.
+6|a {¶}¶b {¶}|the module ends in line 2; behind it nothing more may stand.
+6|a {¶}}|no { is open for this }.
+6|a {¶ b {¶  c;|the block that begins in line 2 isn't closed.
+6|a {¶ b {¶  c;¶ d {¶ }¶}|a block isn't closed; it may be that of line 2: what begins in it in line 4 is indented no deeper.
+6|a {¶\tb {¶\t}¶/* c */ d {¶|the block that begins in line 4 isn't closed.
+6|// a|no statement stands there.
+6|a b|the text ends before ; or {.
+3|a \"b;|
+5|a \"b;|";
+    all_hold(&rt, rt.alloc(), rows, is_said_of_slip);
 }
 
 const NAMING: &str = "module m {
@@ -582,6 +617,393 @@ fn sentences_of_targets(rt: HostRuntime) {
 16|
 17|";
     all_hold(&rt, rt.alloc(), rows, is_said_of_targets);
+}
+
+const LEAFREFS: &str = "module l {
+  namespace l; prefix l; import b { prefix b; }
+  leaf a { type leafref { path /b:top/b:entry/b:nam; } }
+  leaf-list b { type leafref { path /b:top/b:entry; } }
+  leaf c { type leafref { path /b:tob/b:x; } }
+  leaf d { type leafref { path /b:top/b:entry/b:name; } }
+  leaf e { type leafref { path /b:top/b:entry/b:way/b:none; } }
+  leaf f { type leafref { path /l:none; } }
+  leaf g { type leafref { path /b:top/l:none; } }
+  leaf h { type union { type leafref { path /b:none; } } } leaf i { type leafref { path /b:plain/b:of; } }
+}
+";
+
+const REFERRED: &str = "module b {
+  namespace b; prefix b;
+  container top { list entry { key name; leaf name { type string; } container way { choice c { leaf d { type int8; } } } } }
+  container plain { uses other; leaf off { type int8; } }
+  grouping other { leaf of { type int8; } }
+}
+";
+
+fn said_of_leafref(alloc: Global, line: u32) -> Option<String> {
+    let mut modules = Vec::new(alloc);
+    modules.push(parse(alloc, REFERRED.as_bytes()).ok()?).ok()?;
+    modules.push(parse(alloc, LEAFREFS.as_bytes()).ok()?).ok()?;
+    leafref_sentence(alloc, line, &modules, modules.get(1)?).ok()
+}
+
+// `LINE|SENTENCE`
+fn is_said_of_leafrefs(alloc: Global, row: &str) -> Option<bool> {
+    let (line, wanted) = row.split_once('|')?;
+    let said = said_of_leafref(alloc, line.parse::<u32>().ok()?)?;
+    Some(said.as_str() == wanted)
+}
+
+#[test]
+fn sentences_of_leafrefs(rt: HostRuntime) {
+    let rows = "3|nothing called \"b:nam\" stands below /b:top/b:entry; near it: b:name.
+4|/b:top/b:entry is a list, and no leaf.
+5|nothing called \"b:tob\" stands at the top of the module; near it: b:top.
+6|
+7|
+8|nothing called \"l:none\" stands at the top of the module.
+9|
+10|";
+    all_hold(&rt, rt.alloc(), rows, is_said_of_leafrefs);
+}
+
+const TAKEN: &str = "module taken {
+  namespace t; prefix t;
+  typedef size { type int8; }
+  container inner {
+    typedef size { type int8; }
+    grouping rate { typedef size { type int8; } }
+  }
+  grouping rate; feature fast; feature slow;
+  identity kind; feature fast;
+  identity kind; typedef uint8 { type int8; }
+}
+";
+
+fn said_of_taken(alloc: Global, line: u32) -> Option<String> {
+    let mut modules = Vec::new(alloc);
+    modules.push(parse(alloc, TAKEN.as_bytes()).ok()?).ok()?;
+    modules.push(parse(alloc, TARGETS.as_bytes()).ok()?).ok()?;
+    modules.push(parse(alloc, TAKEN.as_bytes()).ok()?).ok()?;
+    taken_sentence(alloc, line, &modules, modules.get(2)?).ok()
+}
+
+// `LINE|SENTENCE`
+fn is_said_of_taken(alloc: Global, row: &str) -> Option<bool> {
+    let (line, wanted) = row.split_once('|')?;
+    let said = said_of_taken(alloc, line.parse::<u32>().ok()?)?;
+    Some(said.as_str() == wanted)
+}
+
+#[test]
+fn sentences_of_taken_names(rt: HostRuntime) {
+    let rows = "1|two modules are called taken.
+2|
+3|
+5|two typedefs are called size; the other stands in line 3.
+6|two groupings are called rate; the other stands in line 8.
+8|
+9|two features are called fast; the other stands in line 8.
+10|two identities are called kind; the other stands in line 9.
+11|";
+    all_hold(&rt, rt.alloc(), rows, is_said_of_taken);
+}
+
+const IMPORTING: &str = "module importing {
+  namespace i; prefix i;
+  import basis { prefix a; }
+  import base { prefix b; revision-date 2024-02-30; }
+  import base { prefix c; revision-date 2023-01-31; }
+  import changes { prefix d; revision-date 2024-01-01; }
+  import importing { prefix e; }
+  import unlike-any { prefix f; }
+  import dated { prefix g; revision-date 2024-01-31; }
+  import dated { prefix h; revision-date 2023-12-31; }
+}
+";
+
+const DATED: &str = "module dated {
+  revision 2023-12-31; revision 2024-01-31; revision 2024-01-30;
+}
+";
+
+fn said_of_import(alloc: Global, line: u32) -> Option<String> {
+    let mut modules = Vec::new(alloc);
+    modules.push(parse(alloc, TARGETS.as_bytes()).ok()?).ok()?;
+    modules.push(parse(alloc, DATED.as_bytes()).ok()?).ok()?;
+    modules.push(parse(alloc, IMPORTING.as_bytes()).ok()?).ok()?;
+    import_sentence(alloc, line, &modules, modules.get(2)?).ok()
+}
+
+// `LINE|SENTENCE`
+fn is_said_of_imports(alloc: Global, row: &str) -> Option<bool> {
+    let (line, wanted) = row.split_once('|')?;
+    let said = said_of_import(alloc, line.parse::<u32>().ok()?)?;
+    Some(said.as_str() == wanted)
+}
+
+#[test]
+fn sentences_of_imports(rt: HostRuntime) {
+    let rows = "2|
+3|no module called basis is given; near it: base.
+4|base has no revision.
+6|no module called changes is given.
+7|
+8|no module called unlike-any is given.
+9|
+10|the newest revision of dated is 2024-01-31.";
+    all_hold(&rt, rt.alloc(), rows, is_said_of_imports);
+}
+
+const DOUBLED: &str = "module doubled {
+  namespace d; prefix d;
+  container top {
+    leaf mtu { type int8; }
+    choice way {
+      case udp { leaf mtu { type int8; } }
+      case tcp { choice port { leaf way { type int8; } } }
+      leaf udp { type int8; }
+    }
+    container inner { leaf mtu { type int8; } leaf mtu { type int8; } }
+    anyxml top;
+  }
+  grouping top { leaf top { type int8; } }
+  list top { key a; }
+}
+";
+
+// `LINE|SENTENCE`
+fn is_said_of_doubled(alloc: Global, row: &str) -> Option<bool> {
+    let (line, wanted) = row.split_once('|')?;
+    let line = line.parse::<u32>().ok()?;
+    let module = parse(alloc, DOUBLED.as_bytes()).ok()?;
+    Some(twice_sentence(alloc, line, &module).ok()?.as_str() == wanted)
+}
+
+#[test]
+fn sentences_of_doubled_names(rt: HostRuntime) {
+    let rows = "1|
+4|two nodes are called mtu; the other stands in line 6.
+6|two nodes are called mtu; the other stands in line 4.
+7|two nodes are called way; the other stands in line 5.
+8|two cases are called udp; the other stands in line 6.
+10|
+11|
+13|
+14|two nodes are called top; the other stands in line 3.";
+    all_hold(&rt, rt.alloc(), rows, is_said_of_doubled);
+}
+
+const ADDED: &str = "module added {
+  namespace a; prefix a;
+  augment /b:top { leaf note { type int8; mandatory false; }
+    container open { presence p; leaf x { type int8; mandatory true; } }
+    container shut {
+      leaf-list tag { type int8; min-elements 0; }
+      choice way { mandatory true; }
+    }
+    leaf policy { type int8; mandatory true; }
+  }
+  augment /b:top { container stats { config false; leaf x { type int8; mandatory true; } }
+    list entry { key k; min-elements 2; }
+  }
+  augment /b:way { case udp { leaf x { type int8; mandatory true; } } uses any; }
+  container top { leaf y { type int8; mandatory true; } }
+}
+";
+
+// `LINE|SENTENCE`
+fn is_said_of_added(alloc: Global, row: &str) -> Option<bool> {
+    let (line, wanted) = row.split_once('|')?;
+    let line = line.parse::<u32>().ok()?;
+    let module = parse(alloc, ADDED.as_bytes()).ok()?;
+    Some(needed_sentence(alloc, line, &module).ok()?.as_str() == wanted)
+}
+
+#[test]
+fn sentences_of_additions(rt: HostRuntime) {
+    let rows = "1|
+3|way (line 7) is mandatory.
+4|
+9|
+11|entry (line 12) has min-elements 2.
+14|
+15|";
+    all_hold(&rt, rt.alloc(), rows, is_said_of_added);
+}
+
+const STATES: &str = "module states {
+  namespace s; prefix s;
+  container stats { config false;
+    container inner {
+      leaf resets { config true; type int8; }
+      list sample { leaf a { type int8; } }
+    }
+  }
+  list bare { leaf a { type int8; } }
+  list own { config false; leaf a { config true; type int8; } }
+  leaf free { config true; type int8; }
+  container list { config true; }
+}
+";
+
+// `LINE|SENTENCE`
+fn is_said_of_states(alloc: Global, row: &str) -> Option<bool> {
+    let (line, wanted) = row.split_once('|')?;
+    let line = line.parse::<u32>().ok()?;
+    let module = parse(alloc, STATES.as_bytes()).ok()?;
+    Some(config_sentence(alloc, line, &module).ok()?.as_str() == wanted)
+}
+
+#[test]
+fn sentences_of_configuration(rt: HostRuntime) {
+    let rows = "3|
+5|config true (line 5) stands below config false of stats (line 3).
+6|
+9|the list bare is configuration and has no key.
+10|config true (line 10) stands below config false of own (line 10).
+11|
+12|";
+    all_hold(&rt, rt.alloc(), rows, is_said_of_states);
+}
+
+const CIRCLES: &str = "module m {
+  namespace m; prefix m;
+  import n { prefix n; }
+  import o { prefix o; }
+  grouping a { leaf x { type string; }
+    container c { uses b; uses n:a; }
+  }
+  grouping b { uses c; grouping inner { uses a; } }
+  grouping c { uses m:d; }
+  grouping d { uses a; }
+  grouping e { uses a; }
+  typedef t { type union { type string;
+      type t; } }
+  identity i { base j; base n:i; } identity j; identity k { base k; }
+  container x { grouping f { uses f; } }
+}
+";
+
+const CIRCLING: &str = "module n { namespace n; prefix n; import p { prefix p; }
+  import m { prefix m; } grouping a { uses m:a; }
+}
+";
+
+fn said_of_circle(alloc: Global, line: u32) -> Option<String> {
+    let mut modules = Vec::new(alloc);
+    modules.push(parse(alloc, CIRCLES.as_bytes()).ok()?).ok()?;
+    modules.push(parse(alloc, CIRCLING.as_bytes()).ok()?).ok()?;
+    circle_sentence(alloc, line, &modules, modules.first()?).ok()
+}
+
+// `LINE|SENTENCE`
+fn is_said_of_circles(alloc: Global, row: &str) -> Option<bool> {
+    let (line, wanted) = row.split_once('|')?;
+    let said = said_of_circle(alloc, line.parse::<u32>().ok()?)?;
+    Some(said.as_str() == wanted)
+}
+
+#[test]
+fn sentences_of_circles(rt: HostRuntime) {
+    let rows = "3|module m imports n (line 3), which imports m (line 2).
+4|
+6|grouping a uses b (line 6), which uses c (line 8), which uses d (line 9), which uses a (line 10).
+8|grouping b uses c (line 8), which uses d (line 9), which uses a (line 10), which uses b (line 6).
+11|
+12|
+13|typedef t names t (line 13).
+14|identity k is based on k (line 14).
+15|";
+    all_hold(&rt, rt.alloc(), rows, is_said_of_circles);
+}
+
+const CONDITIONS: &str = "module m {
+  yang-version 1.1; namespace m; prefix m;
+  import n { prefix n; }
+  feature ssh { if-feature 'not m:tls and log'; }
+  feature tls { if-feature log; if-feature n:tls; }
+  feature log { if-feature tls; }
+  feature own { if-feature own; }
+  leaf a { if-feature 'tls or (shs and quick)'; type string; }
+  leaf b { if-feature n:quickly; type string; }
+  leaf c { if-feature n:futures; type string; }
+  leaf d { if-feature o:tls; if-feature 'and'; type string; }
+  leaf e { if-feature own; type string; }
+}
+";
+
+const CONDITIONED: &str =
+    "module n { namespace n; prefix n; feature tls; feature future; container c { feature quickly; } }
+";
+
+fn said_of_condition(alloc: Global, line: u32) -> Option<String> {
+    let mut modules = Vec::new(alloc);
+    modules
+        .push(parse(alloc, CONDITIONS.as_bytes()).ok()?)
+        .ok()?;
+    modules
+        .push(parse(alloc, CONDITIONED.as_bytes()).ok()?)
+        .ok()?;
+    condition_sentence(alloc, line, &modules, modules.first()?).ok()
+}
+
+// `LINE|SENTENCE`
+fn is_said_of_conditions(alloc: Global, row: &str) -> Option<bool> {
+    let (line, wanted) = row.split_once('|')?;
+    let said = said_of_condition(alloc, line.parse::<u32>().ok()?)?;
+    Some(said.as_str() == wanted)
+}
+
+#[test]
+fn sentences_of_conditions(rt: HostRuntime) {
+    let rows = "4|
+5|feature tls asks for log (line 5), which asks for tls (line 6).
+6|feature log asks for tls (line 6), which asks for log (line 5).
+7|feature own asks for own (line 7).
+8|no feature is called shs; near it: ssh.
+9|no feature is called n:quickly.
+10|no feature is called n:futures; near it: n:future.
+11|
+12|";
+    all_hold(&rt, rt.alloc(), rows, is_said_of_conditions);
+}
+
+const PLACES: &str = "module m {
+  yang-version 1.1; namespace m; prefix m;
+  list bare { config false; leaf a { type string; }
+    container c { action reset { input { leaf a { type string; } } } }
+    list keyed { key k; leaf k { type string; } notification gone; }
+    grouping g { action a; list inner {
+        notification n; } }
+  }
+  rpc r { output { container c { notification n; } } }
+  notification n { container c { action a; } }
+  list l { key k; leaf k { type string; } action a; }
+  action top;
+}
+";
+
+// `LINE|SENTENCE`
+fn is_said_of_places(alloc: Global, row: &str) -> Option<bool> {
+    let (line, wanted) = row.split_once('|')?;
+    let line = line.parse::<u32>().ok()?;
+    let module = parse(alloc, PLACES.as_bytes()).ok()?;
+    Some(place_sentence(alloc, line, &module).ok()?.as_str() == wanted)
+}
+
+#[test]
+fn sentences_of_places(rt: HostRuntime) {
+    let rows = "3|
+4|action reset (line 4) stands below list bare (line 3), which has no key.
+5|notification gone (line 5) stands below list bare (line 3), which has no key.
+6|
+7|notification n (line 7) stands below list inner (line 6), which has no key.
+9|notification n (line 9) stands below rpc r (line 9).
+10|action a (line 10) stands below notification n (line 10).
+11|
+12|";
+    all_hold(&rt, rt.alloc(), rows, is_said_of_places);
 }
 
 // `PATTERN STOP`: a number, `end` or `none`

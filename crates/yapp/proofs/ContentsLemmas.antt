@@ -1,5 +1,5 @@
 -- Reading files and modules one after another.
-use Rattle.std.proofs.Common.{◌≡◌, ◌⊎◌, inl, inr, ℕ, ◌+◌, ◌≤◌, List, [], ◌∷◌, ◌++◌, map, Some, None, refl, sym, subst, ap, ◌∙◌, append_assoc, arith}
+use Rattle.std.proofs.Common.{◌≡◌, ◌⊎◌, inl, inr, ℕ, Bool, ◌+◌, ◌≤◌, List, [], ◌∷◌, ◌++◌, map, Some, None, refl, sym, subst, ap, ◌∙◌, append_assoc, arith}
 use Rattle.std.proofs.Common.{Vec, Global, length}
 use Rattle.std.specs.Borrow.{Bor}
 use Rattle.std.specs.Prelude.{Result, Ok, Err, IsErrAnd}
@@ -9,13 +9,13 @@ use Rattle.yspec.specs.text.Statement.{Statement, Slip}
 use Rattle.yspec.specs.text.Text.{Text}
 use Rattle.yspec_wide.specs.Language.{Language}
 use Rattle.yspec_wide.specs.Texts.{module_in}
-use Rattle.yspec_run.specs.Output.{Outcome, Request, files_of, with_files, with_module, with_modules}
-use Rattle.yspec_run.specs.Unjudged.{said, said_of}
+use Rattle.yspec_run.specs.Output.{Besides, Outcome, Request, files_of, with_files, with_module, with_modules}
+use Rattle.yspec_run.specs.Lines.{said_by, said_with}
 use Rattle.yspec.proofs.ForestLemmas.{join_end, join_assoc}
 use Rattle.ytext.specs.View.{view, modules_view}
 use Rattle.ytext.specs.declared.statement.Module.{Module}
-use Rattle.yapp_report.specs.Failing.{FailsWith, FromFile, LeadsTo, outcome_of}
-use Rattle.yapp.specs.Files.{Answered, Contents, FileAnswers, IsFound, ReadsAll, Store, WasCut, WereRead, came_to, found_as, unread_in}
+use Rattle.yapp_report.specs.Failing.{FailsWith, FromFile, LeadsTo, outcome_of, unsaid}
+use Rattle.yapp.specs.Files.{Answered, Contents, FileAnswers, IsFound, LeadsBy, ReadsAll, Store, WasCut, WereRead, came_to, found_as, unread_in}
 use Rattle.yapp_report.specs.Unread.{IsTold, failed_reads}
 use Rattle.yapp_report.specs.declared.failure.Failure.{Failure}
 use Rattle.yapp_report.specs.declared.failure.Failure.TheVariants as failures
@@ -206,37 +206,38 @@ memory_reads see before after names (Ok x) e cut = absurd e
 memory_reads see before after names (Err f) e cut = inr (cut, e)
 
 -- what is returned is what is found, or there was no memory
-came_of_answer : (before after : Store) (request : Request) (answers : FileAnswers) (r : Result Found Failure)
-    → WereRead before after (files_of request) answers → after.failures ≡ before.failures → LeadsTo (said_of request answers) found_as r
-    → IsFound before after request (came_to r)
-came_of_answer before after request answers (Ok found) read same is = inl (answers, read, sym is)
-came_of_answer before after request answers (Err (failures.Unread name cause)) read same is = inl (answers, read, sym is)
-came_of_answer before after request answers (Err (failures.Text name code line hint)) read same is = inl (answers, read, sym is)
-came_of_answer before after request answers (Err (failures.Compile name code line hint)) read same is = inl (answers, read, sym is)
-came_of_answer before after request answers (Err (failures.Document name schema code place hint stop)) read same is = inl (answers, read, sym is)
-came_of_answer before after request answers (Err (failures.Repeated name schema place hint)) read same is = inl (answers, read, sym is)
-came_of_answer before after request answers (Err (failures.NoModule name)) read same is = inl (answers, read, sym is)
-came_of_answer before after request answers (Err (failures.NoCode word)) read same is = inl (answers, read, sym is)
-came_of_answer before after request answers (Err failures.Memory) read same is =
+came_of_answer : (by_lines : Bool) (before after : Store) (request : Request) (stop : Besides) (answers : FileAnswers) (r : Result Found Failure)
+    → WereRead before after (files_of request) answers → after.failures ≡ before.failures → LeadsTo (said_by by_lines stop request answers) found_as r
+    → IsFound by_lines before after request (came_to r)
+came_of_answer by_lines before after request stop answers (Ok found) read same is = inl (stop, answers, read, sym is)
+came_of_answer by_lines before after request stop answers (Err (failures.Unread name cause)) read same is = inl (stop, answers, read, sym is)
+came_of_answer by_lines before after request stop answers (Err (failures.Text name code line hint jump)) read same is = inl (stop, answers, read, sym is)
+came_of_answer by_lines before after request stop answers (Err (failures.Compile name code line hint jump)) read same is = inl (stop, answers, read, sym is)
+came_of_answer by_lines before after request stop answers (Err (failures.Document name schema code place hint at jump)) read same is = inl (stop, answers, read, sym is)
+came_of_answer by_lines before after request stop answers (Err (failures.Repeated name schema place hint jump)) read same is = inl (stop, answers, read, sym is)
+came_of_answer by_lines before after request stop answers (Err (failures.NoModule name)) read same is = inl (stop, answers, read, sym is)
+came_of_answer by_lines before after request stop answers (Err (failures.NoCode word)) read same is = inl (stop, answers, read, sym is)
+came_of_answer by_lines before after request stop answers (Err failures.Memory) read same is =
     let few = answers_few before.contents (files_of request) answers read.answered in
     inr (record { failures = same; reads = omega (arith, read.reads, few) }, refl)
 
 -- a request after its files were read
-pub came_of_texts : (before after : Store) (request : Request) (files : List Text) (texts : List (List ℕ)) (r : Result Found Failure)
-    → files ≡ files_of request → WereRead before after files (map Some texts) → LeadsTo (said request texts) found_as r
-    → IsFound before after request (came_to r)
-came_of_texts before after request files texts r e read is =
+pub came_of_texts : (by_lines : Bool) (before after : Store) (request : Request) (files : List Text) (texts : List (List ℕ)) (r : Result Found Failure)
+    → files ≡ files_of request → WereRead before after files (map Some texts) → LeadsBy (λ stop. said_with by_lines stop request texts) found_as r
+    → IsFound by_lines before after request (came_to r)
+came_of_texts by_lines before after request files texts r e read leads =
     let told : WereRead before after (files_of request) (map Some texts) = subst (λ ns. WereRead before after ns (map Some texts)) e read in
     let none : after.failures ≡ before.failures = omega (arith, read.failures, none_unread texts) in
-    let goes_on = with_all_read before.contents (files_of request) texts (said request) told.answered in
-    came_of_answer before after request (map Some texts) r told none (subst (λ o. LeadsTo o found_as r) (sym goes_on) is)
+    let goes_on = with_all_read before.contents (files_of request) texts (said_with by_lines leads.0 request) told.answered in
+    came_of_answer by_lines before after request leads.0 (map Some texts) r told none (subst (λ o. LeadsTo o found_as r) (sym goes_on) leads.1)
 
 -- a request whose files couldn't all be read
-pub came_of_reading : (before after : Store) (request : Request) (files : List Text) (f : Failure) → files ≡ files_of request
-    → ReadsNot before after files f → IsFound before after request (outcome_of f)
-came_of_reading before after request files f e (inl read) = inl (
+pub came_of_reading : (by_lines : Bool) (before after : Store) (request : Request) (files : List Text) (f : Failure) → files ≡ files_of request
+    → ReadsNot before after files f → IsFound by_lines before after request (outcome_of f)
+came_of_reading by_lines before after request files f e (inl read) = inl (
+  unsaid,
   read.0,
   subst (λ ns. WereRead before after ns read.0) e read.1,
-  sym (subst (λ ns. with_files ns read.0 (said request) ≡ outcome_of f) e (read.2 (said request))),
+  sym (subst (λ ns. with_files ns read.0 (said_with by_lines unsaid request) ≡ outcome_of f) e (read.2 (said_with by_lines unsaid request))),
 )
-came_of_reading before after request files f e (inr none) = inr (subst (WasCut before after) e none.0, ap outcome_of none.1)
+came_of_reading by_lines before after request files f e (inr none) = inr (subst (WasCut before after) e none.0, ap outcome_of none.1)

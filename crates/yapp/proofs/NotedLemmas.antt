@@ -53,10 +53,10 @@ failed_is request contents o p is failed = failed_for request contents o (is_fai
 
 pub fails_on : (request : Request) (contents : List (List ℕ)) (o : Outcome) (f : Failure) → FailsWith f o → FailsWith f (noted_for request contents o)
 fails_on request contents o (failures.Unread name cause) is = failed_is request contents o (outcome_of (failures.Unread name cause)) is refl
-fails_on request contents o (failures.Text name code line hint) is = failed_is request contents o (outcome_of (failures.Text name code line hint)) is refl
-fails_on request contents o (failures.Compile name code line hint) is = failed_is request contents o (outcome_of (failures.Compile name code line hint)) is refl
-fails_on request contents o (failures.Document name schema code place hint stop) is = failed_is request contents o (outcome_of (failures.Document name schema code place hint stop)) is refl
-fails_on request contents o (failures.Repeated name schema place hint) is = failed_is request contents o (outcome_of (failures.Repeated name schema place hint)) is refl
+fails_on request contents o (failures.Text name code line hint jump) is = failed_is request contents o (outcome_of (failures.Text name code line hint jump)) is refl
+fails_on request contents o (failures.Compile name code line hint jump) is = failed_is request contents o (outcome_of (failures.Compile name code line hint jump)) is refl
+fails_on request contents o (failures.Document name schema code place hint stop jump) is = failed_is request contents o (outcome_of (failures.Document name schema code place hint stop jump)) is refl
+fails_on request contents o (failures.Repeated name schema place hint jump) is = failed_is request contents o (outcome_of (failures.Repeated name schema place hint jump)) is refl
 fails_on request contents o (failures.NoModule name) is = failed_is request contents o (outcome_of (failures.NoModule name)) is refl
 fails_on request contents o (failures.NoCode word) is = failed_is request contents o (outcome_of (failures.NoCode word)) is refl
 fails_on request contents o failures.Memory is = tt

@@ -1,7 +1,8 @@
 -- A run that writes to one side alone.
 use Rattle.std.proofs.Common.{◌≡◌, inl, inr, codes, ℕ, Bool, true, false, List, [], ◌∷◌, ◌++◌, ap, ap₂, sym, ◌∙◌, refl, string_bytes, subst, length, take}
 use Rattle.yspec_run.specs.Output.{Besides, Outcome, Printed, Request, SavedFile, as_json_of, aside_where, nothing, object_parts, printed, printed_with, told_too}
-use Rattle.yspec_run.specs.Unjudged.{note_parts, outcome_said, said_of, with_note}
+use Rattle.yspec_run.specs.Lines.{outcome_by, said_by}
+use Rattle.yspec_run.specs.Unjudged.{note_parts, with_note}
 use Rattle.std.proofs.lemmas.List.{append-nil}
 use Rattle.yspec_run.specs.Part.{Part, plain, spelled, spelled_part}
 use Rattle.std.specs.Prelude.{Result, Ok, Err, IsErr, is_ok, if◌then◌else◌}
@@ -81,10 +82,10 @@ found_alike besides with_reasons output output_after errors errors_after f end b
 
 no_file : (failure : Failure) → (outcome_of failure).saved ≡ None
 no_file (failures.Unread name cause) = refl
-no_file (failures.Text name code line hint) = refl
-no_file (failures.Compile name code line hint) = refl
-no_file (failures.Document name schema code place hint stop) = refl
-no_file (failures.Repeated name schema place hint) = refl
+no_file (failures.Text name code line hint jump) = refl
+no_file (failures.Compile name code line hint jump) = refl
+no_file (failures.Document name schema code place hint stop jump) = refl
+no_file (failures.Repeated name schema place hint jump) = refl
 no_file (failures.NoModule name) = refl
 no_file (failures.NoCode word) = refl
 no_file failures.Memory = refl
@@ -168,10 +169,10 @@ object_printed with_reasons (Some r) = one_plain with_reasons (object_line r)
 
 no_parts : (failure : Failure) → (outcome_of failure).output ≡ []
 no_parts (failures.Unread name cause) = refl
-no_parts (failures.Text name code line hint) = refl
-no_parts (failures.Compile name code line hint) = refl
-no_parts (failures.Document name schema code place hint stop) = refl
-no_parts (failures.Repeated name schema place hint) = refl
+no_parts (failures.Text name code line hint jump) = refl
+no_parts (failures.Compile name code line hint jump) = refl
+no_parts (failures.Document name schema code place hint stop jump) = refl
+no_parts (failures.Repeated name schema place hint jump) = refl
 no_parts (failures.NoModule name) = refl
 no_parts (failures.NoCode word) = refl
 no_parts failures.Memory = refl
@@ -230,37 +231,37 @@ memory_alone true = refl
 memory_alone false = refl
 
 -- an outcome of a request that goes out on the two sides
-abbrev Comes : Store → Store → Request → Side → Side → Side → Side → Bool → End → Type 0
-Comes before after request output output_after errors errors_after with_reasons end =
-    (o : Outcome) × (besides : Besides) × IsOutcome before after request o × Brings output output_after errors errors_after (printed_with besides with_reasons o) end
+abbrev Comes : Bool → Store → Store → Request → Side → Side → Side → Side → Bool → End → Type 0
+Comes by_lines before after request output output_after errors errors_after with_reasons end =
+    (o : Outcome) × (besides : Besides) × IsOutcome by_lines before after request o × Brings output output_after errors errors_after (printed_with besides with_reasons o) end
 
-comes_so : (before after : Store) (request : Request) (output output_after errors errors_after : Side) (with_reasons as_json : Bool) (besides : Besides) (o : Outcome) (end : End)
-    → as_json ≡ as_json_of request → IsFound before after request o → Tells output output_after errors errors_after with_reasons as_json besides o end
-    → Comes before after request output output_after errors errors_after with_reasons end
-unfolding outcome_said
-comes_so before after request output output_after errors errors_after with_reasons as_json besides o end same (inl found) (inl brings) = (
+comes_so : (by_lines : Bool) (before after : Store) (request : Request) (output output_after errors errors_after : Side) (with_reasons as_json : Bool) (besides : Besides) (o : Outcome) (end : End)
+    → as_json ≡ as_json_of request → IsFound by_lines before after request o → Tells output output_after errors errors_after with_reasons as_json besides o end
+    → Comes by_lines before after request output output_after errors errors_after with_reasons end
+unfolding outcome_by
+comes_so by_lines before after request output output_after errors errors_after with_reasons as_json besides o end same (inl found) (inl brings) = (
   told_too as_json o,
   besides,
-  inl (found.0, found.1, ap (told_too as_json) found.2 ∙ ap (λ (b : Bool). told_too b (said_of request found.0)) same),
+  inl (found.0, found.1, found.2, ap (told_too as_json) found.3 ∙ ap (λ (b : Bool). told_too b (said_by by_lines found.0 request found.1)) same),
   brings,
 )
-comes_so before after request output output_after errors errors_after with_reasons as_json besides o end same (inr none) (inl brings) =
+comes_so by_lines before after request output output_after errors errors_after with_reasons as_json besides o end same (inr none) (inl brings) =
     (told_too as_json o, besides, inr (inl none.0, ap (told_too as_json) none.1 ∙ memory_alone as_json), brings)
-comes_so before after request output output_after errors errors_after with_reasons as_json besides o end same (inl found) (inr lacks) = (
+comes_so by_lines before after request output output_after errors errors_after with_reasons as_json besides o end same (inl found) (inr lacks) = (
   without_memory,
   unsaid,
-  inr (inr (sym same ∙ lacks.0, (found.0, found.1)), refl),
+  inr (inr (sym same ∙ lacks.0, (found.1, found.2)), refl),
   memory_either unsaid with_reasons output output_after errors errors_after end lacks.1,
 )
-comes_so before after request output output_after errors errors_after with_reasons as_json besides o end same (inr none) (inr lacks) =
+comes_so by_lines before after request output output_after errors errors_after with_reasons as_json besides o end same (inr none) (inr lacks) =
     (without_memory, unsaid, inr (inl none.0, refl), memory_either unsaid with_reasons output output_after errors errors_after end lacks.1)
 
-pub run_comes : (before after : Store) (asked request : Request) (output output_after errors errors_after : Side) (given wanted as_json : Bool) (besides : Besides) (o : Outcome) (end : End)
-    → asked ≡ request → given ≡ wanted → as_json ≡ as_json_of asked → IsFound before after asked o
-    → Tells output output_after errors errors_after given as_json besides o end → Comes before after request output output_after errors errors_after wanted end
-run_comes before after asked request output output_after errors errors_after given wanted as_json besides o end e reasons same found tells =
-    comes_so before after request output output_after errors errors_after wanted as_json besides o end (same ∙ ap as_json_of e)
-    (subst (λ (r : Request). IsFound before after r o) e found)
+pub run_comes : (by_lines : Bool) (before after : Store) (asked request : Request) (output output_after errors errors_after : Side) (given wanted as_json : Bool) (besides : Besides) (o : Outcome) (end : End)
+    → asked ≡ request → given ≡ wanted → as_json ≡ as_json_of asked → IsFound by_lines before after asked o
+    → Tells output output_after errors errors_after given as_json besides o end → Comes by_lines before after request output output_after errors errors_after wanted end
+run_comes by_lines before after asked request output output_after errors errors_after given wanted as_json besides o end e reasons same found tells =
+    comes_so by_lines before after request output output_after errors errors_after wanted as_json besides o end (same ∙ ap as_json_of e)
+    (subst (λ (r : Request). IsFound by_lines before after r o) e found)
     (subst (λ (b : Bool). Tells output output_after errors errors_after b as_json besides o end) reasons tells)
 
 -- ---- the code that says most of a refused line

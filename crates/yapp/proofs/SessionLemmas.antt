@@ -69,10 +69,10 @@ by_texts : (before after : Store) (o : Opening) (texts : List (List ℕ)) (r : R
     → Leads o texts r → ComesToOpen before after o r
 by_texts before after o texts (Ok w) read all same is = (map Some texts, read, λ next. all next ∙ is next)
 by_texts before after o texts (Err (failures.Unread name cause)) read all same is = inl (map Some texts, read, λ next. all next ∙ is next)
-by_texts before after o texts (Err (failures.Text name code line hint)) read all same is = inl (map Some texts, read, λ next. all next ∙ is next)
-by_texts before after o texts (Err (failures.Compile name code line hint)) read all same is = inl (map Some texts, read, λ next. all next ∙ is next)
-by_texts before after o texts (Err (failures.Document name schema code place hint stop)) read all same is = inl (map Some texts, read, λ next. all next ∙ is next)
-by_texts before after o texts (Err (failures.Repeated name schema place hint)) read all same is = inl (map Some texts, read, λ next. all next ∙ is next)
+by_texts before after o texts (Err (failures.Text name code line hint jump)) read all same is = inl (map Some texts, read, λ next. all next ∙ is next)
+by_texts before after o texts (Err (failures.Compile name code line hint jump)) read all same is = inl (map Some texts, read, λ next. all next ∙ is next)
+by_texts before after o texts (Err (failures.Document name schema code place hint stop jump)) read all same is = inl (map Some texts, read, λ next. all next ∙ is next)
+by_texts before after o texts (Err (failures.Repeated name schema place hint jump)) read all same is = inl (map Some texts, read, λ next. all next ∙ is next)
 by_texts before after o texts (Err (failures.NoModule name)) read all same is = inl (map Some texts, read, λ next. all next ∙ is next)
 by_texts before after o texts (Err (failures.NoCode word)) read all same is = inl (map Some texts, read, λ next. all next ∙ is next)
 by_texts before after o texts (Err failures.Memory) read all same is =
@@ -146,7 +146,7 @@ does_same before after asked other given wanted caller caller_after output outpu
 -- where memory was wanting for what words ask
 pub does_without : (store : Store) (asked : Asked) (with_reasons : Bool) (caller : Party) (output output_after errors errors_after : Side) (end : End)
     → Brings output output_after errors errors_after memory_told end → Does store store asked with_reasons caller caller output output_after errors errors_after end
-does_without store (report request) with_reasons caller output output_after errors errors_after end brings = (
+does_without store (report by_lines request) with_reasons caller output output_after errors errors_after end brings = (
   refl,
   without_memory,
   unsaid,

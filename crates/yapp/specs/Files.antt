@@ -1,11 +1,12 @@
 -- What comes of reading the files of a request.
 pub use Rattle.yapp_search.specs.Reading.{Answered, Contents, FileAnswers, Store, WasCut, WereRead, store, unread_in}
-use Rattle.std.specs.Prelude.{◌≡◌, ◌⊎◌, ℕ, ◌+◌, ◌≤◌, true, List, [], ◌∷◌, length, map, string_bytes, Option, Some, None, Result, Ok, Err}
+use Rattle.std.specs.Prelude.{◌≡◌, ◌⊎◌, ℕ, ◌+◌, ◌≤◌, Bool, true, List, [], ◌∷◌, length, map, string_bytes, Option, Some, None, Result, Ok, Err}
 use Rattle.yspec_run.specs.Output.{Besides, Outcome, Request, as_json_of, files_of, with_files}
-use Rattle.yspec_run.specs.Unjudged.{outcome_said, said_of, with_note}
+use Rattle.yspec_run.specs.Lines.{outcome_by, said_by}
+use Rattle.yspec_run.specs.Unjudged.{with_note}
 use Rattle.yspec.specs.text.Text.{Text}
 use Rattle.yapp_report.specs.Unread.{IsTold}
-use Rattle.yapp_report.specs.Failing.{besides_in, outcome_of, reported, unsaid}
+use Rattle.yapp_report.specs.Failing.{LeadsTo, besides_in, outcome_of, reported, unsaid}
 use Rattle.yapp_words.specs.Running.{without_memory}
 use Rattle.yapp_report.specs.declared.failure.Failure.{Failure}
 use Rattle.yapp_report.specs.declared.failure.Failure.TheVariants.{Memory}
@@ -18,11 +19,11 @@ ReadsAll see before after names (Err failure) = ((answers : FileAnswers) × Were
     × ((next : List (List ℕ) → Outcome) → with_files names answers next ≡ outcome_of failure))
     ⊎ (WasCut before after names × (failure ≡ Memory))
 
--- The outcome is what is found of the request for what its files answered, of which so many reads failed. Or memory was
--- wanting.
-abbrev pub IsFound : Store → Store → Request → Outcome → Type 0
-IsFound before after request o =
-    ((answers : FileAnswers) × WereRead before after (files_of request) answers × (o ≡ said_of request answers))
+-- The outcome is what is found of the request for what its files answered, of which so many reads failed, by lines where that is
+-- wanted; where its reader stops in a document that isn't JSON, the kit says. Or memory was wanting.
+abbrev pub IsFound : Bool → Store → Store → Request → Outcome → Type 0
+IsFound by_lines before after request o = ((stop : Besides) × (answers : FileAnswers)
+    × WereRead before after (files_of request) answers × (o ≡ said_by by_lines stop request answers))
     ⊎ (WasCut before after (files_of request) × (o ≡ without_memory))
 
 -- memory was wanting for the object that was to tell what was found for some answers
@@ -30,11 +31,16 @@ abbrev pub Lacked : Store → Store → Request → Type 0
 Lacked before after request =
     (as_json_of request ≡ true) × ((answers : FileAnswers) × WereRead before after (files_of request) answers)
 
--- The outcome is that of the request for what its files answered, of which so many reads failed. Or memory was wanting.
-abbrev pub IsOutcome : Store → Store → Request → Outcome → Type 0
-IsOutcome before after request o =
-    ((answers : FileAnswers) × WereRead before after (files_of request) answers × (o ≡ outcome_said request answers))
+-- The outcome is that of the request for what its files answered, of which so many reads failed, by lines where that is wanted. Or
+-- memory was wanting.
+abbrev pub IsOutcome : Bool → Store → Store → Request → Outcome → Type 0
+IsOutcome by_lines before after request o = ((stop : Besides) × (answers : FileAnswers)
+    × WereRead before after (files_of request) answers × (o ≡ outcome_by by_lines stop request answers))
     ⊎ ((WasCut before after (files_of request) ⊎ Lacked before after request) × (o ≡ without_memory))
+
+-- what was returned is the outcome, wherever the kit's reader of a document stops
+abbrev pub LeadsBy : {X : Type 0} → (Besides → Outcome) → (X → Outcome) → Result X Failure → Type 0
+LeadsBy o next result = (stop : Besides) × LeadsTo (o stop) next result
 
 -- what was found, or why nothing was, as an outcome
 abbrev pub found_as : Found → Outcome

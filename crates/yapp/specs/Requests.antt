@@ -35,13 +35,13 @@ abbrev pub opening_with : Opening → List Text → Opening
 opening_with o more = record o { modules = o.modules ++ more }
 
 abbrev pub language_asked : Asked → Language
-language_asked (report request) = language_in request
+language_asked (report by_lines request) = language_in request
 language_asked (session o) = o.language
 
 abbrev pub modules_asked : Asked → List Text
-modules_asked (report request) = modules_in request
+modules_asked (report by_lines request) = modules_in request
 modules_asked (session o) = o.modules
 
 abbrev pub asked_with : Asked → List Text → Asked
-asked_with (report request) more = report (request_with request more)
+asked_with (report by_lines request) more = report by_lines (request_with request more)
 asked_with (session o) more = session (opening_with o more)

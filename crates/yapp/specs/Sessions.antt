@@ -59,8 +59,8 @@ IsSession before after o with_reasons caller caller_after output output_after er
 
 -- what comes of anything that words ask for: of what is told once an outcome, for which nobody is asked
 abbrev pub Does : Store → Store → Asked → Bool → Party → Party → Side → Side → Side → Side → End → Type 0
-Does before after (report request) with_reasons caller caller_after output output_after errors errors_after end =
-    (caller_after ≡ caller) × (o : Outcome) × (besides : Besides) × IsOutcome before after request o
+Does before after (report by_lines request) with_reasons caller caller_after output output_after errors errors_after end =
+    (caller_after ≡ caller) × (o : Outcome) × (besides : Besides) × IsOutcome by_lines before after request o
     × Brings output output_after errors errors_after (printed_with besides with_reasons o) end
 Does before after (session o) with_reasons caller caller_after output output_after errors errors_after end =
     IsSession before after o with_reasons caller caller_after output output_after errors errors_after end

@@ -1,22 +1,33 @@
 //! From a request to what was found.
 
-ghost use Rattle.std.specs.Prelude.{◌≡◌, IfOk, map, position};
+ghost use Rattle.std.specs.Prelude.{◌≡◌, Bool, true, IfOk, List, map, position};
 ghost use Rattle.yspec.specs.text.Text.{is_text};
-ghost use Rattle.yspec_run.specs.Output.{compilation, drawing, drawing_all, drawn, edition, explanation, performed, validation};
+ghost use Rattle.yspec.specs.text.Text.{Text};
+ghost use Rattle.yspec.specs.document.Sorting.{IsSorted};
+ghost use Rattle.yspec_run.specs.Output as requests;
+ghost use Rattle.yspec_wide.specs.Language as languages;
+ghost use Rattle.yspec_run.specs.Output.{Outcome, compilation, drawing, drawing_all, drawn, explanation, files_of, performed};
+ghost use Rattle.yspec_run.specs.Lines as spec;
+ghost use Rattle.yspec_run.specs.Lines.{performed_by, said_with, told_by};
+ghost use Rattle.yinst_tree.specs.View.{tree_view};
 ghost use Rattle.yschema_model.specs.View as schema_view;
 ghost use Rattle.ylink_grammar.specs.LanguageView.{language_view};
 ghost use Rattle.yapp_words.specs.Command.{options_view, view};
 ghost use Rattle.yapp_report.specs.Explained.{HasNoDocument, IsExplained};
-ghost use Rattle.yapp_report.specs.Failing.{LeadsTo, reported};
-ghost use Rattle.yapp.specs.Files.{IsFound, came_to, found_as, store};
-ghost use Rattle.yspec_run.specs.Unjudged.{noted_for, said};
+ghost use Rattle.yapp_report.specs.EditedView.{live_of, refused_in};
+ghost use Rattle.yapp_report.specs.Failing.{FailsWith, LeadsTo, besides_in, reported, unsaid};
+ghost use Rattle.yapp_report.specs.declared.report.Report.TheVariants as reports;
+ghost use Rattle.yapp.specs.Files.{IsFound, LeadsBy, came_to, found_as, store};
+ghost use Rattle.yapp.specs.Edited.{LeadsIn, by_script};
+ghost use Rattle.yspec_run.specs.Unjudged.{noted_for};
 
 use crate::contents::{names_of, read_files};
 use crate::document::{edit_document, read_document, report_on, report_on_edited};
 use crate::modules::compile_contents;
 use crate::unjudged::{Found, noted_in, unnoted};
-use std::alloc::Global;
-use yapp_report::{Failure, Files, Report};
+use std::alloc::{AllocError, Global};
+use yapp_lines::{failure_by_lines, faults_by_lines};
+use yapp_report::{DocumentReport, EditedDocument, Failure, Files, Report};
 use yapp_words::{Options, Request};
 use ylink_grammar::Language;
 use ysay_codes::{all_explanations, explanations, first_unknown};
@@ -103,6 +114,58 @@ fn draw_all<'a>(
     }
 }
 
+/// A report on a document, by lines where that is wanted.
+fn told_by(
+    alloc: Global,
+    by_lines: bool,
+    document: &str,
+    names: &[&str],
+    contents: &[Vec<u8>],
+    report: DocumentReport,
+) -> Result<DocumentReport, AllocError>
+    requires { IsSorted (tree_view report.tree) }
+    ensures told { (language : languages.Language) (options : requests.Options) (modules : List Text)
+        → let request = requests.validate language options document.now modules in files_of request ≡ map (λ n. n.now) names.now
+        → IfOk result (λ r. reported (reports.Document r)
+        ≡ spec.told_by by_lines unsaid request (map (λ c. c.items) contents.now) (reported (reports.Document report))) }
+    ensures explained { (with_reasons : Bool) → IsExplained with_reasons (reports.Document report)
+        → IfOk result (λ r. IsExplained with_reasons (reports.Document r)) }
+{
+    if by_lines {
+        faults_by_lines(alloc, document, names, contents, report)
+    } else {
+        Ok(report)
+    }
+}
+
+/// A document after the lines of a script, whose name is told with the refused ones.
+fn named(alloc: Global, script: &str, edited: EditedDocument) -> Result<EditedDocument, AllocError>
+    ensures live { IfOk result (λ e. live_of e ≡ live_of edited) }
+    ensures refused { IfOk result (λ e. refused_in e ≡ by_script true script.now (refused_in edited)) }
+{
+    let name = String::from_str(alloc, script)?;
+    let mut named = edited;
+    named.script = Some(name);
+    Ok(named)
+}
+
+/// The same where refused lines are told by lines.
+fn scripted(
+    alloc: Global,
+    by_lines: bool,
+    script: &str,
+    edited: EditedDocument,
+) -> Result<EditedDocument, AllocError>
+    ensures live { IfOk result (λ e. live_of e ≡ live_of edited) }
+    ensures refused { IfOk result (λ e. refused_in e ≡ by_script by_lines script.now (refused_in edited)) }
+{
+    if by_lines {
+        named(alloc, script, edited)
+    } else {
+        Ok(edited)
+    }
+}
+
 /// The faults of a document under modules, by the contents of the files.
 fn validate<'a>(
     alloc: Global,
@@ -110,11 +173,14 @@ fn validate<'a>(
     options: Options<'a>,
     document: &'a str,
     modules: &[&'a str],
+    names: &[&'a str],
     contents: &[Vec<u8>],
+    by_lines: bool,
     with_reasons: bool,
 ) -> Result<Report, Failure<'a>>
-    ensures leads { LeadsTo (validation (language_view language.now) (options_view options.entry) document.entry.now (map (λ n. n.now) modules.now)
-        (map (λ c. c.items) contents.now)) reported result }
+    ensures leads { let request = requests.validate (language_view language.now) (options_view options.entry) document.entry.now (map (λ n. n.now) modules.now) in
+        files_of request ≡ map (λ n. n.now) names.now → LeadsIn (told_by by_lines unsaid request (map (λ c. c.items) contents.now))
+        (performed request (map (λ c. c.items) contents.now)) result }
     ensures explained { IfOk result (IsExplained with_reasons) }
 {
     match read_document(
@@ -125,7 +191,11 @@ fn validate<'a>(
         modules,
         contents,
     ) {
-        Ok(read) => Ok(report_on(alloc, read.value, with_reasons, options)?),
+        Ok(read) => {
+            let report = report_on(alloc, read.value, with_reasons, options)?;
+            let report = told_by(alloc, by_lines, document, names, contents, report)?;
+            Ok(Report::Document(report))
+        }
         Err(failure) => Err(failure),
     }
 }
@@ -136,12 +206,15 @@ fn edit<'a>(
     language: &Language,
     options: Options<'a>,
     document: &'a str,
+    script: &'a str,
     modules: &[&'a str],
     contents: &[Vec<u8>],
+    by_lines: bool,
     with_reasons: bool,
 ) -> Result<Report, Failure<'a>>
-    ensures leads { LeadsTo (edition (language_view language.now) (options_view options.entry) document.entry.now (map (λ n. n.now) modules.now)
-        (map (λ c. c.items) contents.now)) reported result }
+    ensures leads { let request = requests.edit (language_view language.now) (options_view options.entry) document.entry.now script.entry.now (map (λ n. n.now) modules.now) in
+        LeadsIn (told_by by_lines unsaid request (map (λ c. c.items) contents.now))
+        (performed request (map (λ c. c.items) contents.now)) result }
     ensures explained { IfOk result (IsExplained with_reasons) }
 {
     match edit_document(
@@ -152,20 +225,27 @@ fn edit<'a>(
         modules,
         contents,
     ) {
-        Ok(edited) => Ok(report_on_edited(alloc, edited, with_reasons, options)?),
+        Ok(edited) => {
+            let edited = scripted(alloc, by_lines, script, edited)?;
+            Ok(report_on_edited(alloc, edited, with_reasons, options)?)
+        }
         Err(failure) => Err(failure),
     }
 }
 
-/// What a request comes to, by the contents of its files; where that is wanted, with what is said of faults.
+/// What a request comes to, by the names of its files and what they contain; where that is wanted, by lines, and with what is said
+/// of faults.
 fn perform<'a>(
     alloc: Global,
     request: &Request<'a>,
+    names: &[&'a str],
     contents: &[Vec<u8>],
+    by_lines: bool,
     with_reasons: bool,
 ) -> Result<Report, Failure<'a>>
-    ensures leads { LeadsTo (performed (view request.now) (map (λ c. c.items) contents.now))
-        reported result }
+    ensures leads { files_of (view request.now) ≡ map (λ n. n.now) names.now
+        → LeadsIn (told_by by_lines unsaid (view request.now) (map (λ c. c.items) contents.now))
+        (performed (view request.now) (map (λ c. c.items) contents.now)) result }
     ensures explained { IfOk result (IsExplained with_reasons) }
 {
     match request {
@@ -188,24 +268,68 @@ fn perform<'a>(
             *options,
             *document,
             modules,
+            names,
             contents,
+            by_lines,
             with_reasons,
         ),
         Request::Edit {
             language,
             options,
             document,
+            script,
             modules,
-            ..
         } => edit(
             alloc,
             language,
             *options,
             *document,
+            *script,
             modules,
             contents,
+            by_lines,
             with_reasons,
         ),
+    }
+}
+
+/// Why there is no report, by lines where that is wanted.
+fn failed_by<'a>(
+    alloc: Global,
+    by_lines: bool,
+    names: &[&'a str],
+    contents: &[Vec<u8>],
+    failure: Failure<'a>,
+) -> Failure<'a>
+    ensures { (request : requests.Request) (o : Outcome) → files_of request ≡ map (λ n. n.now) names.now → FailsWith failure.entry o
+        → FailsWith result (spec.told_by by_lines (besides_in failure.entry) request (map (λ c. c.items) contents.now) o) }
+{
+    if by_lines {
+        match failure_by_lines(alloc, names, contents, failure) {
+            Ok(failure) => failure,
+            Err(_) => Failure::Memory,
+        }
+    } else {
+        failure
+    }
+}
+
+/// What a request comes to, or why there is nothing, by lines where that is wanted.
+fn perform_by<'a>(
+    alloc: Global,
+    request: &Request<'a>,
+    names: &[&'a str],
+    contents: &[Vec<u8>],
+    by_lines: bool,
+    with_reasons: bool,
+) -> Result<Report, Failure<'a>>
+    ensures leads { files_of (view request.now) ≡ map (λ n. n.now) names.now
+        → LeadsBy (λ stop. performed_by by_lines stop (view request.now) (map (λ c. c.items) contents.now)) reported result }
+    ensures explained { IfOk result (IsExplained with_reasons) }
+{
+    match perform(alloc, request, names, contents, by_lines, with_reasons) {
+        Ok(report) => Ok(report),
+        Err(failure) => Err(failed_by(alloc, by_lines, names, contents, failure)),
     }
 }
 
@@ -245,39 +369,43 @@ fn noted_by<'a>(
     }
 }
 
-/// The same of what a request comes to by the contents of its files.
+/// The same of what a request comes to by the names of its files and what they contain.
 fn find<'a>(
     alloc: Global,
     request: &Request<'a>,
+    names: &[&'a str],
     contents: &[Vec<u8>],
+    by_lines: bool,
     with_reasons: bool,
 ) -> Result<Found, Failure<'a>>
-    ensures leads { LeadsTo (said (view request.now) (map (λ c. c.items) contents.now)) found_as result }
+    ensures leads { files_of (view request.now) ≡ map (λ n. n.now) names.now
+        → LeadsBy (λ stop. said_with by_lines stop (view request.now) (map (λ c. c.items) contents.now)) found_as result }
     ensures explained { IfOk result (λ found. IsExplained with_reasons found.report) }
 {
-    match perform(alloc, request, contents, with_reasons) {
+    match perform_by(alloc, request, names, contents, by_lines, with_reasons) {
         Ok(report) => noted_by(alloc, request, contents, report),
         Err(failure) => Err(failure),
     }
 }
 
 /// What a request comes to. All files are read first: the modules in order, then the document, then the script. The first
-/// file that can't be read, and then the first text, module or document that is refused, ends it. Where that is wanted, the
-/// report has what is said of its faults.
+/// file that can't be read, and then the first text, module or document that is refused, ends it. Where that is wanted, all is told
+/// by lines to which an editor jumps, and the report has what is said of its faults.
 pub fn answer<'a, F: Files>(
     alloc: Global,
     request: &Request<'a>,
+    by_lines: bool,
     with_reasons: bool,
     files: &mut F,
 ) -> Result<Found, Failure<'a>>
-    ensures found { IsFound (store F.contents F.reads F.failures files.old)
+    ensures found { IsFound by_lines (store F.contents F.reads F.failures files.old)
         (store F.contents F.reads F.failures files.new)
         (view request.now) (came_to result) }
     ensures explained { IfOk result (λ found. IsExplained with_reasons found.report) }
 {
     match names_of(alloc, request) {
         Ok(names) => match read_files(alloc, &names, files) {
-            Ok(contents) => find(alloc, request, &contents, with_reasons),
+            Ok(contents) => find(alloc, request, &names, &contents, by_lines, with_reasons),
             Err(failure) => Err(failure),
         },
         Err(_) => Err(Failure::Memory),

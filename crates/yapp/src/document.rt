@@ -21,6 +21,9 @@ ghost use Rattle.yapp_script.specs.Asked.{edits_in, kinds_in, refused_parts};
 ghost use Rattle.ycheck_config.specs.Inspecting.{inspection_view};
 ghost use Rattle.yapp.specs.Edited.{IsEdited, IsOf, IsRun, IsSound, IsWhole, refused_of, schema_of, tree_of};
 ghost use Rattle.yapp_report.specs.EditedView.{live_of, refused_in};
+ghost use Rattle.yapp_report.specs.declared.report.Report.TheVariants as reports;
+ghost use Rattle.yspec.specs.document.Sorting.{IsSorted};
+ghost use Rattle.yinst_tree.specs.View as document_view;
 ghost use Rattle.yapp_report.specs.Explained.{IsExplained};
 ghost use Rattle.yapp_report.specs.Failing.{FailsWith, LeadsTo, reported};
 ghost use Rattle.yapp_report.specs.Saving.{saved_view};
@@ -49,6 +52,8 @@ pub struct Document {
     pub schema: Schema,
     pub tree: Tree,
     pub refused: Vec<RefusedLine>,
+    /// The name of the script, where its lines are told as an editor jumps to them.
+    pub script: Option<String>,
 }
 
 /// The document that bytes denote under a schema.
@@ -71,6 +76,7 @@ fn read_under<'a>(
             schema,
             tree,
             refused: Vec::new(alloc),
+            script: None,
         }),
         Err(DocFault::Refused { code, place }) => {
             Err(document_failure(alloc, name, schema, bytes, code, place))
@@ -144,6 +150,7 @@ fn repeated_failure<'a>(
             schema,
             place,
             hint,
+            jump: None,
         },
         Err(_) => Failure::Memory,
     }
@@ -172,6 +179,7 @@ fn document_failure<'a>(
             place,
             hint,
             stop,
+            jump: None,
         },
         Err(_) => Failure::Memory,
     }
@@ -255,8 +263,12 @@ fn run_script(mut live: Live, script: &Script<'_>) -> Result<EditedDocument, All
 {
     match live.run(script.edits()) {
         Ok(outcomes) => {
-            let refused = script.refused(live.schema(), &outcomes)?;
-            Ok(EditedDocument { live, refused })
+            let refused = script.refused(&live, &outcomes)?;
+            Ok(EditedDocument {
+                live,
+                refused,
+                script: None,
+            })
         }
         Err(_) => Err(AllocError),
     }
@@ -291,7 +303,12 @@ fn taken_apart(edited: EditedDocument) -> Result<Document, AllocError>
     requires { IsWhole (live_of edited).schema (live_of edited).tree }
     ensures { IfOk result (λ d. IsOf edited d) }
 {
-    let EditedDocument { live, refused, .. } = edited;
+    let EditedDocument {
+        live,
+        refused,
+        script,
+        ..
+    } = edited;
     match live.into_parts() {
         Ok(parts) => {
             let (schema, tree) = parts;
@@ -299,6 +316,7 @@ fn taken_apart(edited: EditedDocument) -> Result<Document, AllocError>
                 schema,
                 tree,
                 refused,
+                script,
             })
         }
         Err(_) => Err(AllocError),
@@ -320,7 +338,8 @@ pub(crate) fn report_on_edited(
 {
     if with_reasons || wants_more(options) {
         let document = taken_apart(edited)?;
-        report_on(alloc, document, with_reasons, options)
+        let report = report_on(alloc, document, with_reasons, options)?;
+        Ok(Report::Document(report))
     } else {
         Ok(Report::Edited(edited))
     }
@@ -342,11 +361,12 @@ pub(crate) fn report_on(
     document: Document,
     with_reasons: bool,
     options: Options<'_>,
-) -> Result<Report, AllocError>
+) -> Result<DocumentReport, AllocError>
     requires { IsSound (schema_of document) (tree_of document) }
-    ensures reported { IfOk result (λ r. reported r
+    ensures reported { IfOk result (λ r. reported (reports.Document r)
         ≡ left (options_view options.entry) (schema_of document) (tree_of document) (refused_of document)) }
-    ensures explained { IfOk result (IsExplained with_reasons) }
+    ensures explained { IfOk result (λ r. IsExplained with_reasons (reports.Document r)) }
+    ensures sorted { IfOk result (λ r. IsSorted (document_view.tree_view r.tree)) }
 {
     let whole = whole_text(alloc, &document, options.is_dump)?;
     let saved = saved_file(alloc, &document, options)?;
@@ -354,19 +374,21 @@ pub(crate) fn report_on(
         schema,
         tree,
         refused,
+        script,
     } = document;
     let inspection = inspect(alloc, schema, tree, options.of_configuration)?;
     let text = text_instead(alloc, whole, &refused, &inspection, options)?;
     let explanations = explanations_of(alloc, &inspection, with_reasons & text.is_none())?;
-    Ok(Report::Document(DocumentReport {
+    Ok(DocumentReport {
         schema: inspection.schema,
         tree: inspection.tree,
         faults: inspection.faults,
         explanations,
         refused,
+        script,
         text,
         saved,
-    }))
+    })
 }
 
 /// What is said of each fault of what is looked at, where that is wanted.

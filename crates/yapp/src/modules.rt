@@ -100,12 +100,13 @@ fn text_failure<'a>(
     ensures { FailsWith result (spec.slipped name.entry.now text.now
         (record { code = number_of code; line = line })) }
 {
-    match slip_hint(alloc, line, text) {
+    match slip_hint(alloc, code.number(), line, text) {
         Ok(hint) => Failure::Text {
             name,
             code,
             line,
             hint,
+            jump: None,
         },
         Err(_) => Failure::Memory,
     }
@@ -161,6 +162,7 @@ fn compile_failure<'a>(
             code: rule.code,
             line: rule.line,
             hint,
+            jump: None,
         },
         Err(_) => Failure::Memory,
     }

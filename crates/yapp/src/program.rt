@@ -53,9 +53,9 @@ fn do_asked<F: Files, C: Caller, O: Sink, E: Sink>(
         (side E.taken E.failures errors.old) (side E.taken E.failures errors.new) (end_of result) }
 {
     match asked {
-        Asked::Report(request) => tell(
+        Asked::Report(request, by_lines) => tell(
             alloc,
-            answer(alloc, request, with_reasons, files),
+            answer(alloc, request, *by_lines, with_reasons, files),
             with_reasons,
             is_json(request),
             output,

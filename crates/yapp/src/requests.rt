@@ -96,7 +96,9 @@ pub fn asked_with<'a>(asked: Asked<'a>, more: &'a [String]) -> Result<Asked<'a>,
     ensures { IfOk result (λ a. asked_view a ≡ spec.asked_with (asked_view asked.entry) (map string_bytes more.entry.now)) }
 {
     match asked {
-        Asked::Report(request) => Ok(Asked::Report(request_with(request, more)?)),
+        Asked::Report(request, by_lines) => {
+            Ok(Asked::Report(request_with(request, more)?, by_lines))
+        }
         Asked::Session(opening) => Ok(Asked::Session(opening_with(opening, more)?)),
     }
 }
@@ -148,7 +150,7 @@ pub fn search_asked<F: Files>(
         (store F.contents F.reads F.failures files.new) result }
 {
     match asked {
-        Asked::Report(request) => search_request(alloc, request, folders, files),
+        Asked::Report(request, _) => search_request(alloc, request, folders, files),
         Asked::Session(opening) => search(
             alloc,
             &opening.language,

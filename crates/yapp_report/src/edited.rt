@@ -11,6 +11,8 @@ use ylive::{Live, Walk};
 pub struct EditedDocument {
     pub live: Live,
     pub refused: Vec<RefusedLine>,
+    /// The name of the script, where its lines are told as an editor jumps to them.
+    pub script: Option<String>,
     pub ghost fresh: { (live_view.view live).is_stale ≡ false },
 }
 

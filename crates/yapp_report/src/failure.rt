@@ -1,9 +1,9 @@
 //! Why there is no report, and the line that says so.
 
-ghost use Rattle.std.specs.Prelude.{◌≡◌, ◌++◌, codes, decimal};
+ghost use Rattle.std.specs.Prelude.{◌≡◌, ◌++◌, codes, decimal, option_map, string_bytes};
 ghost use Rattle.yspec_run.specs.Output.{aside_of, aside_text, document_part, printed, printed_with, refusal_part, stop_line};
 ghost use Rattle.yspec_run.specs.Hint.{hinted};
-ghost use Rattle.yspec_run.specs.Part.{spelled_part};
+ghost use Rattle.yspec_run.specs.Part.{reworded, spelled_part};
 ghost use Rattle.ybase_output.specs.Writing.{Writes, side};
 ghost use Rattle.yschema_model.specs.View as schema_view;
 ghost use Rattle.yinst_tree.specs.View.{place_view};
@@ -31,7 +31,8 @@ pub struct Stop {
     pub column: usize,
 }
 
-/// Why a command gives no report. Files are named by the words that were given.
+/// Why a command gives no report, and the line to which an editor jumps where that stands in place of its own. Files are named by
+/// the words that were given.
 #[derive(Drop, Error)]
 pub enum Failure<'a> {
     /// A file couldn't be read.
@@ -47,6 +48,7 @@ pub enum Failure<'a> {
         code: TextCode,
         line: u32,
         hint: String,
+        jump: Option<String>,
     },
     /// A module is refused in a line, with what is said of it.
     #[error("{name}:{line}: {code}")]
@@ -55,6 +57,7 @@ pub enum Failure<'a> {
         code: CompileCode,
         line: u32,
         hint: String,
+        jump: Option<String>,
     },
     /// A document is refused at a node of a schema, with what is said of it, and where its reader stops if it isn't JSON.
     #[error("{name}: {code}")]
@@ -65,6 +68,7 @@ pub enum Failure<'a> {
         place: Vec<Step>,
         hint: String,
         stop: Stop,
+        jump: Option<String>,
     },
     /// A document gives a member twice, whose node is at a place, with what is said of it.
     #[error("{name}: J8")]
@@ -73,6 +77,7 @@ pub enum Failure<'a> {
         schema: Schema,
         place: Vec<Step>,
         hint: String,
+        jump: Option<String>,
     },
     /// No module has the name of the one that is to be drawn.
     #[error("{name}: no such module")]
@@ -183,6 +188,7 @@ impl<'a> Failure<'a> {
                 code,
                 line,
                 hint,
+                jump,
             } => {
                 write_refusal(
                     *name,
@@ -190,6 +196,7 @@ impl<'a> Failure<'a> {
                     "L",
                     code.number(),
                     hint.as_str(),
+                    jump,
                     with_reasons,
                     sink,
                 )
@@ -199,6 +206,7 @@ impl<'a> Failure<'a> {
                 code,
                 line,
                 hint,
+                jump,
             } => {
                 write_refusal(
                     *name,
@@ -206,6 +214,7 @@ impl<'a> Failure<'a> {
                     "C",
                     code.number(),
                     hint.as_str(),
+                    jump,
                     with_reasons,
                     sink,
                 )
@@ -216,6 +225,7 @@ impl<'a> Failure<'a> {
                 code,
                 place,
                 hint,
+                jump,
                 ..
             } => {
                 write_document_refusal(
@@ -224,6 +234,7 @@ impl<'a> Failure<'a> {
                     code.number(),
                     place,
                     hint.as_str(),
+                    jump,
                     with_reasons,
                     sink,
                 )
@@ -233,8 +244,18 @@ impl<'a> Failure<'a> {
                 schema,
                 place,
                 hint,
+                jump,
             } => {
-                write_document_refusal(*name, schema, 8, place, hint.as_str(), with_reasons, sink)
+                write_document_refusal(
+                    *name,
+                    schema,
+                    8,
+                    place,
+                    hint.as_str(),
+                    jump,
+                    with_reasons,
+                    sink,
+                )
             }
             Failure::NoModule { name } => write_texts(sink, &[*name, ": no such module", "\n"]),
             Failure::NoCode { word } => write_texts(sink, &[*word, ": no such code", "\n"]),
@@ -243,22 +264,42 @@ impl<'a> Failure<'a> {
     }
 }
 
-/// Writes the line of a module's refusal, by the letter of the code and its number, what is said of it, and why it is told.
+/// Writes the line of a module's refusal, by the letter of the code and its number, or the one to which an editor jumps, what is
+/// said of it, and why it is told.
 fn write_refusal<S: Sink>(
     name: &str,
     line: u32,
     letter: &str,
     code: u8,
     hint: &str,
+    jump: &Option<String>,
     with_reasons: bool,
     sink: &mut S,
 ) -> Result<(), SinkFault>
     ensures { Writes (side S.taken S.failures sink.old) (side S.taken S.failures sink.new)
-        (spelled_part with_reasons (hinted hint.now
-        (refusal_part name.now line letter.now code))) result }
+        (spelled_part with_reasons (reworded (option_map string_bytes jump.now)
+        (hinted hint.now (refusal_part name.now line letter.now code)))) result }
 {
-    write_refusal_line(name, line, letter, code, sink)?;
+    write_told_line(name, line, letter, code, jump, sink)?;
     write_hinted_where(with_reasons, hint, letter, code, sink)
+}
+
+/// Writes the line of a module's refusal, or the one to which an editor jumps.
+fn write_told_line<S: Sink>(
+    name: &str,
+    line: u32,
+    letter: &str,
+    code: u8,
+    jump: &Option<String>,
+    sink: &mut S,
+) -> Result<(), SinkFault>
+    ensures { Writes (side S.taken S.failures sink.old) (side S.taken S.failures sink.new)
+        (reworded (option_map string_bytes jump.now) (refusal_part name.now line letter.now code)).text result }
+{
+    match jump {
+        Some(text) => write_texts(sink, &[text.as_str()]),
+        None => write_refusal_line(name, line, letter, code, sink),
+    }
 }
 
 /// Writes the line of a module's refusal: `FILE:LINE: CODE`.
@@ -279,22 +320,43 @@ fn write_refusal_line<S: Sink>(
     write_texts(sink, &[name, ":", line_text, ": ", letter, number, "\n"])
 }
 
-/// Writes the line of a document's refusal, what is said of it, and why it is told.
+/// Writes the line of a document's refusal, or the one to which an editor jumps, what is said of it, and why it is told.
 fn write_document_refusal<S: Sink>(
     name: &str,
     schema: &Schema,
     code: u8,
     place: &[Step],
     hint: &str,
+    jump: &Option<String>,
     with_reasons: bool,
     sink: &mut S,
 ) -> Result<(), SinkFault>
     ensures { Writes (side S.taken S.failures sink.old) (side S.taken S.failures sink.new)
-        (spelled_part with_reasons (hinted hint.now (document_part (schema_view.view schema.now)
-        name.now (record { code = code; place = place_view place.now })))) result }
+        (spelled_part with_reasons (reworded (option_map string_bytes jump.now)
+        (hinted hint.now (document_part (schema_view.view schema.now) name.now
+        (record { code = code; place = place_view place.now }))))) result }
 {
-    write_document_line(name, schema, code, place, sink)?;
+    write_told_document(name, schema, code, place, jump, sink)?;
     write_hinted_where(with_reasons, hint, "J", code, sink)
+}
+
+/// Writes the line of a document's refusal, or the one to which an editor jumps.
+fn write_told_document<S: Sink>(
+    name: &str,
+    schema: &Schema,
+    code: u8,
+    place: &[Step],
+    jump: &Option<String>,
+    sink: &mut S,
+) -> Result<(), SinkFault>
+    ensures { Writes (side S.taken S.failures sink.old) (side S.taken S.failures sink.new)
+        (reworded (option_map string_bytes jump.now) (document_part (schema_view.view schema.now) name.now
+        (record { code = code; place = place_view place.now }))).text result }
+{
+    match jump {
+        Some(text) => write_texts(sink, &[text.as_str()]),
+        None => write_document_line(name, schema, code, place, sink),
+    }
 }
 
 /// Writes where a document stops being JSON, if its refusal has that number.

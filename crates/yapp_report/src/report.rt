@@ -1,6 +1,6 @@
 //! What a command found, and how it is printed.
 
-ghost use Rattle.std.specs.Prelude.{◌≡◌, ◌++◌, decimal, is_some, length, map, option_map, string_bytes, if◌then◌else◌};
+ghost use Rattle.std.specs.Prelude.{◌≡◌, ◌++◌, codes, decimal, is_some, length, map, option_map, string_bytes, if◌then◌else◌};
 ghost use Rattle.std.specs.List.{flat_map};
 ghost use Rattle.yspec.specs.schema.Diagram.{diagram};
 ghost use Rattle.yspec.specs.document.Faults.{line_of};
@@ -11,7 +11,10 @@ ghost use Rattle.ysay_codes.specs.View.{explanation_view};
 ghost use Rattle.ybase_output.specs.Writing.{Writes, side};
 ghost use Rattle.yschema_model.specs.View as schema_view;
 ghost use Rattle.ycheck.specs.View.{view, views};
-ghost use Rattle.yapp_script.specs.Asked.{refused_part, refused_parts};
+ghost use Rattle.yspec_run.specs.Lines.{jumping, script_spot};
+ghost use Rattle.yspec_run.specs.Script.{code_text};
+ghost use Rattle.yapp_script.specs.Asked.{refusal_of, refused_part};
+ghost use Rattle.yapp_report.specs.EditedView.{line_front, scripted_parts};
 ghost use Rattle.yapp_report.specs.Explained.{IsExplained, explained_line, explained_lines, explanations_in, fault_lines};
 ghost use Rattle.yapp_report.specs.Failing.{reported};
 ghost use Rattle.yapp_report.specs.Saving.{saved_view};
@@ -25,7 +28,7 @@ use crate::reason::write_hinted_where;
 use crate::saving::SavedFile;
 use crate::status::{FAULTY, GOOD};
 use itoa::Buffer;
-use yapp_script::RefusedLine;
+use yapp_script::{Refusal, RefusedLine};
 use ybase_output::{Sink, SinkFault, write_texts};
 use ycheck::{Fault, write_line, write_parts};
 use yinst_tree::Tree;
@@ -59,6 +62,8 @@ pub struct DocumentReport {
     /// What is said of each fault, where that is to be printed.
     pub explanations: Option<Vec<String>>,
     pub refused: Vec<RefusedLine>,
+    /// The name of the script, where its lines are told as an editor jumps to them.
+    pub script: Option<String>,
     pub text: Option<String>,
     /// The file to which it is to be written at the end.
     pub saved: Option<SavedFile>,
@@ -112,11 +117,11 @@ impl Report {
             Report::Diagram { schema, module } => write_diagram(schema, *module, output),
             Report::Diagrams(schema) => write_diagrams(schema, output),
             Report::Document(report) => {
-                write_refused(&report.refused, with_reasons, errors)?;
+                write_refused(&report.refused, &report.script, with_reasons, errors)?;
                 report.write_document(with_reasons, output)
             }
             Report::Edited(document) => {
-                write_refused(&document.refused, with_reasons, errors)?;
+                write_refused(&document.refused, &document.script, with_reasons, errors)?;
                 document.write_faults(with_reasons, output)
             }
         }
@@ -378,14 +383,15 @@ fn write_count<S: Sink>(count: usize, counted: &str, sink: &mut S) -> Result<(),
 /// Writes refused lines.
 fn write_refused<S: Sink>(
     lines: &[RefusedLine],
+    script: &Option<String>,
     with_reasons: bool,
     sink: &mut S,
 ) -> Result<(), SinkFault>
     ensures { Writes (side S.taken S.failures sink.old) (side S.taken S.failures sink.new)
-        (spelled with_reasons (refused_parts lines.now)) result }
+        (spelled with_reasons (scripted_parts (option_map string_bytes script.now) lines.now)) result }
 {
     for line in lines {
-        write_refused_line(line, with_reasons, sink)?;
+        write_refused_line(line, script, with_reasons, sink)?;
     }
     Ok(())
 }
@@ -394,13 +400,14 @@ fn write_refused<S: Sink>(
 /// fit.
 fn write_refused_line<S: Sink>(
     line: &RefusedLine,
+    script: &Option<String>,
     with_reasons: bool,
     sink: &mut S,
 ) -> Result<(), SinkFault>
     ensures { Writes (side S.taken S.failures sink.old) (side S.taken S.failures sink.new)
-        (spelled_part with_reasons (refused_part line.now)) result }
+        (spelled_part with_reasons (jumping (script_spot (option_map string_bytes script.now)) (refused_part line.now))) result }
 {
-    write_refused_code(line, sink)?;
+    write_refused_code(line, script, sink)?;
     let hint = line.hint.as_str();
     match line.refusal.value {
         Some(value) => write_hinted_where(with_reasons, hint, "J", value.number(), sink),
@@ -408,21 +415,54 @@ fn write_refused_line<S: Sink>(
     }
 }
 
-/// Writes the line of a refused line: `line K: CODE`.
-fn write_refused_code<S: Sink>(line: &RefusedLine, sink: &mut S) -> Result<(), SinkFault>
+/// Writes the line of a refused line: `line K: CODE`, or with the name of the script the one to which an editor jumps.
+fn write_refused_code<S: Sink>(
+    line: &RefusedLine,
+    script: &Option<String>,
+    sink: &mut S,
+) -> Result<(), SinkFault>
     ensures { Writes (side S.taken S.failures sink.old) (side S.taken S.failures sink.new)
-        (refused_part line.now).text result }
+        (jumping (script_spot (option_map string_bytes script.now)) (refused_part line.now)).text result }
 {
-    let mut number_digits = Buffer::new();
-    let mut code_digits = Buffer::new();
-    let number = number_digits.format(line.number);
-    let code = code_digits.format(line.refusal.code.number());
-    match line.refusal.value {
+    write_line_front(line.number, script, sink)?;
+    write_code(line.refusal, sink)
+}
+
+/// Writes what stands in front of the code of a refused line.
+fn write_line_front<S: Sink>(
+    number: usize,
+    script: &Option<String>,
+    sink: &mut S,
+) -> Result<(), SinkFault>
+    ensures { Writes (side S.taken S.failures sink.old) (side S.taken S.failures sink.new)
+        (line_front (option_map string_bytes script.now) number) result }
+{
+    let mut digits = Buffer::new();
+    let mut column_digits = Buffer::new();
+    let number = digits.format(number);
+    let column = column_digits.format(1usize);
+    match script {
+        Some(name) => write_texts(
+            sink,
+            &[name.as_str(), ":", number, ":", column, ": error: "],
+        ),
+        None => write_texts(sink, &["line ", number, ": "]),
+    }
+}
+
+/// Writes the code of a refused line, and ends it: `E9`, or with that of the value `E10 J3`.
+fn write_code<S: Sink>(refusal: Refusal, sink: &mut S) -> Result<(), SinkFault>
+    ensures { Writes (side S.taken S.failures sink.old) (side S.taken S.failures sink.new)
+        (code_text (refusal_of refusal) ++ codes "\n") result }
+{
+    let mut digits = Buffer::new();
+    let code = digits.format(refusal.code.number());
+    match refusal.value {
         Some(value) => {
             let mut value_digits = Buffer::new();
             let value = value_digits.format(value.number());
-            write_texts(sink, &["line ", number, ": E", code, " J", value, "\n"])
+            write_texts(sink, &["E", code, " J", value, "\n"])
         }
-        None => write_texts(sink, &["line ", number, ": E", code, "\n"]),
+        None => write_texts(sink, &["E", code, "\n"]),
     }
 }

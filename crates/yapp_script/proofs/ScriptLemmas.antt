@@ -1,6 +1,6 @@
 -- The lines of a script: by what they ask for, and by what came of the edits among them.
 use Rattle.std.proofs.Common.{◌≡◌, ◌≢◌, ℕ, Bool, true, false, ◌+◌, List, [], ◌∷◌, ◌++◌, Option, Some, None, map, refl, sym, ap, ap₂, ◌∙◌, append_assoc, eqb-true}
-use Rattle.std.specs.Prelude.{Result, Ok, Err, ◌==◌, if◌then◌else◌}
+use Rattle.std.specs.Prelude.{Result, Ok, Err, ◌==◌, is_some, if◌then◌else◌}
 use Rattle.std.specs.Option.{option_map_or}
 use Rattle.std.specs.Borrow.{Bor}
 use Rattle.std.specs.Str.{IsUtf8, is_utf8}
@@ -11,11 +11,12 @@ use Rattle.yspec.specs.text.Text.{Text}
 use Rattle.yspec.specs.schema.Schema.{Schema}
 use Rattle.yspec.specs.document.Document.{Tree}
 use Rattle.yspec.specs.edit.EditText.{Edit, is_passed_over}
-use Rattle.yspec.specs.edit.Editing.{EditRefusal, after, applied, decision, decisions, edit_asked, refused, tree_or}
+use Rattle.yspec.specs.edit.Editing.{Decision, EditRefusal, after, applied, decision, decisions, edit_asked, refused, tree_or}
 use Rattle.yspec_run.specs.Hint.{hinted}
 use Rattle.yspec_run.specs.Part.{Part}
-use Rattle.yspec_run.specs.Script.{after_lines, asked_in, edit_in, line_parts, refused_hint, refused_line, refused_lines, spelled_in, without_return, without_returns}
-use Rattle.yapp_script.specs.Asked.{IsScript, Line, an_edit, decision_parts, edit_of, edits_of, hint_in, kinds_of, line_of, told_from}
+use Rattle.yspec_run.specs.Script.{after_lines, asked_in, edit_in, line_parts, refused_from, refused_hint, refused_line, refused_lines, spelled_in, without_return, without_returns}
+use Rattle.yapp_script.specs.Asked as spec
+use Rattle.yapp_script.specs.Asked.{IsScript, Line, an_edit, any_refused, behind, decision_parts, edit_of, edits_of, hint_in, kinds_of, line_of, refusal_in, told_from}
 
 -- ---- edits in place of lines
 
@@ -40,19 +41,39 @@ module _ (is_strict : Bool) where
   parts_of_answer hint said k (Ok tree) same = refl
   parts_of_answer hint said k (Err e) same = ap (λ (t : Text). hinted t (refused_line k e) ∷ []) (same e)
 
-  refused_asked : (s : Schema) (k : ℕ) (t : Tree) (line : Text) (asked : Result (Option Edit) EditRefusal) (lines : List Text)
-      → ((k : ℕ) (t : Tree) → refused_lines is_strict s k t lines ≡ told_from s k (kinds_of is_strict lines) (edits_of is_strict lines) (decisions s t (edits_of is_strict lines)))
-      → line_parts (refused_hint s line (edit_in asked)) k (done s t asked) ++ refused_lines is_strict s (k + 1) (tree_or (done s t asked) t) lines
-      ≡ told_from s k (line_of line asked ∷ kinds_of is_strict lines) (edit_of asked ++ edits_of is_strict lines) (decisions s t (edit_of asked ++ edits_of is_strict lines))
-  refused_asked s k t line (Ok None) lines rest = rest (k + 1) t
-  refused_asked s k t line (Ok (Some e)) lines rest =
-      ap₂ (λ (xs ys : List Part). xs ++ ys) (parts_of_answer (refused_hint s line (Some e)) (hint_in s (an_edit line) (e ∷ edits_of is_strict lines)) k (applied s t e) (λ r. refl)) (rest (k + 1) (tree_or (applied s t e) t))
-  refused_asked s k t line (Err e) lines rest = ap (λ (xs : List Part). line_parts (refused_hint s line None) k (Err e) ++ xs) (rest (k + 1) t)
+  refused_asked : (s : Schema) (now : Tree) (k : ℕ) (t : Tree) (line : Text) (asked : Result (Option Edit) EditRefusal) (lines : List Text)
+      → ((k : ℕ) (t : Tree) → refused_from is_strict s now k t lines ≡ told_from s now k (kinds_of is_strict lines) (edits_of is_strict lines) (decisions s t (edits_of is_strict lines)))
+      → line_parts (refused_hint s now line (edit_in asked)) k (done s t asked) ++ refused_from is_strict s now (k + 1) (tree_or (done s t asked) t) lines
+      ≡ told_from s now k (line_of line asked ∷ kinds_of is_strict lines) (edit_of asked ++ edits_of is_strict lines) (decisions s t (edit_of asked ++ edits_of is_strict lines))
+  refused_asked s now k t line (Ok None) lines rest = rest (k + 1) t
+  refused_asked s now k t line (Ok (Some e)) lines rest =
+      ap₂ (λ (xs ys : List Part). xs ++ ys) (parts_of_answer (refused_hint s now line (Some e)) (hint_in s now (an_edit line) (e ∷ edits_of is_strict lines)) k (applied s t e) (λ r. refl)) (rest (k + 1) (tree_or (applied s t e) t))
+  refused_asked s now k t line (Err e) lines rest = ap (λ (xs : List Part). line_parts (refused_hint s now line None) k (Err e) ++ xs) (rest (k + 1) t)
+
+  refused_by : (s : Schema) (now : Tree) (k : ℕ) (t : Tree) (lines : List Text)
+      → refused_from is_strict s now k t lines ≡ told_from s now k (kinds_of is_strict lines) (edits_of is_strict lines) (decisions s t (edits_of is_strict lines))
+  refused_by s now k t [] = refl
+  refused_by s now k t (line ∷ lines) = refused_asked s now k t line (asked_in is_strict line) lines (λ k t. refused_by s now k t lines)
 
   pub refused_is : (s : Schema) (k : ℕ) (t : Tree) (lines : List Text)
-      → refused_lines is_strict s k t lines ≡ told_from s k (kinds_of is_strict lines) (edits_of is_strict lines) (decisions s t (edits_of is_strict lines))
-  refused_is s k t [] = refl
-  refused_is s k t (line ∷ lines) = refused_asked s k t line (asked_in is_strict line) lines (λ k t. refused_is s k t lines)
+      → refused_lines is_strict s k t lines
+      ≡ told_from s (after s t (edits_of is_strict lines)) k (kinds_of is_strict lines) (edits_of is_strict lines) (decisions s t (edits_of is_strict lines))
+  refused_is s k t lines = ap (λ (now : Tree). refused_from is_strict s now k t lines) (after_is s t lines)
+      ∙ refused_by s (after s t (edits_of is_strict lines)) k t lines
+
+-- ---- what is told
+
+-- nothing where none is refused
+pub none_told : (s : Schema) (now : Tree) (k : ℕ) (kinds : List Line) (edits : List Edit) (ds : List Decision) → any_refused kinds ds ≡ false
+    → [] ≡ told_from s now k kinds edits ds
+none_told s now k [] edits ds none = refl
+none_told s now k (line ∷ kinds) edits ds none = by (refusal_in line ds) (λ k. none_told s now k kinds (spec.edits_behind line edits) (behind line ds)) none
+  where
+    by : (d : Decision) → ((k : ℕ) → any_refused kinds (behind line ds) ≡ false → [] ≡ told_from s now k kinds (spec.edits_behind line edits) (behind line ds))
+        → (if is_some d then true else any_refused kinds (behind line ds)) ≡ false
+        → [] ≡ decision_parts (hint_in s now line edits) k d ++ told_from s now (k + 1) kinds (spec.edits_behind line edits) (behind line ds)
+    by None rest none = rest (k + 1) none
+    by (Some e) rest none = cc
 
 -- ---- reading lines
 

@@ -1,8 +1,9 @@
 -- What the lines of a script ask for, apart from the edits among them, and what is told of them.
-use Rattle.std.specs.Prelude.{◌≡◌, ℕ, ◌+◌, ◌++◌, Bool, List, [], ◌∷◌, map, string_bytes, Option, Some, None, option_map, Result, Ok, Err}
+use Rattle.std.specs.Prelude.{◌≡◌, ℕ, ◌+◌, ◌++◌, Bool, true, false, List, [], ◌∷◌, map, string_bytes, Option, Some, None, is_some, option_map, Result, Ok, Err, if◌then◌else◌}
 use Rattle.std.specs.List.{flat_map}
 use Rattle.yspec.specs.text.Text.{Text}
 use Rattle.yspec.specs.schema.Schema.{Schema}
+use Rattle.yspec.specs.document.Document.{Tree}
 use Rattle.yspec.specs.edit.EditText.{Edit}
 use Rattle.yspec.specs.edit.Editing.{Decision, EditRefusal}
 use Rattle.yspec_run.specs.Hint.{hinted}
@@ -93,23 +94,28 @@ edits_behind (no_edit line e) edits = edits
 edits_behind (an_edit line) [] = []
 edits_behind (an_edit line) (e ∷ edits) = edits
 
--- what is said of a line that is refused so, with the edits from it on
-abbrev pub hint_in : Schema → Line → List Edit → EditRefusal → Text
-hint_in schema passed_over edits refusal = []
-hint_in schema (no_edit line e) edits refusal = refused_hint schema line None refusal
-hint_in schema (an_edit line) [] refusal = []
-hint_in schema (an_edit line) (e ∷ edits) refusal = refused_hint schema line (Some e) refusal
+-- what is said of a line that is refused so, with the edits from it on, by what is stored now
+abbrev pub hint_in : Schema → Tree → Line → List Edit → EditRefusal → Text
+hint_in schema now passed_over edits refusal = []
+hint_in schema now (no_edit line e) edits refusal = refused_hint schema now line None refusal
+hint_in schema now (an_edit line) [] refusal = []
+hint_in schema now (an_edit line) (e ∷ edits) refusal = refused_hint schema now line (Some e) refusal
 
 abbrev pub decision_parts : (EditRefusal → Text) → ℕ → Decision → List Part
 decision_parts hint number None = []
 decision_parts hint number (Some e) = line_parts hint number (Err e)
 
 -- those of lines from a number on
-abbrev pub told_from : Schema → ℕ → List Line → List Edit → List Decision → List Part
-told_from schema number [] edits decisions = []
-told_from schema number (line ∷ lines) edits decisions =
-    decision_parts (hint_in schema line edits) number (refusal_in line decisions)
-    ++ told_from schema (number + 1) lines (edits_behind line edits) (behind line decisions)
+abbrev pub told_from : Schema → Tree → ℕ → List Line → List Edit → List Decision → List Part
+told_from schema now number [] edits decisions = []
+told_from schema now number (line ∷ lines) edits decisions =
+    decision_parts (hint_in schema now line edits) number (refusal_in line decisions)
+    ++ told_from schema now (number + 1) lines (edits_behind line edits) (behind line decisions)
+
+-- whether any of them is refused
+abbrev pub any_refused : List Line → List Decision → Bool
+any_refused [] decisions = false
+any_refused (line ∷ lines) decisions = if is_some (refusal_in line decisions) then true else any_refused lines (behind line decisions)
 
 abbrev pub refused_part : RefusedLine → Part
 refused_part line = hinted (string_bytes line.hint) (refused_line line.number (refusal_of line.refusal))

@@ -10,21 +10,25 @@ ghost use Rattle.yschema_model.specs.View as schema_view;
 ghost use Rattle.yinst_path.specs.Applying.{edit_number};
 ghost use Rattle.yinst_path.specs.EditView.{edit_view};
 ghost use Rattle.yinst_tree.specs.Told as document;
-ghost use Rattle.yinst_tree.specs.View.{place_view};
+ghost use Rattle.yinst_tree.specs.View.{place_view, tree_view};
 ghost use Rattle.yspec_run.specs.Hint as spec;
 
 use std::alloc::{AllocError, Global};
 use yinst::{Edit, EditCode};
-use yinst_tree::{DocCode, Step};
+use yinst_tree::{DocCode, Step, Tree};
 use ylink_grammar::{BrokenRule, CompileCode};
+use ysay_circles::{circle_sentence, condition_sentence, place_sentence};
 use ysay_edit::{said_of_edit, said_of_line};
 use ysay_forms::{count_sentence, form_sentence};
 use ysay_names::{key_sentence, name_sentence, prefix_sentence};
+use ysay_nodes::{config_sentence, needed_sentence, twice_sentence};
 use ysay_pattern::pattern_sentence;
 use ysay_refusal::said_of_refusal;
 use ysay_refusals::said_of_others;
 use ysay_repeated::said_of_repeated;
-use ysay_targets::target_sentence;
+use ysay_sets::{import_sentence, taken_sentence};
+use ysay_slips::slip_sentence;
+use ysay_targets::{leafref_sentence, target_sentence};
 use ysay_text::{line_sentence, shown, shown_line};
 use ysay_types::{default_sentence, restriction_sentence};
 use yschema_model::Schema;
@@ -71,13 +75,15 @@ fn object_hint(bytes: &[u8]) -> &'static str
     }
 }
 
-/// What is said of a module's text that is refused in a line: that line, and whether it is a document's.
-pub fn slip_hint(alloc: Global, line: u32, bytes: &[u8]) -> Result<String, AllocError>
-    ensures { IfOk result (λ hint. string_bytes hint ≡ spec.slip_hint line bytes.now) }
+/// What is said of a module's text that is refused with this number in a line: that line, what can't be there, and whether it is a
+/// document's.
+pub fn slip_hint(alloc: Global, code: u8, line: u32, bytes: &[u8]) -> Result<String, AllocError>
+    ensures { IfOk result (λ hint. string_bytes hint ≡ spec.slip_hint code line bytes.now) }
 {
-    let mut hint = line_hint(alloc, line, bytes)?;
-    hint.push_str(object_hint(bytes))?;
-    Ok(hint)
+    let shown = line_hint(alloc, line, bytes)?;
+    let said = slip_sentence(alloc, code, bytes)?;
+    let told = as_line(alloc, "  ", said.as_str())?;
+    [shown.as_str(), told.as_str(), object_hint(bytes)].concat(alloc)
 }
 
 /// What is said of the statements of a line of a module of a set, by the code that is told of it.
@@ -95,13 +101,22 @@ fn said_of_statements(
         1 => line_sentence(alloc, line, of),
         2 => count_sentence(alloc, line, of),
         3 => form_sentence(alloc, line, of),
+        5 => import_sentence(alloc, line, modules, of),
         6 => prefix_sentence(alloc, line, of),
+        7 => taken_sentence(alloc, line, modules, of),
         8 => name_sentence(alloc, line, modules, of),
+        9 => circle_sentence(alloc, line, modules, of),
         10 => restriction_sentence(alloc, line, modules, of),
         11 => default_sentence(alloc, line, modules, of),
         12 => key_sentence(alloc, line, of),
+        13 => twice_sentence(alloc, line, of),
         14 => target_sentence(alloc, line, modules, of),
+        15 => needed_sentence(alloc, line, of),
+        16 => config_sentence(alloc, line, of),
+        17 => leafref_sentence(alloc, line, modules, of),
         20 => pattern_sentence(alloc, line, of),
+        22 => condition_sentence(alloc, line, modules, of),
+        24 => place_sentence(alloc, line, of),
         _ => Ok(String::new(alloc)),
     }
 }
@@ -173,17 +188,18 @@ pub fn repeated_hint(alloc: Global, schema: &Schema, place: &[Step]) -> Result<S
     as_line(alloc, "  ", said.as_str())
 }
 
-/// What is said of an edit that is refused.
+/// What is said of an edit that is refused, by what is stored now.
 fn edit_hint(
     alloc: Global,
     schema: &Schema,
+    now: &Tree,
     edit: &Edit,
     code: EditCode,
 ) -> Result<String, AllocError>
-    ensures { IfOk result (λ hint. string_bytes hint ≡ spec.edit_hint
-        (schema_view.view schema.now) (edit_view edit.now) (edit_number code)) }
+    ensures { IfOk result (λ hint. string_bytes hint ≡ spec.edit_hint (schema_view.view schema.now)
+        (tree_view now.now) (edit_view edit.now) (edit_number code)) }
 {
-    let said = said_of_edit(alloc, schema, edit, code)?;
+    let said = said_of_edit(alloc, schema, now, edit, code)?;
     as_line(alloc, "  ", said.as_str())
 }
 
@@ -204,17 +220,18 @@ fn spelling_hint(alloc: Global, line: &[u8], code: EditCode) -> Result<String, A
 fn asked_hint(
     alloc: Global,
     schema: &Schema,
+    now: &Tree,
     line: &[u8],
     edit: Option<&Edit>,
     code: EditCode,
 ) -> Result<String, AllocError>
     ensures { IfOk result (λ hint. string_bytes hint ≡ option_map_or
-        (λ e. spec.edit_hint (schema_view.view schema.now) e (edit_number code))
+        (λ e. spec.edit_hint (schema_view.view schema.now) (tree_view now.now) e (edit_number code))
         (option_map (λ e. edit_view e.now) edit.entry)
         (spec.spelling_hint line.now (edit_number code))) }
 {
     match edit {
-        Some(edit) => edit_hint(alloc, schema, edit, code),
+        Some(edit) => edit_hint(alloc, schema, now, edit, code),
         None => spelling_hint(alloc, line, code),
     }
 }
@@ -228,20 +245,22 @@ fn bar_hint(alloc: Global, line: &[u8]) -> Result<String, AllocError>
     as_line(alloc, "  | ", shown.as_str())
 }
 
-/// What is said of a refused line of a script: itself, and what is said by the edit that it asks for, if it asks for one.
+/// What is said of a refused line of a script: itself, and what is said by the edit that it asks for, if it asks for one, and by
+/// what is stored now.
 pub fn script_hint(
     alloc: Global,
     schema: &Schema,
+    now: &Tree,
     line: &[u8],
     edit: Option<&Edit>,
     code: EditCode,
 ) -> Result<String, AllocError>
     ensures { IfOk result (λ hint. string_bytes hint ≡ spec.script_hint
-        (schema_view.view schema.now) line.now (option_map (λ e. edit_view e.now) edit.entry)
-        (edit_number code)) }
+        (schema_view.view schema.now) (tree_view now.now) line.now
+        (option_map (λ e. edit_view e.now) edit.entry) (edit_number code)) }
 {
     let mut hint = bar_hint(alloc, line)?;
-    let said = asked_hint(alloc, schema, line, edit, code)?;
+    let said = asked_hint(alloc, schema, now, line, edit, code)?;
     hint.push_str(said.as_str())?;
     Ok(hint)
 }

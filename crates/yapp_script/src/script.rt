@@ -9,14 +9,15 @@ ghost use Rattle.yspec.specs.text.Text.{line_feed};
 ghost use Rattle.yinst_path.specs.Applying.{told_by};
 ghost use Rattle.yinst_path.specs.EditView.{edit_view};
 ghost use Rattle.ylive.specs.View.{edits_view, outcomes_view};
+ghost use Rattle.yinst_tree.specs.View.{tree_view};
 ghost use Rattle.yschema_model.specs.View as schema_view;
 ghost use Rattle.yapp_script.specs.Asked as asked;
 ghost use Rattle.yapp_script.specs.Asked.{behind, decision_parts, hint_in, line_view, refusal_in, refusal_of, refused_parts};
 
 use crate::hint::script_hint;
 use std::alloc::{AllocError, Global};
-use yinst::{DocCode, Edit, EditCode, EditFault};
-use ylive::Outcome;
+use yinst::{DocCode, Edit, EditCode, EditFault, Tree};
+use ylive::{Live, Outcome};
 use ysay_repeated::has_repeated;
 use yschema_model::Schema;
 
@@ -99,6 +100,8 @@ impl<'s> Script<'s> {
     ghost use Rattle.yspec_run.specs.Script.{asked_in, lines_of, unless_twice, without_return};
     ghost use Rattle.yinst_path.specs.EditView.{edit_view};
     ghost use Rattle.ylive.specs.View.{edits_view, outcomes_view};
+    ghost use Rattle.ylive.specs.View as live_view;
+    ghost use Rattle.yinst_tree.specs.View.{tree_view};
     ghost use Rattle.yschema_model.specs.View as schema_view;
     ghost use Rattle.yapp_script.specs.Asked.{IsScript, edit_of, edits_in, kinds_in, line_of, line_view, refused_parts, told_from};
 
@@ -190,15 +193,30 @@ impl<'s> Script<'s> {
         &self.edits
     }
 
-    /// Its refused lines under a schema, by what came of each edit.
-    pub fn refused(
+    /// Its refused lines, by what came of each edit in a document that stands behind the last of them.
+    pub fn refused(&self, live: &Live, outcomes: &[Outcome]) -> Result<Vec<RefusedLine>, AllocError>
+        ensures { let l = live_view.view live.now in IfOk result (λ lines. refused_parts lines.items
+            ≡ told_from l.schema l.tree 1 (kinds_in self.now) (edits_in self.now)
+            (outcomes_view outcomes.now)) }
+    {
+        if is_any_refused(&self.lines, outcomes) {
+            let now = live.tree()?;
+            self.refused_by(live.schema(), &now, outcomes)
+        } else {
+            Ok(Vec::new(self.alloc))
+        }
+    }
+
+    /// The same under a schema, by what is stored now.
+    fn refused_by(
         &self,
         schema: &Schema,
+        now: &Tree,
         outcomes: &[Outcome],
     ) -> Result<Vec<RefusedLine>, AllocError>
         ensures { IfOk result (λ lines. refused_parts lines.items
-            ≡ told_from (schema_view.view schema.now) 1 (kinds_in self.now) (edits_in self.now)
-            (outcomes_view outcomes.now)) }
+            ≡ told_from (schema_view.view schema.now) (tree_view now.now) 1 (kinds_in self.now)
+            (edits_in self.now) (outcomes_view outcomes.now)) }
     {
         let mut refused = Vec::new(self.alloc);
         let mut edits = self.edits.as_slice();
@@ -210,6 +228,7 @@ impl<'s> Script<'s> {
             add_refused(
                 self.alloc,
                 schema,
+                now,
                 &mut refused,
                 number,
                 *line,
@@ -223,10 +242,25 @@ impl<'s> Script<'s> {
     }
 }
 
-/// Adds a line, where it is refused, with what is said of it by the edits from it on.
+/// Whether any line is refused, by what came of each edit.
+fn is_any_refused(lines: &[Asked<'_>], outcomes: &[Outcome]) -> bool
+    ensures { result ≡ asked.any_refused (map line_view lines.now) (outcomes_view outcomes.now) }
+{
+    let mut rest = outcomes;
+    for line in lines {
+        match refusal_of(*line, rest) {
+            Some(_) => return true,
+            None => rest = outcomes_behind(*line, rest),
+        }
+    }
+    false
+}
+
+/// Adds a line, where it is refused, with what is said of it by the edits from it on and by what is stored now.
 fn add_refused(
     alloc: Global,
     schema: &Schema,
+    now: &Tree,
     lines: &mut Vec<RefusedLine>,
     number: usize,
     line: Asked<'_>,
@@ -234,11 +268,11 @@ fn add_refused(
     refusal: Option<Refusal>,
 ) -> Result<(), AllocError>
     ensures { OnOk result (refused_parts lines.new.items ≡ refused_parts lines.old.items
-        ++ decision_parts (hint_in (schema_view.view schema.now) (line_view line.entry) (edits_view edits.now))
-        number (option_map refusal_of refusal)) }
+        ++ decision_parts (hint_in (schema_view.view schema.now) (tree_view now.now)
+        (line_view line.entry) (edits_view edits.now)) number (option_map refusal_of refusal)) }
 {
     if let Some(refusal) = refusal {
-        let hint = hint_of(alloc, schema, line, edits, refusal)?;
+        let hint = hint_of(alloc, schema, now, line, edits, refusal)?;
         lines.push(RefusedLine {
             number,
             refusal,
@@ -248,23 +282,26 @@ fn add_refused(
     Ok(())
 }
 
-/// What is said of a refused line, by the edits from it on.
+/// What is said of a refused line, by the edits from it on and by what is stored now.
 fn hint_of(
     alloc: Global,
     schema: &Schema,
+    now: &Tree,
     line: Asked<'_>,
     edits: &[Edit],
     refusal: Refusal,
 ) -> Result<String, AllocError>
     ensures { IfOk result (λ hint. string_bytes hint
-        ≡ hint_in (schema_view.view schema.now) (line_view line.entry) (edits_view edits.now)
-        (refusal_of refusal)) }
+        ≡ hint_in (schema_view.view schema.now) (tree_view now.now) (line_view line.entry)
+        (edits_view edits.now) (refusal_of refusal)) }
 {
     match (line, edits.first()) {
         (Asked::Edit(text), Some(edit)) => {
-            script_hint(alloc, schema, text, Some(edit), refusal.code)
+            script_hint(alloc, schema, now, text, Some(edit), refusal.code)
         }
-        (Asked::Refused(text, _), _) => script_hint(alloc, schema, text, None, refusal.code),
+        (Asked::Refused(text, _), _) => {
+            script_hint(alloc, schema, now, text, None, refusal.code)
+        }
         _ => Ok(String::new(alloc)),
     }
 }

@@ -101,7 +101,7 @@ pub asked_some : (o : Option (Text × List Row)) (name : Text) (rows : List Row)
 asked_some None name rows e f = cc
 asked_some (Some p) name rows e f = ap₂ (λ (n : Option Text) (r : Option (List Row)). asked_of (unwrap_or n name) (unwrap_or r rows)) e f
 
-pub asked_none : (o : Option (Text × List Row)) → None ≡ option_map (λ p. p.1) o → report (compile core []) ≡ asked_by o
+pub asked_none : (o : Option (Text × List Row)) → None ≡ option_map (λ p. p.1) o → report false (compile core []) ≡ asked_by o
 asked_none None e = refl
 asked_none (Some p) e = cc
 

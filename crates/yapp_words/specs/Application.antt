@@ -45,24 +45,27 @@ abbrev pub over_files : Text → App
 over_files name = with_rule (with_rule (with_rule (with_rule (with_rule (new_app name) (flag (codes "explain"))) (option (codes "profile")))
     (repeated (codes "features"))) (option (codes "unjudged"))) (repeated_letter (codes "folders") letter_p)
 
--- `compile [--explain] [--profile PROFILE] [--features MODULE:FEATURES].. [--unjudged CONDITIONS] [-p DIR].. MODULE..`
+-- a command that tells something once, of which each takes `--format`
+abbrev pub told_once : Text → App
+told_once name = with_rule (over_files name) (option (codes "format"))
+
+-- `compile [--explain] [--profile PROFILE] [--features MODULE:FEATURES].. [--unjudged CONDITIONS] [-p DIR].. [--format FORMAT] MODULE..`
 abbrev pub compile_app : App
-compile_app = with_rule (over_files (codes "compile")) (wanted_all (codes "MODULE"))
+compile_app = with_rule (told_once (codes "compile")) (wanted_all (codes "MODULE"))
 
 -- `tree ..` with these, `[--all] NAME [MODULE..]`
 abbrev pub tree_app : App
-tree_app = with_rule (with_rule (with_rule (over_files (codes "tree")) (flag (codes "all"))) (wanted (codes "NAME"))) (any_number (codes "MODULE"))
+tree_app = with_rule (with_rule (with_rule (told_once (codes "tree")) (flag (codes "all"))) (wanted (codes "NAME"))) (any_number (codes "MODULE"))
 
--- a command over a document, of which each takes `--strict`, `--config` and `--format`
+-- a command over a document, of which each takes `--strict` and `--config`
 abbrev pub over_document : Text → App
-over_document name =
-    with_rule (with_rule (with_rule (over_files name) (flag (codes "strict"))) (flag (codes "config"))) (option (codes "format"))
+over_document name = with_rule (with_rule (told_once name) (flag (codes "strict"))) (flag (codes "config"))
 
--- `validate ..` with these, `[--strict] [--config] [--format FORMAT] DATA MODULE..`
+-- `validate ..` with these, `[--strict] [--config] DATA MODULE..`
 abbrev pub validate_app : App
 validate_app = with_rule (with_rule (over_document (codes "validate")) (wanted (codes "DATA"))) (wanted_all (codes "MODULE"))
 
--- `edit ..` with these, `[--strict] [--config] [--format FORMAT] [--dump] [--output FILE] DATA SCRIPT MODULE..`
+-- `edit ..` with these, `[--strict] [--config] [--dump] [--output FILE] DATA SCRIPT MODULE..`
 abbrev pub edit_app : App
 edit_app = with_rule (with_rule (with_rule (with_rule (with_rule (over_document (codes "edit")) (flag (codes "dump")))
     (option (codes "output"))) (wanted (codes "DATA"))) (wanted (codes "SCRIPT"))) (wanted_all (codes "MODULE"))

@@ -58,12 +58,21 @@ folders_of rows = unwrap_or (all_of (codes "folders") rows) []
 abbrev pub is_given : Text → List Row → Bool
 is_given name rows = bytes_eq (value_of name rows) (codes "true")
 
--- how faults are to be told: as lines, or as JSON
+-- how what is told is to be told
 abbrev pub format_of : List Row → Text
 format_of rows = unwrap_or (first_of (codes "format") rows) (codes "text")
 
-abbrev pub is_format : Text → Bool
-is_format name = bytes_eq name (codes "text") || bytes_eq name (codes "json")
+-- whether a command tells of a document
+abbrev pub is_over_document : Text → Bool
+is_over_document command = bytes_eq command (codes "validate") || bytes_eq command (codes "edit")
+
+-- whether a command tells so: as lines, as lines to which an editor jumps, or of a document as JSON
+abbrev pub is_format : Text → Text → Bool
+is_format command name = bytes_eq name (codes "text")
+    || (bytes_eq name (codes "lines") || (is_over_document command && bytes_eq name (codes "json")))
+
+abbrev pub is_by_lines : List Row → Bool
+is_by_lines rows = bytes_eq (format_of rows) (codes "lines")
 
 -- how many edits of a session can be taken back: 1000 unless it is said
 abbrev pub most_remembered : ℕ
@@ -80,7 +89,7 @@ remembers_of rows = remembered_by (first_of (codes "undo") rows)
 -- a format that isn't known, where a command's arguments name one
 abbrev pub unknown_format : Option (Text × List Row) → Option Text
 unknown_format None = None
-unknown_format (Some command) = let name = format_of command.1 in if is_format name then None else Some name
+unknown_format (Some command) = let name = format_of command.1 in if is_format command.0 name then None else Some name
 
 -- a profile that isn't known, where they name one
 abbrev pub unknown_profile : Option (Text × List Row) → Option Text
@@ -242,11 +251,12 @@ reported_of name rows = if bytes_eq name (codes "explain") then explanation_of r
 
 -- what the command of a name asks for
 abbrev pub asked_of : Text → List Row → Asked
-asked_of name rows = if bytes_eq name (codes "session") then session (opening_of rows) else report (reported_of name rows)
+asked_of name rows = if bytes_eq name (codes "session") then session (opening_of rows)
+    else report (is_by_lines rows) (reported_of name rows)
 
 -- what a subcommand and its arguments ask for; taken words name one
 abbrev pub asked_by : Option (Text × List Row) → Asked
-asked_by None = report (compile core [])
+asked_by None = report false (compile core [])
 asked_by (Some command) = asked_of command.0 command.1
 
 -- what taken words ask for
@@ -301,7 +311,7 @@ opening_view o = record {
 }
 
 abbrev pub asked_view : rust.Asked → Asked
-asked_view (asks.Report request) = report (view request)
+asked_view (asks.Report request by_lines) = report by_lines (view request)
 asked_view (asks.Session opening) = session (opening_view opening)
 
 -- ---- what comes in place of a request

@@ -2,7 +2,7 @@
 
 ghost use Rattle.std.specs.Prelude.{◌≡◌, codes, IfOk};
 ghost use Rattle.clap.specs.Words.{app_of};
-ghost use Rattle.yapp_words.specs.Application.{IsArgument, IsCommand, any_number, compile_app, edit_app, explain_app, flag, letter_p, option, over_document, over_files, repeated, repeated_letter, session_app, tree_app, validate_app, wanted, wanted_all, yanglive};
+ghost use Rattle.yapp_words.specs.Application.{IsArgument, IsCommand, any_number, compile_app, edit_app, explain_app, flag, letter_p, option, over_document, over_files, repeated, repeated_letter, session_app, told_once, tree_app, validate_app, wanted, wanted_all, yanglive};
 
 use crate::help::{
     COMPILE_HELP, DOCUMENT_HELP, EDIT_HELP, EXPLAIN_HELP, SESSION_HELP, TREE_HELP, VALIDATE_HELP,
@@ -130,7 +130,21 @@ fn format_argument<'a>(alloc: Global) -> Arg<'a>
         .long("format")
         .action(ArgAction::Set)
         .value_name("FORMAT")
-        .help("How faults are printed: text, or json for an object a line")
+        .help(
+            "How faults and refusals are printed: text, lines for FILE:LINE:COLUMN: error: .., to which editors jump, or of a document json for an object a line",
+        )
+}
+
+/// A command that tells something once, with its texts for help.
+fn command_told_once<'a>(
+    alloc: Global,
+    name: &'a str,
+    about: &'a str,
+    help: &'a str,
+) -> Result<Command<'a>, AllocError>
+    ensures { IfOk result (IsCommand (told_once name.entry.now)) }
+{
+    command_over_files(alloc, name, about, help)?.arg(format_argument(alloc))
 }
 
 /// A command over a document, with its texts for help.
@@ -142,10 +156,9 @@ fn command_over_document<'a>(
 ) -> Result<Command<'a>, AllocError>
     ensures { IfOk result (IsCommand (over_document name.entry.now)) }
 {
-    command_over_files(alloc, name, about, help)?
+    command_told_once(alloc, name, about, help)?
         .arg(strict_argument(alloc))?
-        .arg(config_argument(alloc))?
-        .arg(format_argument(alloc))
+        .arg(config_argument(alloc))
 }
 
 /// The document, with what help says of it.
@@ -155,11 +168,11 @@ fn document_argument<'a>(alloc: Global, help: &'a str) -> Arg<'a>
     Arg::new(alloc, "DATA").help(help).required(true)
 }
 
-/// `compile [--explain] [--profile PROFILE] [--features MODULE:FEATURES].. [--unjudged CONDITIONS] [-p DIR].. MODULE..`
+/// `compile [--explain] [--profile PROFILE] [--features MODULE:FEATURES].. [--unjudged CONDITIONS] [-p DIR].. [--format FORMAT] MODULE..`
 fn compile_command<'a>(alloc: Global) -> Result<Command<'a>, AllocError>
     ensures { IfOk result (IsCommand compile_app) }
 {
-    command_over_files(
+    command_told_once(
         alloc,
         "compile",
         "Counts the schema nodes of modules",
@@ -200,7 +213,7 @@ fn other_modules_argument<'a>(alloc: Global) -> Arg<'a>
 fn tree_command<'a>(alloc: Global) -> Result<Command<'a>, AllocError>
     ensures { IfOk result (IsCommand tree_app) }
 {
-    command_over_files(
+    command_told_once(
         alloc,
         "tree",
         "Prints the tree diagram of a module",
@@ -211,7 +224,7 @@ fn tree_command<'a>(alloc: Global) -> Result<Command<'a>, AllocError>
     .arg(other_modules_argument(alloc))
 }
 
-/// `validate ..` with these, `[--strict] [--config] [--format FORMAT] DATA MODULE..`
+/// `validate ..` with these, `[--strict] [--config] DATA MODULE..`
 fn validate_command<'a>(alloc: Global) -> Result<Command<'a>, AllocError>
     ensures { IfOk result (IsCommand validate_app) }
 {
@@ -255,7 +268,7 @@ fn output_argument<'a>(alloc: Global) -> Arg<'a>
         .help("Writes the edited document to FILE, once all else is printed")
 }
 
-/// `edit ..` with these, `[--strict] [--config] [--format FORMAT] [--dump] [--output FILE] DATA SCRIPT MODULE..`
+/// `edit ..` with these, `[--strict] [--config] [--dump] [--output FILE] DATA SCRIPT MODULE..`
 fn edit_command<'a>(alloc: Global) -> Result<Command<'a>, AllocError>
     ensures { IfOk result (IsCommand edit_app) }
 {

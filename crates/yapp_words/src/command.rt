@@ -36,8 +36,8 @@ pub struct CommandLine<'a> {
 /// What a command asks for.
 #[derive(Debug, Drop)]
 pub enum Asked<'a> {
-    /// Something that is told once.
-    Report(Request<'a>),
+    /// Something that is told once, by lines to which an editor jumps or not.
+    Report(Request<'a>, bool),
     /// A session.
     Session(Opening<'a>),
 }
@@ -157,7 +157,14 @@ fn has_flag(found: &ArgMatches<'_>, name: &str) -> bool
     found.get_str(name).unwrap_or("") == "true"
 }
 
-/// How faults are to be told.
+/// Whether lines are wanted to which an editor jumps.
+fn is_by_lines(found: &ArgMatches<'_>) -> bool
+    ensures { result ≡ spec.is_by_lines (rows_of (found_of found.now)) }
+{
+    format_in(found) == "lines"
+}
+
+/// How what is told is to be told.
 fn format_in<'a>(found: &ArgMatches<'a>) -> &'a str
     ensures { result.now ≡ format_of (rows_of (found_of found.now)) }
 {
@@ -321,7 +328,8 @@ fn asked_in<'a>(alloc: Global, name: &str, found: &ArgMatches<'a>) -> Result<Ask
     if name == "session" {
         Ok(Asked::Session(opening_in(alloc, found)?))
     } else {
-        Ok(Asked::Report(request_in(alloc, name, found)?))
+        let request = request_in(alloc, name, found)?;
+        Ok(Asked::Report(request, is_by_lines(found)))
     }
 }
 
@@ -358,10 +366,13 @@ fn line_in<'a>(alloc: Global, matches: &ArgMatches<'a>) -> Result<CommandLine<'a
             folders: folders_in(alloc, found)?,
         }),
         None => Ok(CommandLine {
-            asked: Asked::Report(Request::Compile {
-                language: Language::Core,
-                modules: Vec::new(alloc),
-            }),
+            asked: Asked::Report(
+                Request::Compile {
+                    language: Language::Core,
+                    modules: Vec::new(alloc),
+                },
+                false,
+            ),
             with_reasons: false,
             folders: Vec::new(alloc),
         }),
@@ -373,9 +384,9 @@ fn unknown_format<'a>(matches: &ArgMatches<'a>) -> Option<&'a str>
     ensures { option_map (λ name. name.now) result ≡ spec.unknown_format (subcommand_rows_of matches.now) }
 {
     match matches.subcommand() {
-        Some((_, found)) => {
+        Some((name, found)) => {
             let format = format_in(found);
-            if is_format(format) {
+            if is_format(name, format) {
                 None
             } else {
                 Some(format)
@@ -385,11 +396,18 @@ fn unknown_format<'a>(matches: &ArgMatches<'a>) -> Option<&'a str>
     }
 }
 
-/// Whether faults can be told so.
-fn is_format(name: &str) -> bool
-    ensures { result ≡ spec.is_format name.now }
+/// Whether a command tells of a document.
+fn is_over_document(command: &str) -> bool
+    ensures { result ≡ spec.is_over_document command.now }
 {
-    name == "text" || name == "json"
+    command == "validate" || command == "edit"
+}
+
+/// Whether a command can tell so.
+fn is_format(command: &str, name: &str) -> bool
+    ensures { result ≡ spec.is_format command.now name.now }
+{
+    name == "text" || (name == "lines" || (is_over_document(command) && name == "json"))
 }
 
 /// A profile that isn't known.
@@ -531,7 +549,7 @@ fn format_refusal(alloc: Global, format: &str) -> NoRequest
     ensures { IsRefusal result }
 {
     refusal(format!(in alloc;
-        "error: invalid value '{format}' for '--format <FORMAT>'\n  [possible values: text, json]\n\nFor more information, try '--help'.\n"
+        "error: invalid value '{format}' for '--format <FORMAT>'\n  [possible values: text, lines, and of a document json]\n\nFor more information, try '--help'.\n"
     ))
 }
 

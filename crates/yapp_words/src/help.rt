@@ -9,7 +9,7 @@ pub(crate) const DOCUMENT_HELP: &str = "The file of the document, in JSON; - for
 /// What `compile` says at the end of its help.
 pub(crate) const COMPILE_HELP: &str =
     "Prints how many schema nodes the modules define, as `3 nodes`.
-A refused module is told as FILE:LINE: CODE, L1 to L8 of its text, C1 to C18, C20, C22 and C24 of its statements; `yanglive explain CODE` says what it means.
+A refused module is told as FILE:LINE: CODE, L1 to L8 of its text, C1 to C18, C20, C22 and C24 of its statements; `yanglive explain CODE` says what it means. With --format lines it is told as FILE:LINE:COLUMN: error: CODE, to which editors jump.
 With --profile rfc modules of YANG 1 are taken too, and what rests on a feature that is off isn't there. --features net:ssh,ntp has these two of module net on, --features net: none; of a module that is named twice the first counts. --unjudged must,when reads these conditions and judges none: what hangs on a `when` may be there, and needn't.
 
 Exit status:
@@ -34,7 +34,7 @@ Example: yanglive tree net net.yang";
 
 /// What `validate` says at the end of its help.
 pub(crate) const VALIDATE_HELP: &str =
-    "Prints a line for each fault, and then how many there are, as `0 faults`. The line has the code (V1 to V11, with --config V12), error-tag, error-app-tag, path, and the choice (V4, V5) or the number of the unique (V9), or - for none; [N] in a path is the position of an entry or item, from 1. With --format json a fault is an object on a line of its own, in the words of RESTCONF (RFC 8040, 7.1), and so are their number and what is refused, which stays a line on the error side too.
+    "Prints a line for each fault, and then how many there are, as `0 faults`. The line has the code (V1 to V11, with --config V12), error-tag, error-app-tag, path, and the choice (V4, V5) or the number of the unique (V9), or - for none; [N] in a path is the position of an entry or item, from 1. With --format json a fault is an object on a line of its own, in the words of RESTCONF (RFC 8040, 7.1), and so are their number and what is refused, which stays a line on the error side too. With --format lines each fault and refusal is a line to which editors jump, as FILE:LINE:COLUMN: error: CODE .., and a fault's has what is said of it.
 With --config the nodes of state (config false) are left out: none is wanted, and what is stored of one is told as V12, once for each schema node and row.
 A refused module is told as FILE:LINE: CODE (L1 to L8, C1 to C18, C20, C22, C24), a refused document as FILE: CODE PATH (J1 to J7, with --strict J8); `yanglive explain CODE` says what it means.
 

@@ -1,3 +1,4 @@
+pub mod ChoiceLemmas
 pub mod PartLemmas
 pub mod SpellingLemmas
 pub mod SpellingLaws

@@ -26,9 +26,13 @@ verb_said : (verb : Text) (near : Option Text) → IsSaid (spec.other_verb verb 
 verb_said verb None = tt
 verb_said verb (Some near) = tt
 
+word_said : (word : Text) (verb : Option Text) → IsSaid (option_map_or spec.tab_told verb (spec.other_verb word (nearest word spec.verbs)))
+word_said word (Some verb) = tt
+word_said word None = verb_said word (nearest word spec.verbs)
+
 no_verb_said : (verb : Text) → IsSaid (spec.of_verb verb)
 no_verb_said [] = tt
-no_verb_said (x ∷ verb) = verb_said (x ∷ verb) (nearest (x ∷ verb) spec.verbs)
+no_verb_said (x ∷ verb) = word_said (x ∷ verb) (spec.verb_before_tab (x ∷ verb))
 
 -- ---- the value
 

@@ -1,17 +1,18 @@
 -- What is said of the value of an edit that is no JSON (E9), or doesn't fit the node that it is for (E10), as of a document
--- that is refused.
+-- that is refused; and all that is said of an edit.
 use Rattle.std.specs.Prelude.{ℕ, ◌==◌, ◌&&◌, ◌||◌, ◌++◌, Bool, true, false, not, List, [], ◌∷◌, codes, Option, Some, None, option_and_then, if◌then◌else◌}
 use Rattle.std.specs.Option.{option_map_or}
 use Rattle.serde_json.specs.Data.{Data, array}
 use Rattle.yspec.specs.text.Text.{Text, begins, double_quote}
 use Rattle.yspec.specs.schema.Schema.{Schema, Kind, child_written, children_of, has_value, is_many, module_at, node_at}
-use Rattle.yspec.specs.document.Document.{Step, step_at}
+use Rattle.yspec.specs.document.Document.{Step, Tree, step_at}
 use Rattle.yspec.specs.document.Reading.{Refusal, first_wrong, instance_visits, json_of}
 use Rattle.yspec.specs.edit.EditText.{Edit, Path, create, replace, remove, move_to}
 use Rattle.ysay_text.specs.Line.{shown}
 use Rattle.ysay_refusal.specs.Place.{last_step, value_from}
 use Rattle.ysay_edit.specs.Predicate.{said_of_predicates}
 use Rattle.ysay_refusal.specs.Sentence.{said_at}
+use Rattle.ysay_edit.specs.Now.{path_in, said_now}
 use Rattle.ysay_edit.specs.Step.{said_of_path}
 
 -- ---- values
@@ -90,12 +91,6 @@ said_of_no_json (replace path text) = of_no_json text
 said_of_no_json (remove path) = []
 said_of_no_json (move_to path position) = []
 
-abbrev pub path_in : Edit → Path
-path_in (create path text) = path
-path_in (replace path text) = path
-path_in (remove path) = path
-path_in (move_to path position) = path
-
 -- whether the last step names a list or a leaf-list
 abbrev pub ends_in_many : Schema → Path → Bool
 ends_in_many schema path = option_map_or (is_many_at schema) (number_below schema None path) false
@@ -111,9 +106,14 @@ abbrev pub said_of_misplaced : Schema → Edit → Text
 said_of_misplaced schema e = if moves_other schema e then codes "only an entry of a list or leaf-list is moved."
     else said_of_predicates schema e
 
--- of an edit that is refused with this number
-abbrev pub said_of_edit : Schema → Edit → ℕ → Text
-said_of_edit schema e code = if code == 2 then said_of_path schema (path_in e)
+-- whether an edit is refused by what is stored, or isn't
+abbrev pub is_of_stored : ℕ → Bool
+is_of_stored code = code == 4 || (code == 5 || (code == 6 || (code == 7 || code == 8)))
+
+-- of an edit that is refused with this number, and what is stored now
+abbrev pub said_of_edit : Schema → Tree → Edit → ℕ → Text
+said_of_edit schema now e code = if code == 2 then said_of_path schema (path_in e)
     else (if code == 3 then said_of_misplaced schema e
     else (if code == 9 then said_of_no_json e
-    else (if code == 10 then said_of_part schema e else [])))
+    else (if code == 10 then said_of_part schema e
+    else (if is_of_stored code then said_now schema now e else []))))

@@ -6,15 +6,22 @@ use Rattle.yspec.specs.schema.Schema.{Schema, child_written}
 use Rattle.yspec.specs.edit.EditText.{Path}
 use Rattle.ysay_refusal.specs.Member.{due_name, near_name}
 use Rattle.ysay_refusal.specs.Sentence.{other_member, unknown_member}
+use Rattle.ysay_edit.specs.Choice.{passed_at, passed_through}
 
--- by the name that is due in its place, or else the nearest
-abbrev pub strange_name : Text → Option Text → Option Text → Text
-strange_name name (Some due) near = other_member name (Some due)
-strange_name name None near = unknown_member name near
+-- by what a choice or case of the name is called, or else the nearest name
+abbrev pub no_node : Text → Option Text → Option Text → Text
+no_node name (Some called) near = passed_through name called
+no_node name None near = unknown_member name near
+
+-- by the name that is due in its place, or else by those
+abbrev pub strange_name : Text → Option Text → Option Text → Option Text → Text
+strange_name name (Some due) called near = other_member name (Some due)
+strange_name name None called near = no_node name called near
 
 -- of a name that is no child's of a node, or of the top
 abbrev pub of_name : Schema → Option ℕ → Text → Text
-of_name schema parent name = strange_name name (due_name schema parent name) (near_name schema parent name)
+of_name schema parent name =
+    strange_name name (due_name schema parent name) (passed_at schema parent name) (near_name schema parent name)
 
 -- of the first step, from a node or the top on, that leads to no child
 abbrev pub of_steps : Schema → Option ℕ → Path → Text

@@ -9,16 +9,17 @@ ghost use Rattle.yschema_model.specs.View.{view};
 ghost use Rattle.yinst_path.specs.Applying.{edit_number};
 ghost use Rattle.yinst_path.specs.EditView.{edit_view, path_view, steps_view};
 ghost use Rattle.yinst_tree.specs.Told.{code_number};
-ghost use Rattle.yinst_tree.specs.View.{place_view, step_view};
+ghost use Rattle.yinst_tree.specs.View.{place_view, step_view, tree_view};
 ghost use Rattle.ysay_edit.specs.Part as spec;
 
+use crate::now::{path_in, said_now};
 use crate::predicate::said_of_predicates;
 use crate::spelling::begins;
 use crate::step::said_of_path;
 use serde_json::Value;
 use std::alloc::{AllocError, Global};
 use yinst_path::{Edit, EditCode, NamedStep, Path};
-use yinst_tree::{DocCode, DocFault, Step, check_node};
+use yinst_tree::{DocCode, DocFault, Step, Tree, check_node};
 use ysay_refusal::{last_step, module_of, said_at, value_from};
 use ysay_text::shown;
 use yschema_model::{Kind, Schema, SchemaId};
@@ -226,17 +227,6 @@ fn said_of_no_json(alloc: Global, edit: &Edit) -> Result<String, AllocError>
     }
 }
 
-fn path_in(edit: &Edit) -> &Path
-    ensures { path_view result.now ≡ spec.path_in (edit_view edit.entry.now) }
-{
-    match edit {
-        Edit::Create { path, .. } => path,
-        Edit::Replace { path, .. } => path,
-        Edit::Remove { path } => path,
-        Edit::Move { path, .. } => path,
-    }
-}
-
 /// Whether the last step names a list or a leaf-list.
 fn ends_in_many(schema: &Schema, path: &Path) -> bool
     ensures { result ≡ spec.ends_in_many (view schema.now) (path_view path.now) }
@@ -270,28 +260,27 @@ fn said_of_misplaced(alloc: Global, schema: &Schema, edit: &Edit) -> Result<Stri
 }
 
 /// What is said of an edit that is refused: of the first name of its path that isn't there, or is in the form that isn't due
-/// (E2), or behind which another predicate is due, or that what it moves is no entry and no item (E3); and of its value where that is no JSON (E9), or doesn't fit (E10), as
-/// of a document; an empty text of all else.
+/// (E2), or behind which another predicate is due, or that what it moves is no entry and no item (E3); of what stands in a
+/// document, that which it is now, where its path leads (E4 to E8); and of its value where that is no JSON (E9), or doesn't fit
+/// (E10), as of a document; an empty text of all else.
 pub fn said_of_edit(
     alloc: Global,
     schema: &Schema,
+    now: &Tree,
     edit: &Edit,
     code: EditCode,
 ) -> Result<String, AllocError>
-    ensures { IfOk result (λ said. string_bytes said
-        ≡ spec.said_of_edit (view schema.now) (edit_view edit.now) (edit_number code)) }
+    ensures { IfOk result (λ said. string_bytes said ≡ spec.said_of_edit (view schema.now)
+        (tree_view now.now) (edit_view edit.now) (edit_number code)) }
 {
     match code {
         EditCode::E2 => said_of_path(alloc, schema, path_in(edit)),
         EditCode::E3 => said_of_misplaced(alloc, schema, edit),
         EditCode::E9 => said_of_no_json(alloc, edit),
         EditCode::E10 => said_of_part(alloc, schema, edit),
-        EditCode::E1
-        | EditCode::E4
-        | EditCode::E5
-        | EditCode::E6
-        | EditCode::E7
-        | EditCode::E8
-        | EditCode::E11 => Ok(String::new(alloc)),
+        EditCode::E4 | EditCode::E5 | EditCode::E6 | EditCode::E7 | EditCode::E8 => {
+            said_now(alloc, schema, now, edit)
+        }
+        EditCode::E1 | EditCode::E11 => Ok(String::new(alloc)),
     }
 }

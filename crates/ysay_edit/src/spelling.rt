@@ -4,13 +4,14 @@ ghost use Rattle.std.specs.Prelude.{◌≡◌, codes, IfOk, None, Some, option_m
 ghost use Rattle.std.specs.List.{list_any};
 ghost use Rattle.yspec.specs.text.Text as text_spec;
 ghost use Rattle.yspec.specs.text.Text.{is_text};
+ghost use Rattle.yinst_path.specs.EditView.{sides};
 ghost use Rattle.ysay_text.specs.Near as near;
 ghost use Rattle.ysay_edit.specs.Spelling as spec;
 
 use std::alloc::{AllocError, Global};
 use yinst_path::{behind, cut, is_step, name_and_predicate, operands, position_alone};
 use ysay_text::{nearest, shown};
-use ytext::is_identifier;
+use ytext::{is_identifier, is_name, offset_of};
 
 pub(crate) fn begins(byte: u8, text: &str) -> bool
     ensures { result ≡ text_spec.begins byte text.now }
@@ -71,13 +72,42 @@ fn other_verb(alloc: Global, verb: &str, near: Option<&str>) -> Result<String, A
     }
 }
 
+/// The verb in front of the first tab of a word.
+fn verb_before_tab(word: &str) -> Option<&str>
+    ensures { option_map (λ n. n.now) result ≡ spec.verb_before_tab word.now }
+{
+    let (verb, _) = cut(word, b'\t')?;
+    if is_verb(verb) { Some(verb) } else { None }
+}
+
+fn tab_told(alloc: Global, verb: &str) -> Result<String, AllocError>
+    ensures { IfOk result (λ text. string_bytes text ≡ spec.tab_told verb.now) }
+{
+    [
+        "words are parted by blanks; a tab stands behind ",
+        verb,
+        ".",
+    ]
+    .concat(alloc)
+}
+
+/// Of a word that is no verb.
+fn of_word(alloc: Global, word: &str) -> Result<String, AllocError>
+    ensures { IfOk result (λ text. string_bytes text ≡ spec.of_word word.now) }
+{
+    match verb_before_tab(word) {
+        Some(verb) => tab_told(alloc, verb),
+        None => other_verb(alloc, word, near_verb(word)),
+    }
+}
+
 fn of_verb(alloc: Global, verb: &str) -> Result<String, AllocError>
     ensures { IfOk result (λ text. string_bytes text ≡ spec.of_verb verb.now) }
 {
     if verb.is_empty() {
         String::from_str(alloc, "a line begins with create, replace, remove or move.")
     } else {
-        other_verb(alloc, verb, near_verb(verb))
+        of_word(alloc, verb)
     }
 }
 
@@ -95,6 +125,55 @@ fn bare_key_in(predicate: &str) -> Option<&str>
     }
 }
 
+/// The own name and the text of a key, from both sides of its `=`, if its name has a module and its text a quote.
+fn module_key<'t>(name: &'t str, text: &'t str) -> Option<(&'t str, &'t str)>
+    ensures { option_map sides result ≡ spec.module_key (name.entry.now, text.entry.now) }
+{
+    if begins(b'\'', text) || begins(b'"', text) {
+        let (module, own) = cut(name, b':')?;
+        if is_identifier(module) && is_identifier(own) {
+            Some((own, text))
+        } else {
+            None
+        }
+    } else {
+        None
+    }
+}
+
+/// Those of the first key behind the name of a step.
+fn module_key_in(predicate: &str) -> Option<(&str, &str)>
+    ensures { option_map sides result ≡ spec.module_key_in predicate.now }
+{
+    let (name, text) = cut(behind(predicate, '[')?, b'=')?;
+    module_key(name, text)
+}
+
+/// What stands in front of the bracket that closes a predicate.
+fn in_brackets(text: &str) -> &str
+    ensures { result.now ≡ spec.in_brackets text.now }
+{
+    match cut(text, b']') {
+        Some((inner, _)) => inner,
+        None => text,
+    }
+}
+
+fn own_name_due(alloc: Global, own: &str, text: &str) -> Result<String, AllocError>
+    ensures { IfOk result (λ said. string_bytes said ≡ spec.own_name_due (own.now, text.now)) }
+{
+    let name = shown(alloc, own.as_bytes())?;
+    let inner = shown(alloc, in_brackets(text).as_bytes())?;
+    [
+        "in a predicate the name stands without its module: [",
+        name.as_str(),
+        "=",
+        inner.as_str(),
+        "].",
+    ]
+    .concat(alloc)
+}
+
 fn quotes_due(alloc: Global, name: &str) -> Result<String, AllocError>
     ensures { IfOk result (λ text. string_bytes text ≡ spec.quotes_due name.now) }
 {
@@ -107,13 +186,10 @@ fn quotes_due(alloc: Global, name: &str) -> Result<String, AllocError>
     .concat(alloc)
 }
 
-/// What is to be changed in what stands behind the name of a step.
-fn predicate_due(alloc: Global, predicate: &str) -> Result<String, AllocError>
-    ensures { IfOk result (λ text. string_bytes text ≡ spec.predicate_due predicate.now) }
+/// Of what stands behind the name of a step, where no key has the name of its module.
+fn key_due(alloc: Global, predicate: &str) -> Result<String, AllocError>
+    ensures { IfOk result (λ text. string_bytes text ≡ spec.key_due predicate.now) }
 {
-    if predicate == "[0]" {
-        return String::from_str(alloc, "positions count from 1.");
-    }
     match bare_key_in(predicate) {
         Some(name) => quotes_due(alloc, name),
         None => {
@@ -125,18 +201,70 @@ fn predicate_due(alloc: Global, predicate: &str) -> Result<String, AllocError>
     }
 }
 
+/// What is to be changed in what stands behind the name of a step.
+fn predicate_due(alloc: Global, predicate: &str) -> Result<String, AllocError>
+    ensures { IfOk result (λ text. string_bytes text ≡ spec.predicate_due predicate.now) }
+{
+    if predicate == "[0]" {
+        return String::from_str(alloc, "positions count from 1.");
+    }
+    match module_key_in(predicate) {
+        Some((own, text)) => own_name_due(alloc, own, text),
+        None => key_due(alloc, predicate),
+    }
+}
+
+fn has_byte(byte: u8, text: &str) -> bool
+    ensures { result ≡ spec.has_byte byte text.now }
+{
+    offset_of(text.as_bytes(), byte).is_some()
+}
+
+/// The name and the text of a step as RESTCONF spells it (RFC 8040, 3.5.3): without predicates, the text of the key behind a
+/// `=`.
+fn entry_in(part: &str) -> Option<(&str, &str)>
+    ensures { option_map sides result ≡ spec.entry_in part.now }
+{
+    let (name, text) = cut(part, b'=')?;
+    if is_name(name) && !(has_byte(b'\'', text) || has_byte(b',', text)) {
+        Some((name, text))
+    } else {
+        None
+    }
+}
+
+fn predicate_wanted(alloc: Global, name: &str, text: &str) -> Result<String, AllocError>
+    ensures { IfOk result (λ said. string_bytes said ≡ spec.predicate_wanted (name.now, text.now)) }
+{
+    let list = shown(alloc, name.as_bytes())?;
+    let key = shown(alloc, text.as_bytes())?;
+    ["write ", list.as_str(), "[KEY='", key.as_str(), "']."].concat(alloc)
+}
+
+/// What is to be changed in a part that spells no step.
+fn step_due(alloc: Global, part: &str) -> Result<String, AllocError>
+    ensures { IfOk result (λ text. string_bytes text ≡ spec.step_due part.now) }
+{
+    match entry_in(part) {
+        Some((name, text)) => predicate_wanted(alloc, name, text),
+        None => predicate_due(alloc, name_and_predicate(part).1),
+    }
+}
+
+fn no_step_told(alloc: Global, part: &str) -> Result<String, AllocError>
+    ensures { IfOk result (λ text. string_bytes text ≡ spec.no_step_told part.now) }
+{
+    let text = shown(alloc, part.as_bytes())?;
+    ["\"", text.as_str(), "\" is no step of a path: "].concat(alloc)
+}
+
 fn other_step(alloc: Global, part: &str) -> Result<String, AllocError>
     ensures { IfOk result (λ text. string_bytes text ≡ spec.other_step part.now) }
 {
-    let text = shown(alloc, part.as_bytes())?;
-    let due = predicate_due(alloc, name_and_predicate(part).1)?;
-    [
-        "\"",
-        text.as_str(),
-        "\" is no step of a path: ",
-        due.as_str(),
-    ]
-    .concat(alloc)
+    let mut said = no_step_told(alloc, part)?;
+    let due = step_due(alloc, part)?;
+    said.push_str(due.as_str())?;
+    Ok(said)
 }
 
 /// Of what stands between two slashes, or behind the last, and spells no step.

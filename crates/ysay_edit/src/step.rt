@@ -4,12 +4,35 @@ ghost use Rattle.std.specs.Prelude.{◌≡◌, IfOk, string_bytes};
 ghost use Rattle.yschema_model.specs.Layout.{number_of};
 ghost use Rattle.yschema_model.specs.View.{view};
 ghost use Rattle.yinst_path.specs.EditView.{path_view, steps_view};
+ghost use Rattle.ysay_refusal.specs.Member as member_spec;
+ghost use Rattle.ysay_edit.specs.Choice as choice_spec;
 ghost use Rattle.ysay_edit.specs.Step as spec;
 
+use crate::choice::{passed_at, passed_through};
 use std::alloc::{AllocError, Global};
 use yinst_path::{NamedStep, Path};
 use ysay_refusal::{due_name, near_name, other_member, unknown_member};
 use yschema_model::{Schema, SchemaId};
+
+/// Of a name that is no child's, and has no other form that is due.
+fn of_no_node(
+    alloc: Global,
+    schema: &Schema,
+    parent: Option<SchemaId>,
+    name: &str,
+) -> Result<String, AllocError>
+    ensures { let p = number_of parent in IfOk result (λ text. string_bytes text
+        ≡ spec.no_node name.now (choice_spec.passed_at (view schema.now) p name.now)
+        (member_spec.near_name (view schema.now) p name.now)) }
+{
+    match passed_at(schema, parent, name) {
+        Some(called) => passed_through(alloc, name, called),
+        None => {
+            let near = near_name(alloc, schema, parent, name)?;
+            unknown_member(alloc, name, near)
+        }
+    }
+}
 
 /// Of a name that is no child's of a node, or of the top.
 fn of_name(
@@ -23,10 +46,7 @@ fn of_name(
 {
     match due_name(alloc, schema, parent, name)? {
         Some(due) => other_member(alloc, name, Some(due)),
-        None => {
-            let near = near_name(alloc, schema, parent, name)?;
-            unknown_member(alloc, name, near)
-        }
+        None => of_no_node(alloc, schema, parent, name),
     }
 }
 

@@ -38,7 +38,7 @@ fn steps_above(steps: &[Step]) -> &[Step]
 }
 
 /// What stands before the colon: the path of what is told.
-fn subject(
+pub fn subject(
     alloc: Global,
     schema: &Schema,
     tree: &Tree,

@@ -12,7 +12,7 @@ mod sentences;
 
 pub use explanation::{
     explanation_of, explanation_with_fellow, fault_path, own_message, sentence,
-    sentence_with_fellow, write_fault_explanation,
+    sentence_with_fellow, subject, write_fault_explanation,
 };
 pub use fault::ExplanationFault;
 pub use known::{fellow_of, fellows_of};

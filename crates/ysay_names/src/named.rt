@@ -148,7 +148,7 @@ fn imported_as<'a>(
 }
 
 /// What stands below the module of a name.
-fn module_named<'a>(name: &str, modules: &'a [Module]) -> &'a [Stmt]
+pub fn module_named<'a>(name: &str, modules: &'a [Module]) -> &'a [Stmt]
     ensures { row_view result.now ≡ spec.module_named name.now (modules_view modules.entry.now) }
 {
     for module in modules {

@@ -10,6 +10,7 @@ use Rattle.yspec.specs.text.Text.{Text}
 use Rattle.yspec.specs.schema.Schema.{Schema, SchemaNode, child_written}
 use Rattle.yspec.specs.document.Reading.{Refusal, json_of}
 use Rattle.ysay_refusal.specs.Member.{strange_in}
+use Rattle.ysay_refusal.specs.NoJson.{said_of_no_json}
 use Rattle.ysay_refusal.specs.Sentence.{said_of_value, said_of_refusal}
 
 module _ (s : Schema) (p : Option ℕ) (name asked : Text) (d : Data) (before after : Members) (whole : Option Text) (is : before ≡ member name d after)
@@ -44,8 +45,8 @@ pub of_json : {E : Type 0} (r : Result (String Global) E) (s : Schema) (bytes : 
     → IfOk r (λ text. string_bytes text ≡ said_of_value s refusal.code refusal.place d) → IfOk r (λ text. string_bytes text ≡ said_of_refusal s bytes refusal)
 unfolding said_of_refusal
 of_json r s bytes refusal d is said = subst (λ (t : Text). IfOk r (λ text. string_bytes text ≡ t))
-    (sym (ap (λ (o : Option Data). option_map_or (said_of_value s refusal.code refusal.place) o []) is)) said
+    (sym (ap (λ (o : Option Data). option_map_or (said_of_value s refusal.code refusal.place) o (said_of_no_json bytes)) is)) said
 
-pub of_no_json : (s : Schema) (bytes : List ℕ) (refusal : Refusal) → json_of bytes ≡ None → [] ≡ said_of_refusal s bytes refusal
+pub of_no_json : (s : Schema) (bytes : List ℕ) (refusal : Refusal) → json_of bytes ≡ None → said_of_no_json bytes ≡ said_of_refusal s bytes refusal
 unfolding said_of_refusal
-of_no_json s bytes refusal is = sym (ap (λ (o : Option Data). option_map_or (said_of_value s refusal.code refusal.place) o []) is)
+of_no_json s bytes refusal is = sym (ap (λ (o : Option Data). option_map_or (said_of_value s refusal.code refusal.place) o (said_of_no_json bytes)) is)

@@ -1,5 +1,5 @@
--- What is said of a document that is refused: of a member that isn't known or is in the form that isn't due (J3, J4), and
--- of a value of another kind than is due (J5).
+-- What is said of a document that is refused: of bytes that are no JSON (J1), of a member that isn't known or is in the form that
+-- isn't due (J3, J4), of a value of another kind than is due (J5), and of a number that is no whole one of 64 bits (J6).
 use Rattle.std.specs.Prelude.{ℕ, ◌==◌, ◌&&◌, ◌++◌, Bool, not, List, [], codes, is_some, Option, Some, None, if◌then◌else◌}
 use Rattle.std.specs.Option.{option_map_or}
 use Rattle.serde_json.specs.Data.{Data, null, boolean, number, string, array, object}
@@ -9,6 +9,8 @@ use Rattle.yspec.specs.document.Document.{Step}
 use Rattle.yspec.specs.document.Reading.{Refusal, json_of}
 use Rattle.ysay_text.specs.Line.{shown}
 use Rattle.ysay_refusal.specs.Member.{due_name, near_name, strange_member}
+use Rattle.ysay_refusal.specs.NoJson.{said_of_no_json}
+use Rattle.ysay_refusal.specs.Number.{of_number}
 use Rattle.ysay_refusal.specs.Place.{last_step, number_after, value_at}
 
 -- ---- J3 and J4; a name of a document stands in quotes, and is shown as a line of a text is
@@ -66,12 +68,13 @@ of_kind schema (Some step) d = kind_of_value d ++ (codes " stands where " ++ (wa
 abbrev pub said_at : Schema → ℕ → Option Step → Data → Text
 said_at schema code step d = if code == 3 then of_unknown schema (number_after step) d
     else (if code == 4 then of_other schema (number_after step) d
-    else (if code == 5 then of_kind schema step d else []))
+    else (if code == 5 then of_kind schema step d
+    else (if code == 6 then of_number schema (number_after step) else [])))
 
 -- of the refusal of a value
 abbrev pub said_of_value : Schema → ℕ → List Step → Data → Text
 said_of_value schema code steps d = option_map_or (said_at schema code (last_step steps)) (value_at schema steps d) []
 
--- of the refusal of bytes
+-- of the refusal of bytes, by the value that they are, or by themselves where they are none
 unfoldable pub said_of_refusal : Schema → List ℕ → Refusal → Text
-said_of_refusal schema bytes r = option_map_or (said_of_value schema r.code r.place) (json_of bytes) []
+said_of_refusal schema bytes r = option_map_or (said_of_value schema r.code r.place) (json_of bytes) (said_of_no_json bytes)

@@ -27,7 +27,26 @@ pub fn members()
         ≡ codes "nothing called \"p:\\x1bost\" may stand here; near it: p:host." }
 {}
 
-/// Values of another kind than is due (J5), and refusals of which nothing is said.
+/// Texts that are no JSON (J1).
+pub fn texts()
+    ensures comma_in_object { said_under (codes "{\"p:host\":{\"name\":\"a\",}}")
+        ≡ codes "no comma stands behind the last member." }
+    ensures comma_in_array { said_under (codes "{\"p:host\":{\"tag\":[\"a\", ]}}")
+        ≡ codes "no comma stands behind the last item." }
+    ensures comment { said_under (codes "{ // first\n}") ≡ codes "JSON has no comments." }
+    ensures block { said_under (codes "{\"p:host\":{}/* last */}") ≡ codes "JSON has no comments." }
+    ensures single_quotes { said_under (codes "{'p:host':{}}") ≡ codes "JSON wants double quotes." }
+    ensures early_end { said_under (codes "{\"p:host\":{\"name\":\"}\"}")
+        ≡ codes "the document ends before all brackets are closed." }
+    ensures in_a_text { said_under (codes "{\"p:host\":{\"name\":\"it's // a \\\",}\"}")
+        ≡ codes "the document ends before all brackets are closed." }
+    ensures other_before { said_under (codes "{\"p:host\":{\"name\" \"a\",}}") ≡ [] }
+    ensures no_quotes { said_under (codes "{\"p:host\":{\"name\":http://a}}") ≡ [] }
+    ensures too_many { said_under (codes "{}}") ≡ [] }
+    ensures nothing { said_under [] ≡ [] }
+{}
+
+/// Values of another kind than is due (J5), numbers that are no whole ones of 64 bits (J6), and a document that is read.
 pub fn values()
     ensures no_object { said_under (codes "{\"p:host\":7}")
         ≡ codes "a number stands where an object is due." }
@@ -41,7 +60,9 @@ pub fn values()
         ≡ codes "null stands where an item's value is due." }
     ensures flag { said_under (codes "{\"p:host\":{\"port\":[true]}}")
         ≡ codes "true stands where an object is due." }
-    ensures fraction { said_under (codes "{\"p:host\":{\"name\":1.5}}") ≡ [] }
-    ensures no_json { said_under (codes "{") ≡ [] }
+    ensures fraction { said_under (codes "{\"p:host\":{\"port\":[{\"id\":1.0}]}}")
+        ≡ codes "a number with a point or an exponent, or beyond 64 bits, isn't a value of uint8: it takes an integer without quotes in 0..255." }
+    ensures fraction_for_text { said_under (codes "{\"p:host\":{\"name\":1.5}}")
+        ≡ codes "a number with a point or an exponent, or beyond 64 bits, isn't a value of string: it takes a text in quotes." }
     ensures is_read { said_under (codes "{}") ≡ codes "read" }
 {}

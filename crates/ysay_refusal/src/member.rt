@@ -191,7 +191,7 @@ fn near_written(
 }
 
 /// What stands behind the first colon of a name, where it has one.
-fn own_part(name: &str) -> &str
+pub fn own_part(name: &str) -> &str
     ensures { result.now ≡ spec.own_part name.now }
 {
     match offset_of(name.as_bytes(), b':') {

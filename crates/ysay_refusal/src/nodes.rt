@@ -23,7 +23,7 @@ pub fn module_of(schema: &Schema, id: Option<SchemaId>) -> Option<usize>
 }
 
 /// The children of a node, or the top nodes.
-fn children_of<'a>(schema: &'a Schema, parent: Option<SchemaId>) -> Children<'a>
+pub fn children_of<'a>(schema: &'a Schema, parent: Option<SchemaId>) -> Children<'a>
     ensures { row_view result
         ≡ schema_spec.row_at (view schema.entry.now) (number_of parent) }
 {

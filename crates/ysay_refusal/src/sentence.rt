@@ -9,6 +9,8 @@ ghost use Rattle.yinst_tree.specs.View.{place_view, step_view};
 ghost use Rattle.ysay_refusal.specs.Sentence as spec;
 
 use crate::member::{due_name, near_name, strange_member};
+use crate::no_json::said_of_no_json;
+use crate::number::of_number;
 use crate::place::{last_step, node_after, value_from};
 use serde_json::Value;
 use std::alloc::{AllocError, Global};
@@ -197,7 +199,8 @@ pub fn said_at(
         DocCode::J3 => of_unknown(alloc, schema, node_after(step), value),
         DocCode::J4 => of_other(alloc, schema, node_after(step), value),
         DocCode::J5 => of_kind(alloc, schema, step, value),
-        DocCode::J1 | DocCode::J2 | DocCode::J6 | DocCode::J7 => Ok(String::new(alloc)),
+        DocCode::J6 => of_number(alloc, schema, node_after(step)),
+        DocCode::J1 | DocCode::J2 | DocCode::J7 => Ok(String::new(alloc)),
     }
 }
 
@@ -219,7 +222,8 @@ fn said_of_value(
 }
 
 /// What is said of the refusal of a document's bytes at a place, by what stands there: of a member that isn't known (J3)
-/// or is in the form that isn't due (J4), and of a value of another kind than is due (J5); an empty text of all else.
+/// or is in the form that isn't due (J4), of a value of another kind than is due (J5), and of a number that is no whole one of 64
+/// bits (J6); of bytes that are no JSON (J1) what is wrong there first, if it is often met; an empty text of all else.
 pub fn said_of_refusal(
     alloc: Global,
     schema: &Schema,
@@ -233,6 +237,6 @@ pub fn said_of_refusal(
     match Value::from_slice(alloc, bytes) {
         Ok(value) => said_of_value(alloc, schema, code, place, &value),
         Err(error) if error.is_memory() => Err(AllocError),
-        Err(_) => Ok(String::new(alloc)),
+        Err(_) => said_of_no_json(alloc, bytes),
     }
 }

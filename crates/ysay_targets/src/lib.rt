@@ -1,7 +1,9 @@
-//! What is said of augments and refines that lead nowhere.
+//! What is said of augments, refines and leafrefs that lead nowhere.
 #![tactic(auto)]
 
+mod leafrefs;
 mod steps;
 mod targets;
 
+pub use leafrefs::leafref_sentence;
 pub use targets::target_sentence;

@@ -16,7 +16,7 @@ use ysay_text::{nearest, shown};
 use ytext::Stmt;
 
 /// The first node of a name in a row.
-fn child_named<'a>(name: &str, row: &'a [Stmt]) -> Option<&'a Stmt>
+pub(crate) fn child_named<'a>(name: &str, row: &'a [Stmt]) -> Option<&'a Stmt>
     ensures { option_map (λ s. view s.now) result ≡ spec.child_named name.now (row_view row.entry.now) }
 {
     for statement in row {
@@ -67,7 +67,7 @@ fn has_named(name: &str, statements: &[Stmt]) -> bool
 }
 
 /// Whether a `uses` may bring a node, or another statement of the row defines it.
-fn may_stand(name: &str, row: &[Stmt]) -> bool
+pub(crate) fn may_stand(name: &str, row: &[Stmt]) -> bool
     ensures { result ≡ spec.may_stand name.now (row_view row.now) }
 {
     has_word("uses", row) || has_named(name, row)
@@ -114,7 +114,7 @@ fn near_text(alloc: Global, prefix: Option<&str>, near: Option<&str>) -> Result<
     }
 }
 
-fn absent(
+pub(crate) fn absent(
     alloc: Global,
     scope: &str,
     seen: &str,
@@ -138,7 +138,7 @@ fn absent(
     .concat(alloc)
 }
 
-fn further(
+pub(crate) fn further(
     alloc: Global,
     seen: &str,
     prefix: Option<&str>,
@@ -151,7 +151,7 @@ fn further(
     [seen, "/", name.as_str()].concat(alloc)
 }
 
-fn is_same(prefix: Option<&str>, other: Option<&str>) -> bool
+pub(crate) fn is_same(prefix: Option<&str>, other: Option<&str>) -> bool
     ensures { result ≡ spec.is_same (option_map (λ p. p.now) prefix.entry) (option_map (λ p. p.now) other.entry) }
 {
     match (prefix, other) {

@@ -16,7 +16,7 @@ use ysay_names::{
 use ytext::{Module, Stmt};
 
 /// Whether what stands at the top of a module is its text alone: it has no submodules and doesn't augment.
-fn is_whole(row: &[Stmt]) -> bool
+pub(crate) fn is_whole(row: &[Stmt]) -> bool
     ensures { result ≡ spec.is_whole (row_view row.now) }
 {
     has_word("namespace", row) && !(has_word("include", row) || has_word("augment", row))

@@ -6,6 +6,7 @@ ghost use Rattle.yspec.specs.Forest.{end, node, size};
 ghost use Rattle.yspec.specs.linking.Augments.{augments_of};
 ghost use Rattle.yspec.specs.linking.Expansion.{laid};
 ghost use Rattle.yspec_wide.specs.Expansion.{body_breaks_in};
+ghost use Rattle.yspec_wide.specs.Sources.{bears_guard};
 ghost use Rattle.ybase_preorder.specs.View.{row_by, label_by};
 ghost use Rattle.ylink_grammar.specs.SourceView.{source_view};
 ghost use Rattle.yschema_expand.specs.AugmentView.{augment_view, augments_seen};
@@ -26,15 +27,17 @@ use ybase_words::Keyword;
 use ylink_grammar::Source;
 use yschema_given::bears_guard;
 
-/// Adds what a statement of an augment defines or uses, and asks the conditions of a row of it.
+/// Adds what a statement of an augment defines or uses, and asks the conditions of a row of it, if that bears any.
 fn add_asked<'a, 't>(
     alloc: Global,
     context: &Context<'a, 't>,
     place: Place,
     given: Siblings<'a, Source<'t>>,
+    is_guarded: bool,
     statement: Node<'a, Source<'t>>,
     made: &mut Made<'a, 't>,
 ) -> Result<(), AllocError>
+    requires guarded { is_guarded ≡ bears_guard (language_of context.now.named.now) (row_by source_view given) }
     requires known { Knows context.now.groupings.now (language_of context.now.named.now) (modules_of context.now.named.now) }
     requires given { are_kept_right (language_of context.now.named.now) (row_by source_view given) ≡ true }
     requires kept { are_kept_right (language_of context.now.named.now) (row_by source_view statement.children) ≡ true }
@@ -50,23 +53,25 @@ fn add_asked<'a, 't>(
 {
     let first = made.table.len();
     add_one(alloc, context, place, statement, made)?;
-    let language = context.named.language();
-    if !bears_guard(language, given) {
+    if !is_guarded {
         return Ok(());
     }
-    made.table.condition_from(language, first, given)
+    made.table
+        .condition_from(context.named.language(), first, given)
 }
 
 /// Adds what a statement of an augment defines or uses, a single node in the case for which it stands where a choice takes
-/// it, and asks the conditions of a row of it, but not of that case.
+/// it, and asks the conditions of a row of it, if that bears any, but not of that case.
 fn add_cased<'a, 't>(
     alloc: Global,
     context: &Context<'a, 't>,
     place: Place,
     given: Siblings<'a, Source<'t>>,
+    is_guarded: bool,
     statement: Node<'a, Source<'t>>,
     made: &mut Made<'a, 't>,
 ) -> Result<(), AllocError>
+    requires guarded { is_guarded ≡ bears_guard (language_of context.now.named.now) (row_by source_view given) }
     requires known { Knows context.now.groupings.now (language_of context.now.named.now) (modules_of context.now.named.now) }
     requires given { are_kept_right (language_of context.now.named.now) (row_by source_view given) ≡ true }
     requires kept { are_kept_right (language_of context.now.named.now) (row_by source_view statement.children) ≡ true }
@@ -83,7 +88,7 @@ fn add_cased<'a, 't>(
         return Ok(());
     }
     if has_keyword(statement, Keyword::Case) {
-        return add_asked(alloc, context, place, given, statement, made);
+        return add_asked(alloc, context, place, given, is_guarded, statement, made);
     }
     let label = ExpandedNode::new(alloc, statement, true, place.owner);
     let number = made.table.open(place.parent, label)?;
@@ -91,7 +96,7 @@ fn add_cased<'a, 't>(
         parent: Some(number),
         ..place
     };
-    add_asked(alloc, context, inside, given, statement, made)?;
+    add_asked(alloc, context, inside, given, is_guarded, statement, made)?;
     made.table.close(number);
     Ok(())
 }
@@ -118,8 +123,9 @@ fn add_body<'a, 't>(
         depth: context.named.sources().slots().len() + 1,
     };
     let given = augment.children();
+    let is_guarded = bears_guard(context.named.language(), given);
     for statement in given {
-        add_cased(alloc, context, place, given, statement, made)?;
+        add_cased(alloc, context, place, given, is_guarded, statement, made)?;
     }
     Ok(())
 }

@@ -146,6 +146,9 @@ fn least_unless_let<'a, 't>(
     ensures { seen result ≡ least_from (seen so_far) (spec.addition_breaks_unless_let
         (language_view language.now) (stands_in standing.now) (view plan.now) (node_view node.entry)) }
 {
+    if !is_wrong_addition(plan, standing, needs, node) {
+        return so_far;
+    }
     if is_let(language, versions, plan, &node.planned) {
         so_far
     } else {

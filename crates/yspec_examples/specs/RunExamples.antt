@@ -1,5 +1,5 @@
 -- Worked examples: runs of the commands over modules and documents whose faults and refusals are known from the standard's rules.
-use Rattle.std.specs.Prelude.{Bool, true, false, ◌++◌, [], ◌∷◌, codes, Option, Some, None, option_map, option_and_then}
+use Rattle.std.specs.Prelude.{Bool, true, false, ◌++◌, List, [], ◌∷◌, codes, Option, Some, None, option_map, option_and_then}
 use Rattle.std.specs.Result.{result_ok}
 use Rattle.yspec.specs.text.Text.{Text}
 use Rattle.yspec.specs.text.Statement.{module_of}
@@ -11,7 +11,8 @@ use Rattle.yspec.specs.edit.Examples.{module_p, module_text}
 use Rattle.ysay_codes.specs.Codes.{reason_of}
 use Rattle.yspec_wide.specs.Language.{Choosing, Language, core, rfc}
 use Rattle.yspec_run.specs.Unjudged.{outcome_said}
-use Rattle.yspec_run.specs.Output.{Options, Printed, a_directory, as_dump, compile, draw, edit, outcome, plainly, printed, printed_with, told_as_json, validate}
+use Rattle.yspec_run.specs.Lines.{outcome_by}
+use Rattle.yspec_run.specs.Output.{Options, Printed, Request, a_directory, as_dump, compile, draw, edit, outcome, plainly, printed, printed_with, told_as_json, validate}
 use Rattle.yspec_examples.specs.Printing.{found, printed_by}
 
 -- a mandatory leaf in a container in a container
@@ -38,6 +39,15 @@ shown_with_reasons module_bytes document =
 abbrev pub shown_as_json : Text → Text → Printed
 shown_as_json module_bytes document =
     printed_by (validate core told_as_json (codes "d.json") (codes "m.yang" ∷ [])) (Some module_bytes ∷ Some document ∷ [])
+
+-- what a request prints by lines, whose files answer so; a document that isn't JSON stops being it somewhere
+abbrev pub told_by_lines : Request → List (Option Text) → Printed
+told_by_lines request answers = printed false (outcome_by true (record { line = 3; column = 9; cause = a_directory }) request answers)
+
+-- what `validate` does so of a document under a module
+abbrev pub shown_by_lines : Text → Text → Printed
+shown_by_lines module_bytes document =
+    told_by_lines (validate core plainly (codes "d.json") (codes "m.yang" ∷ [])) (Some module_bytes ∷ Some document ∷ [])
 
 -- the line of a fault, what is said of its place, and why its code is told
 abbrev pub with_reasons : Text → Text → Text → Text

@@ -5,11 +5,10 @@ ghost use Rattle.yspec_examples.specs.CompilingSamples.{net_module, k_module, t_
 ghost use Rattle.yspec_examples.specs.Printing.{failed, found, printed_by};
 ghost use Rattle.yspec_wide.specs.Language.{core, rfc_with};
 ghost use Rattle.yspec_run.specs.Output.{a_directory, as_dump, compile, draw_all, edit, explain, outcome, plainly, printed, printed_with, told_as_json, validate};
-ghost use Rattle.ysay_codes.specs.Codes.{reason_of};
 ghost use Rattle.yspec_run.specs.Script.{lines_of};
 ghost use Rattle.yspec_examples.specs.SchemaExamples.{hosts, one_host};
 ghost use Rattle.yspec.specs.edit.Examples.{module_p, module_text};
-ghost use Rattle.yspec_examples.specs.RunExamples.{and_saved, conditions_module, configured, counted, counted_in, drawn_as, dumped, edited_configuration, edited_with_reasons, explained_in, faulty, feature_module, keyed_module, line_with_reasons, no_features, of_configuration, refused_alone, refused_beside, saved_by, scripted, shown, shown_as_json, shown_of_configuration, shown_of_two, state_module, without_faults, one_with_reasons, referring_module, referring_to, refused_with_reasons, shown_with_reasons, strictly_edited, strictly_shown, validated_in, validated_unjudged, with_reasons};
+ghost use Rattle.yspec_examples.specs.RunExamples.{shown_by_lines, told_by_lines, and_saved, conditions_module, configured, counted, counted_in, drawn_as, dumped, edited_configuration, edited_with_reasons, explained_in, faulty, feature_module, keyed_module, line_with_reasons, no_features, of_configuration, refused_alone, refused_beside, saved_by, scripted, shown, shown_as_json, shown_of_configuration, shown_of_two, state_module, without_faults, one_with_reasons, referring_module, referring_to, refused_with_reasons, shown_with_reasons, strictly_edited, strictly_shown, validated_in, validated_unjudged, with_reasons};
 
 /// How many nodes modules define.
 pub fn counts()
@@ -212,7 +211,7 @@ pub fn reasons()
         (codes "{\"p:c\":{\"id\":1}}\n") }
     ensures of_a_text { printed true (outcome (compile core (codes "m.yang" ∷ []))
         (Some (codes "module a;}") ∷ []))
-        ≡ failed 2 (codes "m.yang:1: L6\n  | module a;}\n  The text isn't one whole module: it ends within a statement, has a } too many, no statement, or a second one at the top. Balance the braces; one file holds one module.") }
+        ≡ failed 2 (codes "m.yang:1: L6\n  | module a;}\n  no { is open for this }.\n  The text isn't one whole module: it ends within a statement, has a } too many, no statement, or a second one at the top. Balance the braces; one file holds one module.") }
     ensures of_a_slip { printed true (outcome (compile core (codes "m.yang" ∷ []))
         (Some (codes "module a {\n\tprefix \"\\x\";\n}") ∷ []))
         ≡ failed 2 (codes "m.yang:2: L4\n  | prefix \"\\x\";\n  In a string in double quotes a backslash stands before another character than n, t, a double quote or a backslash. Double the backslash, or use single quotes, in which it is itself.") }
@@ -394,6 +393,26 @@ pub fn saved_documents()
         ≡ failed 2 (codes "d.json: J4 /") }
 {}
 
+/// Lines with the places to which an editor jumps: of faults, of a document, of a module, and of a script.
+pub fn told_by_lines()
+    ensures value { shown_by_lines module_p (codes "{\"p:c\":\n {\"id\":256}}")
+        ≡ found 1 (codes "d.json:2:8: error: V1 /p:c/id: 256 isn't a value of uint8: it takes an integer without quotes in 0..255.\n1 faults\n") }
+    ensures absent { shown_by_lines module_p (codes "{\"p:c\":{}}")
+        ≡ found 1 (codes "d.json:1:8: error: V3 /p:c: id is missing.\n1 faults\n") }
+    ensures none { shown_by_lines module_p (codes "{\"p:c\":{\"id\":1}}") ≡ found 0 (codes "0 faults\n") }
+    ensures member { shown_by_lines module_p (codes "{\"p:c\":{\"noet\":1}}") ≡ failed 2 (codes "d.json:1:8: error: J3 /p:c") }
+    ensures no_json { shown_by_lines module_p (codes "{") ≡ failed 2 (codes "d.json:3:9: error: J1 /") }
+    ensures statement { told_by_lines (compile core (codes "m.yang" ∷ [])) (Some (codes "module m { yang-version 1.1; namespace \"m\"; prefix m;\n \tfrob;\n}\n") ∷ [])
+        ≡ failed 2 (codes "m.yang:2:3: error: C1") }
+    ensures text { told_by_lines (compile core (codes "m.yang" ∷ [])) (Some (codes "  module m {") ∷ [])
+        ≡ failed 2 (codes "m.yang:1:3: error: L6") }
+    ensures unread { told_by_lines (compile core (codes "m.yang" ∷ [])) (None ∷ [])
+        ≡ failed 4 (codes "cannot read m.yang") }
+    ensures script { told_by_lines (edit core plainly (codes "d.json") (codes "s.txt") (codes "m.yang" ∷ []))
+        (Some module_p ∷ Some (codes "{\"p:c\":{\"id\":1}}") ∷ Some (codes "\nremove /p:c/id\nadd\n") ∷ [])
+        ≡ record { output = codes "V3 data-missing - /p:c/id -\n1 faults\n"; errors = codes "s.txt:3:1: error: E1\n"; status = 1; saved = None } }
+{}
+
 /// What is said of refused documents, where that is asked for: which member isn't known, or is written otherwise, and which
 /// value stands there.
 pub fn explained_refusals()
@@ -410,8 +429,12 @@ pub fn explained_refusals()
     ensures before_edits { printed true (outcome (edit core as_dump (codes "d.json") (codes "s.txt") (codes "m.yang" ∷ []))
         (Some module_p ∷ Some (codes "{\"p:c\":{\"id\":{}}}") ∷ Some [] ∷ []))
         ≡ refused_with_reasons (codes "d.json: J5 /p:c/id") (codes "an object stands where a leaf's value is due.") (codes "J5") }
-    ensures nothing_more { shown_with_reasons module_p (codes "{\"p:c\":{\"id\":1.5}}")
-        ≡ failed 2 (codes "d.json: J6 /p:c/id\n  A number has a fraction or an exponent. Write an integer without them; write a decimal64 as a string.") }
+    ensures number { shown_with_reasons module_p (codes "{\"p:c\":{\"id\":1.5}}")
+        ≡ refused_with_reasons (codes "d.json: J6 /p:c/id") (codes "a number with a point or an exponent, or beyond 64 bits, isn't a value of uint8: it takes an integer without quotes in 0..255.") (codes "J6") }
+    ensures no_json { shown_with_reasons module_p (codes "{\"p:c\":{\"id\":1,}}")
+        ≡ refused_with_reasons (codes "d.json: J1 /") (codes "no comma stands behind the last member.") (codes "J1") }
+    ensures nothing_more { shown_with_reasons module_p (codes "[]")
+        ≡ failed 2 (codes "d.json: J2 /\n  The document isn't an object. Put the top nodes into an object: {\"module:name\": ..}.") }
 {}
 
 /// What is said of the refused lines of a script, where that is asked for: which name of a path isn't known, or is written
@@ -437,8 +460,10 @@ pub fn explained_edits()
         ≡ faulty (line_with_reasons (codes "line 1: E3") (codes "remove /p:c/id[1]") (codes "id is a leaf: no predicate stands behind it.") (codes "E3")) (codes "{\"p:c\":{\"id\":1}}\n") }
     ensures no_json { edited_with_reasons (codes "create /p:c/note eth0")
         ≡ faulty (line_with_reasons (codes "line 1: E9") (codes "create /p:c/note eth0") (codes "eth0 isn't JSON; a text stands in double quotes.") (codes "E9")) (codes "{\"p:c\":{\"id\":1}}\n") }
-    ensures nothing_more { edited_with_reasons (codes "remove /p:c/note")
-        ≡ faulty (codes "line 1: E7\n  | remove /p:c/note\n" ++ reason_of (codes "E7")) (codes "{\"p:c\":{\"id\":1}}\n") }
+    ensures stored { edited_with_reasons (codes "create /p:c/id 2")
+        ≡ faulty (line_with_reasons (codes "line 1: E8") (codes "create /p:c/id 2") (codes "/p:c/id is 1.") (codes "E8")) (codes "{\"p:c\":{\"id\":1}}\n") }
+    ensures not_stored { edited_with_reasons (codes "remove /p:c/note")
+        ≡ faulty (line_with_reasons (codes "line 1: E7") (codes "remove /p:c/note") (codes "note isn't stored in /p:c.") (codes "E7")) (codes "{\"p:c\":{\"id\":1}}\n") }
 {}
 
 /// With `--strict` a document that gives a member twice is refused where that comes again, and an edit's value doesn't fit;

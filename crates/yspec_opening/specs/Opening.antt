@@ -23,8 +23,8 @@ pub record Opening : Type 0 where
 
 -- what the words of a command line ask for
 pub data Asked : Type 0 where
-  -- something that is told once
-  report : Request → Asked
+  -- something that is told once, by lines to which an editor jumps or not
+  report : Bool → Request → Asked
   session : Opening → Asked
 
 -- the words for its files in the order in which they are read

@@ -7,12 +7,13 @@ use Rattle.yspec.specs.text.Text.{Text, open_brace, space}
 use Rattle.yspec.specs.text.Statement.{Statement}
 use Rattle.yspec.specs.schema.Breaks.{Break}
 use Rattle.yspec.specs.schema.Schema.{Schema}
-use Rattle.yspec.specs.document.Document.{Step}
+use Rattle.yspec.specs.document.Document.{Step, Tree}
 use Rattle.yspec.specs.document.Reading.{Refusal}
 use Rattle.yspec_wide.specs.Language.{Language, core, rfc, rfc_with}
 use Rattle.yspec_wide.specs.Compiling.{compiled_in}
 use Rattle.ysay_text.specs.Line.{shown, shown_line}
 use Rattle.ysay_text.specs.Sentence.{of_line}
+use Rattle.ysay_slips.specs.Said as slips
 use Rattle.ysay_pattern.specs.Said as patterns
 use Rattle.ysay_forms.specs.Said as forms
 use Rattle.ysay_names.specs.Keys as keys
@@ -20,7 +21,16 @@ use Rattle.ysay_names.specs.Names as names
 use Rattle.ysay_names.specs.Prefixes as prefixes
 use Rattle.ysay_types.specs.Defaults as defaults
 use Rattle.ysay_types.specs.Restrictions as restrictions
+use Rattle.ysay_targets.specs.Leafrefs as leafrefs
 use Rattle.ysay_targets.specs.Targets as targets
+use Rattle.ysay_sets.specs.Taken as taken
+use Rattle.ysay_sets.specs.Imports as imports
+use Rattle.ysay_nodes.specs.Twice as twice
+use Rattle.ysay_nodes.specs.Needed as needed
+use Rattle.ysay_nodes.specs.Config as config
+use Rattle.ysay_circles.specs.References as references
+use Rattle.ysay_circles.specs.Conditions as conditions
+use Rattle.ysay_circles.specs.Places as places
 use Rattle.yspec.specs.edit.EditText.{Edit}
 use Rattle.ysay_edit.specs.Part.{said_of_edit}
 use Rattle.ysay_refusal.specs.Sentence.{said_of_refusal}
@@ -49,22 +59,32 @@ begins_object (x ∷ bytes) = if nat_le x space then begins_object bytes else x 
 abbrev pub object_hint : Bool → Text
 object_hint is_object = if is_object then codes "  this begins as JSON, not as a module; a document stands before the modules.\n" else []
 
--- of a text that is refused in a line: that line, and whether it is a document's
-abbrev pub slip_hint : ℕ → List ℕ → Text
-slip_hint line bytes = line_hint line bytes ++ object_hint (begins_object bytes)
+-- of a text that is refused with this number in a line: that line, what can't be there, and whether it is a document's
+abbrev pub slip_hint : ℕ → ℕ → List ℕ → Text
+slip_hint code line bytes = line_hint line bytes
+    ++ (as_line (codes "  ") (slips.of_slip code bytes) ++ object_hint (begins_object bytes))
 
 -- what is said of the statements of a line of a module of a set, by the code that is told of it
 abbrev pub statement_said : ℕ → ℕ → Forest Statement → Forest Statement → Text
 statement_said code line modules top = if code == 1 then of_line line top
     else (if code == 2 then forms.of_line forms.amounts line top
     else (if code == 3 then forms.of_line forms.an_argument line top
+    else (if code == 5 then imports.of_line line modules top
     else (if code == 6 then prefixes.of_line line top
+    else (if code == 7 then taken.of_line line modules top
     else (if code == 8 then names.of_line line modules top
+    else (if code == 9 then references.of_line line modules top
     else (if code == 10 then restrictions.of_line line modules top
     else (if code == 11 then defaults.of_line line modules top
     else (if code == 12 then keys.of_line line top
+    else (if code == 13 then twice.of_line line top
     else (if code == 14 then targets.of_line line modules top
-    else (if code == 20 then patterns.of_line line top else [])))))))))
+    else (if code == 15 then needed.of_line line top
+    else (if code == 16 then config.of_line line top
+    else (if code == 17 then leafrefs.of_line line modules top
+    else (if code == 20 then patterns.of_line line top
+    else (if code == 22 then conditions.of_line line modules top
+    else (if code == 24 then places.of_line line top else []))))))))))))))))))
 
 abbrev pub statement_hint : ℕ → ℕ → Forest Statement → Forest Statement → Text
 statement_hint code line modules top = as_line (codes "  ") (statement_said code line modules top)
@@ -110,16 +130,16 @@ refusal_hint schema bytes r = as_line (codes "  ") (said_of_refusal schema bytes
 abbrev pub repeated_hint : Schema → List Step → Text
 repeated_hint schema place = as_line (codes "  ") (said_of_repeated schema place)
 
--- of an edit that is refused with this number
-abbrev pub edit_hint : Schema → Edit → ℕ → Text
-edit_hint schema e code = as_line (codes "  ") (said_of_edit schema e code)
+-- of an edit that is refused with this number, and what is stored now
+abbrev pub edit_hint : Schema → Tree → Edit → ℕ → Text
+edit_hint schema now e code = as_line (codes "  ") (said_of_edit schema now e code)
 
 -- of a line that is refused with this number before it is tried: where it spells no edit
 abbrev pub spelling_hint : Text → ℕ → Text
 spelling_hint line code = if code == 1 then as_line (codes "  ") (said_of_line line) else []
 
 -- of a line of a script that is refused with this number: itself, behind a bar, and what is said of the edit that it asks for,
--- if it asks for one
-abbrev pub script_hint : Schema → Text → Option Edit → ℕ → Text
-script_hint schema line asked code = as_line (codes "  | ") (shown line)
-    ++ option_map_or (λ e. edit_hint schema e code) asked (spelling_hint line code)
+-- if it asks for one, by what is stored now
+abbrev pub script_hint : Schema → Tree → Text → Option Edit → ℕ → Text
+script_hint schema now line asked code = as_line (codes "  | ") (shown line)
+    ++ option_map_or (λ e. edit_hint schema now e code) asked (spelling_hint line code)

@@ -5,4 +5,5 @@ pub mod Hint
 pub mod Script
 pub mod Output
 pub mod Unjudged
+pub mod Lines
 pub mod Format

@@ -22,10 +22,11 @@ use Rattle.yspec_wide.specs.Texts.{module_in}
 use Rattle.yspec_wide.specs.Compiling.{compiled_in}
 use Rattle.ysay_fault.specs.Sentences.{explained_fault}
 use Rattle.ysay_json.specs.FaultData.{json_text}
+use Rattle.ysay_jumps.specs.Jumps.{fault_message}
 use Rattle.ysay_json.specs.RefusalData.{Refused}
 use Rattle.ysay_repeated.specs.Repeated.{repeated_in}
 use Rattle.yspec_run.specs.Hint.{break_hint, hinted, is_read_in_rfc, language_hint, refusal_hint, repeated_hint, slip_hint}
-use Rattle.yspec_run.specs.Part.{Part, count_part, line_about, objects, plain, spelled}
+use Rattle.yspec_run.specs.Part.{Part, at_node, count_part, in_document, in_module, line_about, objects, placed, plain, spelled}
 use Rattle.yspec_run.specs.RefusalData.{document_object, module_object, module_tag, object_line, text_tag, unread_object}
 use Rattle.yspec_run.specs.Script.{after_lines, lines_of, refused_lines}
 
@@ -190,11 +191,11 @@ with_files (name ∷ names) (answer ∷ answers) next =
 -- `FILE:LINE: CODE`, by the letter of the code and its number
 abbrev pub refusal_part : Text → ℕ → Text → ℕ → Part
 refusal_part name line letter number = let code = letter ++ decimal number in
-    line_about code (name ++ (codes ":" ++ (decimal line ++ (codes ": " ++ code))))
+    placed (in_module name line) code (line_about code (name ++ (codes ":" ++ (decimal line ++ (codes ": " ++ code)))))
 
 abbrev pub slipped : Text → List ℕ → Slip → Outcome
 slipped name bytes s = with_object (module_object text_tag name s.line (codes "L" ++ decimal s.code))
-    (failed_with 2 (hinted (slip_hint s.line bytes) (refusal_part name s.line (codes "L") s.code)))
+    (failed_with 2 (hinted (slip_hint s.code s.line bytes) (refusal_part name s.line (codes "L") s.code)))
 
 abbrev pub broken : Language → List Text → List (List ℕ) → Forest Statement → Break → Outcome
 broken language names contents modules b = let name = unwrap_or (slice_get names b.module_number) [] in
@@ -225,8 +226,8 @@ with_schema language names contents next = with_modules language names contents 
 
 -- `FILE: CODE PLACE`
 abbrev pub document_part : Schema → Text → Refusal → Part
-document_part schema name r = let code = codes "J" ++ decimal r.code in
-    line_about code (name ++ (codes ": " ++ (code ++ (codes " " ++ path_text schema r.place))))
+document_part schema name r = let code = codes "J" ++ decimal r.code in let told = code ++ (codes " " ++ path_text schema r.place) in
+    placed (in_document name schema r) told (line_about code (name ++ (codes ": " ++ told)))
 
 -- where a document that isn't JSON stops being it is said besides
 abbrev pub aside_of : Text → ℕ → Aside
@@ -304,6 +305,8 @@ fault_part schema tree f = record {
   reason = explained_fault schema tree f ++ reason_of (codes "V" ++ decimal (fault_number f.code));
   bare = [];
   object = [];
+  spot = at_node schema f.steps;
+  message = fault_message schema tree f;
 }
 
 -- a line for each fault of a document, and then how many there are

@@ -12,7 +12,7 @@ use Rattle.yspec.specs.edit.Editing.{EditRefusal, applied, edit_asked, refused, 
 use Rattle.ysay_repeated.specs.Repeated.{has_repeated}
 use Rattle.ysay_json.specs.RefusalData.{Refused}
 use Rattle.yspec_run.specs.Hint.{hinted, script_hint}
-use Rattle.yspec_run.specs.Part.{Part, line_about}
+use Rattle.yspec_run.specs.Part.{Part, in_script, line_about, placed}
 use Rattle.yspec_run.specs.RefusalData.{cause_of, edit_tag, object_line}
 
 -- ---- lines
@@ -91,26 +91,31 @@ line_object number e = record {
 
 -- `line K: CODE`, of a refused line
 abbrev pub refused_line : ℕ → EditRefusal → Part
-refused_line number e = record (line_about (telling_code e) (codes "line " ++ (decimal number ++ (codes ": " ++ code_text e))))
-    { object = object_line (line_object number e) }
+refused_line number e = placed (in_script number) (code_text e)
+    (record (line_about (telling_code e) (codes "line " ++ (decimal number ++ (codes ": " ++ code_text e)))) { object = object_line (line_object number e) })
 
 -- the edit that a line asks for, if it asks for one
 abbrev pub edit_in : Result (Option Edit) EditRefusal → Option Edit
 edit_in (Ok asked) = asked
 edit_in (Err e) = None
 
--- of a refused line it is said besides how it reads, and what may have been meant
-abbrev pub refused_hint : Schema → Text → Option Edit → EditRefusal → Text
-refused_hint schema line asked e = script_hint schema line asked e.code
+-- of a refused line it is said besides how it reads, and what may have been meant, by what is stored now
+abbrev pub refused_hint : Schema → Tree → Text → Option Edit → EditRefusal → Text
+refused_hint schema now line asked e = script_hint schema now line asked e.code
 
 -- where a line is refused, with what is said of it besides
 abbrev pub line_parts : (EditRefusal → Text) → ℕ → Result Tree EditRefusal → List Part
 line_parts hint number (Ok tree) = []
 line_parts hint number (Err e) = hinted (hint e) (refused_line number e) ∷ []
 
--- those of all refused lines, of which the first has a number
+-- those of all refused lines, of which the first has a number, with what is said of them by what is stored now
+abbrev pub refused_from : Bool → Schema → Tree → ℕ → Tree → List Text → List Part
+refused_from is_strict schema now number tree [] = []
+refused_from is_strict schema now number tree (line ∷ lines) = let answer = line_applied is_strict schema tree line in
+    line_parts (refused_hint schema now line (edit_in (asked_in is_strict line))) number answer
+    ++ refused_from is_strict schema now (number + 1) (tree_or answer tree) lines
+
+-- the same, where now is behind the last of them
 abbrev pub refused_lines : Bool → Schema → ℕ → Tree → List Text → List Part
-refused_lines is_strict schema number tree [] = []
-refused_lines is_strict schema number tree (line ∷ lines) = let answer = line_applied is_strict schema tree line in
-    line_parts (refused_hint schema line (edit_in (asked_in is_strict line))) number answer
-    ++ refused_lines is_strict schema (number + 1) (tree_or answer tree) lines
+refused_lines is_strict schema number tree lines =
+    refused_from is_strict schema (after_lines is_strict schema tree lines) number tree lines

@@ -1,5 +1,6 @@
-use Rattle.std.proofs.Common.{Bool, List, Some, None, map, ap, ◌∙◌}
+use Rattle.std.proofs.Common.{string_bytes, Bool, List, Some, None, map, ap, ◌∙◌}
 use Rattle.std.specs.Prelude.{if◌then◌else◌, ◌&&◌, option_map}
+use Rattle.yspec.proofs.DocumentProofs.SortingLemmas.{in_order}
 use Rattle.yschema_model.specs.View as schema_view
 use Rattle.yinst_tree.specs.View.{tree_view}
 use Rattle.ysay_fault.specs.Sentences.{explained_fault}
@@ -19,7 +20,7 @@ returns-clause-reported c =
     let s = schema_of c.args.document in
     let t = tree_of c.args.document in
     let i = c.in_ok-inspection.inspection in
-    report_is (options_view c.args.options) s (schema_view.view i.schema) t (tree_view i.tree) i.faults.items c.args.document.refused.items c.in_ok-text.text
+    report_is (options_view c.args.options) s (schema_view.view i.schema) t (tree_view i.tree) i.faults.items (option_map string_bytes c.args.document.script) c.args.document.refused.items c.in_ok-text.text
     (option_map saved_view c.in_ok-saved.saved) c.in_ok-inspection.ensures.inspected
     (c.in_ok-text.ensures s t c.in_ok-whole.ensures
     ∙ ap (λ (lines : List RefusedLine). text_instead (options_view c.args.options) s t (refused_parts lines) (inspection_view i)) c.deref.ensures.value)
@@ -30,3 +31,6 @@ returns-clause-explained c =
     let i = inspection_view c.in_ok-inspection.inspection in
     let said = map (explained_fault i.schema i.tree) i.faults in
     c.in_ok-explanations.ensures ∙ ap (λ (b : Bool). if c.args.with_reasons && b then Some said else None) (none_so c.in_ok-text.text c.is_none.result c.is_none.ensures)
+
+pub returns-clause-sorted : goal.returns-clause-sorted
+returns-clause-sorted c = let i = inspection_view c.in_ok-inspection.inspection in in_order i.schema i.tree c.in_ok-inspection.ensures.fits

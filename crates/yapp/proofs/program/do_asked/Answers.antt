@@ -9,9 +9,9 @@ use Rattle.yapp.proofs.program.do_asked.Goals as goal
 pub returns-in-Report-clause-does : goal.returns-in-Report-clause-does
 returns-in-Report-clause-does g c =
     let request = view c.in-Report.request in
-    let came = run_comes _ _ request request _ _ _ _ _ c.args.with_reasons _ (said_besides c.answer.result) (came_to c.answer.result) _
+    let came = run_comes c.in-Report.by_lines _ _ request request _ _ _ _ _ c.args.with_reasons _ (said_besides c.answer.result) (came_to c.answer.result) _
     refl refl c.is_json.ensures c.answer.ensures.found c.tell.ensures.tells in
-    does_same _ _ (report request) _ _ _ _ _ _ _ _ _ _ (sym (ap asked_view c.in-Report.is)) refl (refl, came.0, came.1, came.2, came.3)
+    does_same _ _ (report c.in-Report.by_lines request) _ _ _ _ _ _ _ _ _ _ (sym (ap asked_view c.in-Report.is)) refl (refl, came.0, came.1, came.2, came.3)
 
 pub returns-in-Session-clause-does : goal.returns-in-Session-clause-does
 returns-in-Session-clause-does g c =

@@ -6,5 +6,5 @@ use Rattle.yapp_words.proofs.arguments.compile_command.Goals as goal
 
 pub returns : goal.returns
 returns c =
-    let bare = c.in_ok-command_over_files.ensures in
+    let bare = c.in_ok-command_told_once.ensures in
     IfOk-weaker c.arg.result _ _ (λ r added. with_argument _ (wanted_all (codes "MODULE")) _ r _ bare c.modules_argument.ensures added) c.arg.ensures

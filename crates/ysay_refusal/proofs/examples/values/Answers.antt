@@ -14,6 +14,6 @@ returns c = record {
   null_value = refl;
   flag = refl;
   fraction = refl;
-  no_json = refl;
+  fraction_for_text = refl;
   is_read = refl;
 }

@@ -1,4 +1,5 @@
 use Rattle.std.proofs.Common.{◌∙◌, rules}
+use Rattle.std.proofs.lemmas.Result.{IfOk-weaker}
 use Rattle.serde_json.specs.Errors.{IsMemory}
 use Rattle.serde_json.specs.View as json
 use Rattle.yspec.proofs.DocumentProofs.JsonLemmas.{json_found, no_json}
@@ -16,6 +17,6 @@ returns-in-Ok c =
 pub returns-in-Err-2 : goal.returns-in-Err-2
 returns-in-Err-2 c =
     let is_refused : IsMemory c.in-Err.error → ⊥ = search rules in
-    c.new.ensures.bytes
-    ∙ of_no_json (view c.args.schema.now) c.args.bytes.now (record { code = code_number c.args.code; place = place_view c.args.place.now })
-    (no_json c.args.bytes.now (c.in-Err.ensures.err is_refused))
+    IfOk-weaker c.said_of_no_json.result _ _ (λ text e. e ∙ of_no_json (view c.args.schema.now) c.args.bytes.now
+    (record { code = code_number c.args.code; place = place_view c.args.place.now })
+    (no_json c.args.bytes.now (c.in-Err.ensures.err is_refused))) c.said_of_no_json.ensures

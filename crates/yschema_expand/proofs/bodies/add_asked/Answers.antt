@@ -20,10 +20,10 @@ use Rattle.yschema_expand.proofs.bodies.add_asked.Goals as goal
 
 pub condition_from-requires : goal.condition_from-requires
 condition_from-requires c =
-    subst (λ x. are_kept_right x (row_by source_view c.args.given) ≡ true) (sym c.language-language.ensures) c.requires.given
+    subst (λ x. are_kept_right x (row_by source_view c.args.given) ≡ true) (sym c.language.ensures) c.requires.given
 
-pub returns-then-not-bears_guard : goal.returns-then-not-bears_guard
-returns-then-not-bears_guard c =
+pub returns-then-not-is_guarded : goal.returns-then-not-is_guarded
+returns-then-not-is_guarded c =
     let l = language_of c.args.context.now.named.now in
     let m = modules_of c.args.context.now.named.now in
     let given = row_by source_view c.args.given in
@@ -31,7 +31,7 @@ returns-then-not-bears_guard c =
     let nodes = nodes_for l m c.args.place.owner c.args.place.depth parts in
     let old = c.args.made.now.table in
     let none : bears_guard l given ≡ false =
-    subst (λ x. bears_guard x given ≡ false) c.language-language.ensures (sym c.bears_guard.ensures ∙ c.if-not-bears_guard.true) in
+    sym c.requires.guarded ∙ c.if-not-is_guarded.true in
     let adds = c.in_ok-add_one.ensures in (
       adds.0 ∙ ap (λ f. parts_in old ++ places c.args.place.parent (length (slots_of old)) f)
           (sym (none_conditioned l given (sym (own_conditions l given c.requires.given) ∙ none_own l given none) nodes)),
@@ -53,7 +53,7 @@ returns c =
     length-seen numbered_part 0 (layout.laid (slots_of old)) ∙ (length-laid (slots_of old) ∙ sym c.len-first.ensures) in
     on_ok_weaker c.condition_from.result (λ is. (
       is ∙ ap₂ (λ k f. parts_in old ++ places parent k f) c.len-first.ensures
-          (ap (λ x. conditioned x (own_of given) nodes) c.language-language.ensures
+          (ap (λ x. conditioned x (own_of given) nodes) c.language.ensures
           ∙ asked_alike l (own_of given) given (own_conditions l given c.requires.given) nodes),
       adds.1,
     )) (c.condition_from.ensures (parts_in old) parent nodes count

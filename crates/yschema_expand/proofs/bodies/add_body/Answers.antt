@@ -1,6 +1,7 @@
 use Rattle.std.proofs.Common.{rules, ◌≡◌, ◌∙◌, ◌+◌, true, suc, None, length, sym, ap, subst}
 use Rattle.yspec.specs.Forest.{end, node, size}
 use Rattle.yspec.specs.linking.Expansion.{laid, groupings_of}
+use Rattle.yspec_wide.specs.Sources.{bears_guard}
 use Rattle.ybase_preorder.specs.View.{row_by, label_by, slots_in}
 use Rattle.ybase_preorder.proofs.RowLemmas.{takes_by, takes_none_by}
 use Rattle.ylink_grammar.specs.SourceView.{source_view}
@@ -34,6 +35,10 @@ loop-statement-init c =
 pub add_cased-requires-clause-given : goal.add_cased-requires-clause-given
 add_cased-requires-clause-given c =
     ap (λ r. are_kept_right (language_of c.args.context.now.named.now) (row_by source_view r)) c.children-given.ensures ∙ c.requires.kept
+
+pub add_cased-requires-clause-guarded : goal.add_cased-requires-clause-guarded
+add_cased-requires-clause-guarded c =
+    c.bears_guard-is_guarded.ensures ∙ ap (λ l. bears_guard l (row_by source_view c.children-given.result)) c.language.ensures
 
 pub add_cased-requires-clause-kept : goal.add_cased-requires-clause-kept
 add_cased-requires-clause-kept c =

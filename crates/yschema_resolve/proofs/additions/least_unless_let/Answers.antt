@@ -1,4 +1,7 @@
-use Rattle.std.proofs.Common.{sym, ◌∙◌}
+use Rattle.std.proofs.Common.{[], sym, ap, ◌∙◌}
+use Rattle.std.specs.Option.{option_map_or}
+use Rattle.yspec.specs.schema.Breaks.{least_from, when}
+use Rattle.yspec_wide.specs.Additions.{broken_unless_let}
 use Rattle.ylink_grammar.specs.BreakView.{seen}
 use Rattle.ylink_grammar.specs.LanguageView.{language_view}
 use Rattle.yschema_plan.specs.Needs.{stands_in}
@@ -7,6 +10,12 @@ use Rattle.yschema_plan.specs.PlanView.{view}
 use Rattle.yschema_resolve.specs.Standing.{is_wrong_addition}
 use Rattle.yschema_resolve.proofs.AdditionLemmas.{let_off, not_let}
 use Rattle.yschema_resolve.proofs.additions.least_unless_let.Goals as goal
+
+pub returns-then-not-is_wrong_addition : goal.returns-then-not-is_wrong_addition
+returns-then-not-is_wrong_addition c =
+    let plan = view c.args.plan.now in
+    let told = option_map_or (broken_unless_let (language_view c.args.language.now) plan) (node_view c.args.node).part.added_by [] in
+    sym (ap (λ b. least_from (seen c.args.so_far) (when b told)) (sym c.is_wrong_addition.ensures ∙ c.if-not-is_wrong_addition.true))
 
 pub returns-then-is_let : goal.returns-then-is_let
 returns-then-is_let c =

@@ -16,5 +16,6 @@ returns c = record {
   no_edit = refl;
   predicate = refl;
   no_json = refl;
-  nothing_more = refl;
+  stored = refl;
+  not_stored = refl;
 }

@@ -12,5 +12,7 @@ returns c = record {
   with_module = refl;
   another_kind = refl;
   before_edits = refl;
+  number = refl;
+  no_json = refl;
   nothing_more = refl;
 }

@@ -1,0 +1,4 @@
+pub mod Twice
+pub mod Needed
+pub mod Config
+pub mod Samples
