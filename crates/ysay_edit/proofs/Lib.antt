@@ -1,4 +1,5 @@
 pub mod ChoiceLemmas
 pub mod PartLemmas
+pub mod RowLemmas
 pub mod SpellingLemmas
 pub mod SpellingLaws

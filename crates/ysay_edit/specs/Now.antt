@@ -1,6 +1,6 @@
 -- What is said of an edit that is refused by what is stored, or isn't (E4 to E8): what stands now where its path leads. Now is
 -- behind all edits that were asked for with it, so what refused it may be gone.
-use Rattle.std.specs.Prelude.{ℕ, zero, ◌==◌, ◌||◌, ◌++◌, Bool, true, false, not, List, [], ◌∷◌, codes, decimal, Option, Some, None, is_some, option_and_then, Result, Ok, Err, if◌then◌else◌, nat_lt}
+use Rattle.std.specs.Prelude.{ℕ, zero, suc, ◌==◌, ◌||◌, ◌++◌, Bool, true, false, not, List, [], ◌∷◌, codes, decimal, Option, Some, None, is_some, option_and_then, Result, Ok, Err, if◌then◌else◌, nat_lt}
 use Rattle.std.specs.List.{flat_map}
 use Rattle.std.specs.Option.{option_map_or}
 use Rattle.serde_json.specs.Data.{string}
@@ -76,10 +76,19 @@ abbrev pub reached_at : Text → ℕ → Tree → NamedStep → Bool → Reached
 reached_at above number row step is_last =
     record { above = above; number = number; row = row; step = step; is_last = is_last }
 
--- of some steps from a row on, which stands below a node or at the top
+-- how many nodes stand side by side in a row
+abbrev pub siblings : Tree → ℕ
+siblings end = zero
+siblings (node s below after) = suc (siblings after)
+
+-- whether a row has too many nodes to be looked through for each line that is refused
+abbrev pub is_long : Tree → Bool
+is_long row = nat_lt 256 (siblings row)
+
+-- of some steps from a row on, which stands below a node or at the top; nothing behind a long row
 abbrev pub reached : Schema → Option ℕ → Text → Tree → Path → Option Reached
 reached schema parent above row [] = None
-reached schema parent above row (s ∷ steps) = option_and_then (λ number.
+reached schema parent above row (s ∷ steps) = if is_long row then None else option_and_then (λ number.
     if is_end steps then Some (reached_at above number row s true)
     else option_map_or (λ below. reached schema (Some number) (path_below above (step_written s)) below steps)
     (row_meant schema row number s.predicate) (Some (reached_at above number row s false)))

@@ -181,7 +181,14 @@ fn row_meant<'t>(
     }
 }
 
-/// Where steps lead from the top.
+/// Whether a row has too many nodes to be looked through for each line that is refused: more than 256.
+fn is_long(row: &[Stored]) -> bool
+    ensures { result ≡ spec.is_long (row_view row.now) }
+{
+    row.len() > 256
+}
+
+/// Where steps lead from the top, unless a long row stands on the way.
 fn node_reached<'t, 'e>(
     alloc: Global,
     schema: &Schema,
@@ -197,6 +204,9 @@ fn node_reached<'t, 'e>(
     let mut row = top;
     let mut rest = steps;
     while let Some((step, more)) = rest.split_first() {
+        if is_long(row) {
+            return Ok(None);
+        }
         let Some(id) = schema.child_written(parent, step.name.as_str()) else {
             return Ok(None);
         };
