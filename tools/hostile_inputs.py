@@ -278,7 +278,7 @@ GROWING = {
     "doubled-items-explained": (doubled_items_explained, 2500, 5000), "distinct-items": (distinct_items, 499999, 999999),
     "distinct-keys": (distinct_keys, 249999, 499999), "opened": (opened, 50000, 100000), "top-entries": (top_entries, 50000, 100000),
     "wide-edits": (wide_edits, 20000, 40000), "refused-edits": (refused_edits, 50000, 100000),
-    "missing-entries": (missing_entries, 2000, 4000),
+    "missing-entries": (missing_entries, 50000, 100000),
     "created-entries": (created_entries, 50000, 100000), "moved-entries": (moved_entries, 10000, 20000),
 }  # fmt: skip
 
